@@ -1,0 +1,10 @@
+pub mod Cuts
+pub mod Figures
+pub mod Forms
+pub mod Powers
+pub mod Runs
+pub mod Same
+pub mod Text
+pub mod Turns
+pub mod Words
+pub mod Writing

@@ -1,0 +1,7 @@
+pub mod Arith
+pub mod Classes
+pub mod Escape
+pub mod Place
+pub mod Reading
+pub mod Truth
+pub mod Whole

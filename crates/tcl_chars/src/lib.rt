@@ -1,0 +1,21 @@
+//! What the characters of a script stand for: character classes, backslash escapes, number and truth texts, and
+//! whole-number arithmetic. Beside them stand the few primitives by which every parser of this workspace reads a text.
+#![tactic(auto)]
+
+mod arithmetic;
+mod classes;
+mod escapes;
+mod fault;
+mod numbers;
+#[cfg(test)]
+mod tests;
+mod texts;
+mod truths;
+
+pub use arithmetic::{Arith, Op, UnOp, binary, unary};
+pub use classes::{is_blank, is_list_space, is_name_char, is_word_space};
+pub use escapes::backslash;
+pub use fault::{Fault, ReadFault};
+pub use numbers::{Dialect, Whole, read_whole};
+pub use texts::{before, begins, place, push, push_text, split_first, tail};
+pub use truths::{Truth, read_truth};

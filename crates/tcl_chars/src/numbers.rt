@@ -1,0 +1,149 @@
+//! Number texts.
+ghost use Rattle.std.specs.Prelude.{◌≡◌, ◌+◌, ◌-◌, ◌*◌, ◌≤◌, ◌<◌, ◌^◌, [], length, take, drop, min, option_map};
+ghost use Rattle.std.specs.Str.{chars};
+ghost use Rattle.std.specs.Str.Parse.{digits_value};
+ghost use Rattle.tcl_chars.specs.Whole.{skip_space, sign_of, radix_of, digits_len, numeral, signed, magnitude, whole_of};
+
+use crate::classes::is_list_space;
+use crate::texts::split_first;
+
+/// Which texts are numbers.
+#[derive(Clone, Copy, Debug, PartialEq, Eq)]
+pub enum Dialect {
+    Tcl86,
+}
+
+/// What a text says as a whole number.
+#[derive(Clone, Copy, Debug, PartialEq, Eq)]
+pub enum Whole {
+    Number(i64),
+    TooLarge,
+    Not,
+}
+
+/// A text without the list space in front of it.
+fn skip_space(text: &str) -> &str
+    ensures { chars result.now ≡ skip_space (chars text.now) }
+{
+    let mut rest = text;
+    while let Some((c, after)) = split_first(rest) {
+        if !is_list_space(c) {
+            return rest;
+        }
+        rest = after;
+    }
+    rest
+}
+
+/// Is there a minus in front, and what is left behind the sign?
+fn split_sign(text: &str) -> (bool, &str)
+    ensures negative { result.0 ≡ (sign_of (chars text.now)).0 }
+    ensures rest { chars result.1.now ≡ (sign_of (chars text.now)).1 }
+{
+    let Some((c, rest)) = split_first(text) else {
+        return (false, text);
+    };
+    if c == '-' {
+        return (true, rest);
+    }
+    if c == '+' {
+        return (false, rest);
+    }
+    (false, text)
+}
+
+/// The radix of a number text without its sign, and where the digits begin.
+fn split_radix(text: &str) -> (u32, &str)
+    ensures radix { result.0 ≡ (radix_of (chars text.now)).0 }
+    ensures rest { chars result.1.now ≡ (radix_of (chars text.now)).1 }
+    ensures low { 2 ≤ result.0 }
+    ensures high { result.0 ≤ 16 }
+{
+    let Some((c, behind)) = split_first(text) else {
+        return (10, text);
+    };
+    let Some((d, rest)) = split_first(behind) else {
+        return (10, text);
+    };
+    if c != '0' {
+        return (10, text);
+    }
+    match d {
+        'x' | 'X' => (16, rest),
+        'o' | 'O' => (8, rest),
+        'b' | 'B' => (2, rest),
+        '0'..='9' => (8, behind),
+        _ => (10, text),
+    }
+}
+
+/// The digits of a radix that a text begins with: the number that they write, or the greatest one
+/// where that is greater, how many they are, and the text behind them.
+fn split_digits(text: &str, radix: u32) -> (u64, usize, &str)
+    requires low { 2 ≤ radix }
+    requires high { radix ≤ 16 }
+    ensures count { result.1 ≡ digits_len radix (chars text.now) }
+    ensures value { result.0 ≡ min (digits_value radix (take result.1 (chars text.now))) (2 ^ 64 - 1) }
+    ensures rest { chars result.2.now ≡ drop result.1 (chars text.now) }
+{
+    let mut rest = text;
+    let mut value: u64 = 0;
+    let mut taken = 0;
+    while let Some((c, after)) = split_first(rest) {
+        let Some(digit) = c.to_digit(radix) else {
+            return (value, taken, rest);
+        };
+        value = value
+            .saturating_mul(u64::from(radix))
+            .saturating_add(u64::from(digit));
+        taken += 1;
+        rest = after;
+    }
+    (value, taken, rest)
+}
+
+/// The number that a text without its sign writes, or the greatest one where that is greater.
+fn read_magnitude(text: &str) -> Option<u64>
+    ensures { result ≡ option_map (λ n. min n (2 ^ 64 - 1)) (magnitude (chars text.now)) }
+{
+    let (radix, digits) = split_radix(text);
+    let (value, taken, rest) = split_digits(digits, radix);
+    if taken == 0 {
+        return None;
+    }
+    if let Some(_) = split_first(skip_space(rest)) {
+        return None;
+    }
+    Some(value)
+}
+
+/// A number with its sign, where 64 bits hold it.
+fn with_sign(negative: bool, size: u64) -> Whole
+    ensures { result ≡ signed negative (Some size) }
+{
+    if negative {
+        if size < 0x8000_0000_0000_0000 {
+            Whole::Number(-(size as i64))
+        } else if size == 0x8000_0000_0000_0000 {
+            Whole::Number(i64::MIN)
+        } else {
+            Whole::TooLarge
+        }
+    } else if size < 0x8000_0000_0000_0000 {
+        Whole::Number(size as i64)
+    } else {
+        Whole::TooLarge
+    }
+}
+
+/// What a text says as a whole number: list space around it is passed over.
+pub fn read_whole(text: &str, dialect: Dialect) -> Whole
+    ensures { result ≡ whole_of (chars text.now) }
+{
+    let Dialect::Tcl86 = dialect;
+    let (negative, digits) = split_sign(skip_space(text));
+    let Some(size) = read_magnitude(digits) else {
+        return Whole::Not;
+    };
+    with_sign(negative, size)
+}
