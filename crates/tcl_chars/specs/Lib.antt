@@ -1,4 +1,5 @@
 pub mod Arith
+pub mod Characters
 pub mod Classes
 pub mod Escape
 pub mod Place
