@@ -1,0 +1,4 @@
+pub mod First
+pub mod Parts
+pub mod Syntax
+pub mod Words

@@ -1,0 +1,324 @@
+-- The rules of Tcl(n): blanks, comments, pieces, words, the first command. Each reading takes the text that is left,
+-- and gives what it read and the text behind it.
+use Rattle.std.specs.Prelude.{ℕ, zero, suc, ◌+◌, ◌-◌, Bool, true, false, not, ◌&&◌, ◌||◌, ◌==◌, List, [], ◌∷◌, drop, map, Option, Some, None, Result, Ok, Err, if◌then◌else◌}
+use Rattle.tcl_chars.specs.Characters.{newline, backslash, semicolon, dollar, quote, open_brace, close_brace, open_paren, close_paren, open_bracket, close_bracket, number_sign, colon, star}
+use Rattle.tcl_chars.specs.Classes.{is_word_space, is_name_char}
+use Rattle.tcl_chars.specs.Escape.{escape as escape_of}
+use Rattle.tcl_chars.specs.Place.{begins, tail, before, place}
+use Rattle.tcl_chars.specs.Reading.{◌>>=◌, Reading, all_turns}
+use Rattle.tcl_words.specs.declared.fault.Syntax.{Syntax}
+use Rattle.tcl_words.specs.declared.fault.Syntax.TheVariants.{AfterBrace, AfterQuote, MissingBrace, MissingBracket, MissingQuote, MissingParen, MissingVariableBrace, TooDeep}
+use Rattle.tcl_words.specs.declared.word.Form.{Form}
+use Rattle.tcl_words.specs.declared.word.Form.TheVariants as form
+use Rattle.tcl_words.specs.Parts.{Stretch, Part, text, escape, var, elem_, bracket, Parts, parts_of, Shape}
+
+-- ---- between words and commands
+
+-- what follows the word space and the backslash-newlines at the front (rule 2)
+unfoldable pub after_blanks : List ℕ → List ℕ
+after_blanks [] = []
+after_blanks (c ∷ []) = if is_word_space c then [] else c ∷ []
+after_blanks (c ∷ d ∷ cs) =
+    if is_word_space c then after_blanks (d ∷ cs)
+    else if c == backslash && d == newline then after_blanks cs
+    else c ∷ d ∷ cs
+
+-- where a reader of separators stands
+pub data Gap : Type 0 where
+  between : Gap
+  -- in a comment; does a backslash hide the next character
+  comment : Bool → Gap
+
+-- What follows the separators and the comments at the front (rules 1 and 10). In a comment a backslash and the
+-- character after it are passed together, and the first newline not so passed ends it.
+unfoldable pub after_gaps : Gap → List ℕ → List ℕ
+after_gaps g [] = []
+after_gaps between (c ∷ cs) =
+    if is_word_space c || c == newline || c == semicolon || (c == backslash && begins newline cs) then after_gaps between cs
+    else if c == number_sign then after_gaps (comment false) cs
+    else c ∷ cs
+after_gaps (comment hidden) (c ∷ cs) =
+    if hidden then after_gaps (comment false) cs
+    else if c == newline then after_gaps between cs
+    else after_gaps (comment (c == backslash)) cs
+
+-- the word ends here: at the end of the text, a separator, the command's end, or inside brackets `]`
+abbrev pub ends_word : Bool → List ℕ → Bool
+ends_word nested [] = true
+ends_word nested (c ∷ cs) =
+    is_word_space c || c == newline || c == semicolon || (nested && c == close_bracket) || (c == backslash && begins newline cs)
+
+-- ---- pieces
+
+-- what follows the name at the front: letters, digits, underscores and runs of two or more colons (rule 8)
+unfoldable pub after_name : Bool → List ℕ → List ℕ
+after_name in_colons [] = []
+after_name in_colons (c ∷ cs) =
+    if is_name_char c then after_name false cs
+    else if c == colon && (in_colons || begins colon cs) then after_name true cs
+    else c ∷ cs
+
+-- what follows `$` makes a variable
+abbrev pub begins_variable : List ℕ → Bool
+begins_variable [] = false
+begins_variable (c ∷ cs) = is_name_char c || (c == colon && begins colon cs) || c == open_brace || c == open_paren
+
+-- the word round a piece
+pub data Mode : Type 0 where
+  -- bare; is it inside brackets
+  bare : Bool → Mode
+  quoted : Mode
+  index : Mode
+
+-- what stands at the front of a word's text
+pub data Kind : Type 0 where
+  ends : Kind
+  -- the text ends, and the word is open
+  open_ : Kind
+  backslashed : Kind
+  opening : Kind
+  variable : Kind
+  plain : Kind
+
+-- the end of the text ends a bare word, and leaves the others open
+abbrev pub kind_at_end : Mode → Kind
+kind_at_end (bare nested) = ends
+kind_at_end quoted = open_
+kind_at_end index = open_
+
+abbrev pub fault_at_end : Mode → Syntax
+fault_at_end quoted = MissingQuote
+fault_at_end index = MissingParen
+fault_at_end (bare nested) = MissingQuote
+
+abbrev pub ends_pieces : Mode → List ℕ → Bool
+ends_pieces (bare nested) cs = ends_word nested cs
+ends_pieces quoted cs = begins quote cs
+ends_pieces index cs = begins close_paren cs
+
+unfoldable pub kind_of : Mode → List ℕ → Kind
+kind_of m [] = kind_at_end m
+kind_of m (c ∷ cs) =
+    if ends_pieces m (c ∷ cs) then ends
+    else if c == backslash then backslashed
+    else if c == open_bracket then opening
+    else if c == dollar && begins_variable cs then variable
+    else plain
+
+abbrev pub is_plain : Kind → Bool
+is_plain plain = true
+is_plain ends = false
+is_plain open_ = false
+is_plain backslashed = false
+is_plain opening = false
+is_plain variable = false
+
+-- what follows the plain characters at the front
+unfoldable pub after_plain : Mode → List ℕ → List ℕ
+after_plain m [] = []
+after_plain m (c ∷ cs) = if is_plain (kind_of m (c ∷ cs)) then after_plain m cs else c ∷ cs
+
+-- from the first `}` on
+unfoldable pub at_variable_brace : List ℕ → Result (List ℕ) Syntax
+at_variable_brace [] = Err MissingVariableBrace
+at_variable_brace (c ∷ cs) = if c == close_brace then Ok (c ∷ cs) else at_variable_brace cs
+
+-- From the brace on that matches one before the text (rule 6). The flag says that a backslash hides the first
+-- character, and the number how many braces are open inside.
+unfoldable pub at_brace : Bool → ℕ → List ℕ → Result (List ℕ) Syntax
+at_brace hidden depth [] = Err MissingBrace
+at_brace hidden depth (c ∷ cs) =
+    if hidden then at_brace false depth cs
+    else if c == close_brace then (if depth == 0 then Ok (c ∷ cs) else at_brace false (depth - 1) cs)
+    else if c == open_brace then at_brace false (depth + 1) cs
+    else at_brace (c == backslash) depth cs
+
+-- Of the text inside braces: what follows the characters at the front that stand for themselves, up to a
+-- backslash-newline. A backslash hides the next character, so of two backslashes and a newline none is one.
+unfoldable pub after_verbatim : List ℕ → List ℕ
+after_verbatim [] = []
+after_verbatim (c ∷ []) = []
+after_verbatim (c ∷ d ∷ cs) =
+    if c == backslash then (if d == newline then c ∷ d ∷ cs else after_verbatim cs)
+    else after_verbatim (d ∷ cs)
+
+-- a backslash-newline stands at the front
+abbrev pub begins_hidden_newline : List ℕ → Bool
+begins_hidden_newline cs = begins backslash cs && begins newline (tail cs)
+
+-- ---- words
+
+-- what follows `{*}`, where it stands at the front and a word follows it (rule 5)
+abbrev pub marked : Bool → List ℕ → Bool
+marked nested cs =
+    begins open_brace cs && begins star (tail cs) && begins close_brace (tail (tail cs)) && not (ends_word nested (tail (tail (tail cs))))
+
+abbrev pub form_of : List ℕ → Form
+form_of cs = if begins open_brace cs then form.Braced else if begins quote cs then form.Quoted else form.Bare
+
+-- a word may end only where a separator follows
+abbrev pub closed : Syntax → Bool → Shape → List ℕ → Result (Shape × List ℕ) Syntax
+closed fault nested w rest = if ends_word nested rest then Ok (w, rest) else Err fault
+
+-- what stands between two places of a text of `size` bytes
+abbrev pub stretch : ℕ → List ℕ → List ℕ → Stretch
+stretch size from to = record { start = place size from; text = before from to }
+
+-- a `]` that ends a command belongs to the rest
+abbrev pub after_command : List ℕ → List ℕ
+after_command cs = if begins close_bracket cs then cs else tail cs
+
+-- the next piece of the text inside braces, before whose end the whole text has `size` bytes
+unfoldable pub verbatim_at : ℕ → Reading Syntax (Option Part)
+verbatim_at size [] = Ok (None, [])
+verbatim_at size (c ∷ cs) =
+    let here = c ∷ cs in
+    if begins_hidden_newline here then (let rest = drop (escape_of here).1 here in Ok (Some (escape (stretch size here rest) (escape_of here).0), rest))
+    else (let rest = after_verbatim here in Ok (Some (text (stretch size here rest)), rest))
+
+-- how what may nest is read
+pub record Inner : Type 0 where
+  -- from behind `[` to its `]`
+  pub bracket : List ℕ → Result (List ℕ) Syntax
+  -- from behind `(` to behind its `)`
+  pub index : Reading Syntax Parts
+
+-- `size` is the size of the whole text, in bytes
+module _ (size : ℕ) (inner : Inner) where
+  -- a variable without braces from its `$` on, whose name ends at `rest`
+  abbrev pub named : List ℕ → List ℕ → List ℕ → Result (Part × List ℕ) Syntax
+  named cs name rest =
+      if begins open_paren rest then (do
+        found ← inner.index (tail rest)
+        Ok (elem_ (stretch size cs found.1) (stretch size name rest) found.0, found.1))
+      else Ok (var (stretch size cs rest) (stretch size name rest), rest)
+
+  -- the variable whose `$` stands at the front (rule 8)
+  unfoldable pub variable_at : Reading Syntax Part
+  variable_at cs =
+      if begins open_brace (tail cs) then (do
+        close ← at_variable_brace (tail (tail cs))
+        Ok (var (stretch size cs (tail close)) (stretch size (tail (tail cs)) close), tail close))
+      else named cs (tail cs) (after_name false (tail cs))
+
+  -- the bracket whose `[` stands at the front (rule 7)
+  abbrev pub bracket_at : Reading Syntax Part
+  bracket_at cs = do
+    close ← inner.bracket (tail cs)
+    Ok (bracket (stretch size cs (tail close)) (stretch size (tail cs) close), tail close)
+
+  -- the piece of a kind that begins here
+  abbrev pub piece_of : Mode → Kind → Reading Syntax (Option Part)
+  piece_of m ends cs = Ok (None, cs)
+  piece_of m open_ cs = Err (fault_at_end m)
+  piece_of m backslashed cs =
+      let rest = drop (escape_of cs).1 cs in Ok (Some (escape (stretch size cs rest) (escape_of cs).0), rest)
+  piece_of m opening cs = do
+    found ← bracket_at cs
+    Ok (Some found.0, found.1)
+  piece_of m variable cs = do
+    found ← variable_at cs
+    Ok (Some found.0, found.1)
+  piece_of m plain cs =
+      let rest = after_plain m cs in Ok (Some (text (stretch size cs rest)), rest)
+
+  -- the next piece, or none where the word ends
+  unfoldable pub piece_at : Mode → Reading Syntax (Option Part)
+  piece_at m cs = piece_of m (kind_of m cs) cs
+
+  unfoldable pub pieces_at : Mode → Reading Syntax (List Part)
+  pieces_at m cs = all_turns (piece_at m) cs
+
+  -- from the `{` of a braced word to behind its `}`
+  unfoldable pub braced_at : Reading Syntax (List Part)
+  braced_at cs = do
+    close ← at_brace false 0 (tail cs)
+    found ← all_turns (verbatim_at (place size close)) (before (tail cs) close)
+    Ok (found.0, tail close)
+
+  -- from the first `"` of a quoted word to behind its last
+  unfoldable pub quoted_at : Reading Syntax (List Part)
+  quoted_at cs = do
+    found ← pieces_at quoted (tail cs)
+    Ok (found.0, tail found.1)
+
+  -- the word of a form that begins here
+  abbrev pub word_of : Bool → Bool → Form → Reading Syntax Shape
+  word_of nested expands form.Braced cs = do
+    found ← braced_at cs
+    closed AfterBrace nested (record { form = form.Braced; expands = expands; pieces = found.0 }) found.1
+  word_of nested expands form.Quoted cs = do
+    found ← quoted_at cs
+    closed AfterQuote nested (record { form = form.Quoted; expands = expands; pieces = found.0 }) found.1
+  word_of nested expands form.Bare cs = do
+    found ← pieces_at (bare nested) cs
+    Ok (record { form = form.Bare; expands = expands; pieces = found.0 }, found.1)
+
+  -- the one piece of a bracket or a variable
+  abbrev pub lone_piece : Part × List ℕ → Shape × List ℕ
+  lone_piece found = (record { form = form.Bare; expands = false; pieces = found.0 ∷ [] }, found.1)
+
+  -- The operand of an expression that begins here, whatever follows it: a braced or a quoted word, a bracket or a
+  -- variable (expr(n), Operands).
+  unfoldable pub operand_at : Reading Syntax Shape
+  operand_at cs =
+      if begins open_brace cs then (do
+        found ← braced_at cs
+        Ok (record { form = form.Braced; expands = false; pieces = found.0 }, found.1))
+      else if begins quote cs then (do
+        found ← quoted_at cs
+        Ok (record { form = form.Quoted; expands = false; pieces = found.0 }, found.1))
+      else if begins open_bracket cs then (do
+        found ← bracket_at cs
+        Ok (lone_piece found))
+      else (do
+        found ← variable_at cs
+        Ok (lone_piece found))
+
+  unfoldable pub word_at : Bool → Reading Syntax Shape
+  word_at nested cs =
+      if marked nested cs then (let rest = tail (tail (tail cs)) in word_of nested true (form_of rest) rest)
+      else word_of nested false (form_of cs) cs
+
+  -- the next word, or none where the command ends
+  unfoldable pub next_word : Bool → Reading Syntax (Option Shape)
+  next_word nested cs =
+      let rest = after_blanks cs in
+      if ends_word nested rest then Ok (None, rest) else (do
+        word ← word_at nested rest
+        Ok (Some word.0, word.1))
+
+  unfoldable pub words_at : Bool → Reading Syntax (List Shape)
+  words_at nested cs = all_turns (next_word nested) cs
+
+  -- The first command, or none where only separators and comments are left (rules 1 and 2).
+  unfoldable pub first_at : Bool → Reading Syntax (Option (List Shape))
+  first_at nested cs =
+      let rest = after_gaps between cs in
+      if ends_word nested rest then Ok (None, rest) else (do
+        words ← words_at nested rest
+        Ok (Some words.0, after_command words.1))
+
+  -- the commands up to a bracket's `]` or the end of the text
+  unfoldable pub commands_at : Reading Syntax (List (List Shape))
+  commands_at cs = all_turns (first_at true) cs
+
+  unfoldable pub after_commands : List ℕ → Result (List ℕ) Syntax
+  after_commands cs = commands_at cs >>= λ found. Ok found.1
+
+-- the `]` of a bracket that holds these commands
+abbrev pub closing : List ℕ → Result (List ℕ) Syntax
+closing [] = Err MissingBracket
+closing (c ∷ cs) = Ok (c ∷ cs)
+
+-- the pieces of an index, and what follows its `)`
+abbrev pub index_of : List Part × List ℕ → Parts × List ℕ
+index_of found = (parts_of found.0, tail found.1)
+
+-- How what nests is read, where brackets and indices may still stand in one another this deep.
+unfoldable pub inner_at : ℕ → ℕ → Inner
+inner_at size zero = record { bracket = λ cs. Err TooDeep; index = λ cs. Err TooDeep }
+inner_at size (suc levels) = record {
+  bracket = λ cs. after_commands size (inner_at size levels) cs >>= closing;
+  index = λ cs. pieces_at size (inner_at size levels) index cs >>= λ found. Ok (index_of found);
+}
