@@ -1,0 +1,11 @@
+pub mod Beginnings
+pub mod Completions
+pub mod Effects
+pub mod Laws
+pub mod Pages
+pub mod Run
+pub mod Script
+pub mod State
+pub mod Substitution
+pub mod Value
+pub mod Variables

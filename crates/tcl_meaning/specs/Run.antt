@@ -1,0 +1,27 @@
+-- A whole run: the arguments are put into variables, and the script is run.
+use Rattle.std.specs.Prelude.{ℕ, List, [], ◌∷◌, codes, Option, Some, None, length}
+use Rattle.std.specs.FinMap as map
+use Rattle.tcl_meaning.specs.Completions.{Completion, normal, failure}
+use Rattle.tcl_meaning.specs.State.{Variable, text, Variables, Store, State}
+use Rattle.tcl_meaning.specs.Effects.{Script, Got, Gives}
+use Rattle.tcl_meaning.specs.Script.{Run}
+
+-- what a script comes to that nothing runs
+abbrev pub run_script : List ℕ → State → Got Completion
+run_script script s = Run (Script 1 (normal []) script) s
+
+abbrev pub args_error : Completion
+args_error = failure (codes "script arguments come with lists")
+
+-- `argv0` is the first word, `argv` the list of the others, `argc` their count: tclsh(1), VARIABLES.
+abbrev pub args_put : List ℕ → Variables
+args_put name = map.insert (map.insert (map.insert map.empty (codes "argv0") (text name)) (codes "argv") (text [])) (codes "argc") (text (codes "0"))
+
+abbrev pub first_state : Variables → Option (List ℕ) → Option (List ℕ) → ℕ → State
+first_state vs out err budget = record { store = record { globals = vs }; out = out; err = err; units = budget }
+
+-- More than one word is refused until tclint writes lists.
+abbrev pub run_with_args : List ℕ → List (List ℕ) → Option (List ℕ) → Option (List ℕ) → ℕ → Got Completion
+run_with_args script [] out err budget = run_script script (first_state (args_put []) out err budget)
+run_with_args script (name ∷ []) out err budget = run_script script (first_state (args_put name) out err budget)
+run_with_args script (name ∷ more ∷ others) out err budget = Gives args_error (first_state map.empty out err budget)

@@ -1,0 +1,81 @@
+-- What a command does, and a script: Tcl(n), rules 1, 2 and 11.
+use Rattle.std.specs.Prelude.{ℕ, ◌+◌, nat_lt, List, [], ◌∷◌, ◌++◌, codes, Option, Some, None, if◌then◌else◌}
+use Rattle.tcl_words.specs.Parts.{Shape}
+use Rattle.tcl_words.specs.First.{First, none, malformed, command, first_command}
+use Rattle.tcl_words.specs.Syntax.{syntax_text}
+use Rattle.tcl_meaning.specs.declared.code.Code.{Code}
+use Rattle.tcl_meaning.specs.declared.code.Code.TheVariants as code
+use Rattle.tcl_meaning.specs.declared.page.Page.{Page}
+use Rattle.tcl_meaning.specs.declared.page.Page.TheVariants.{Set, Puts}
+use Rattle.tcl_meaning.specs.Completions.{Completion, normal, failure, too_deep}
+use Rattle.tcl_meaning.specs.State.{State}
+use Rattle.tcl_meaning.specs.Effects.{Task, Script, Prog, Give, ◌>>=◌, call, Got, Plan, Now, Costs, outcome}
+use Rattle.tcl_meaning.specs.Value.{Value, Has, Fails}
+use Rattle.tcl_meaning.specs.Substitution.{words_text}
+use Rattle.tcl_meaning.specs.Variables.{without_colons}
+use Rattle.tcl_meaning.specs.Pages.{same_text, set_page, puts_page}
+
+-- Brackets and array indices may stand in one another this deep. They are refused until tclint reads lists.
+abbrev pub most_levels : ℕ
+most_levels = 0
+
+-- the command of a name
+unfoldable pub page_named : List ℕ → Option Page
+page_named name =
+    if same_text name (codes "set") then Some Set
+    else if same_text name (codes "puts") then Some Puts
+    else None
+
+-- Leading colons are no part of a command's name.
+abbrev pub page_of : List ℕ → Option Page
+page_of word = page_named (without_colons word)
+
+abbrev pub unknown_command : List ℕ → Completion
+unknown_command word = failure (codes "invalid command name \"" ++ word ++ codes "\"")
+
+abbrev pub run_page : Option Page → List ℕ → List (List ℕ) → Prog Completion
+run_page None word args = Give (unknown_command word)
+run_page (Some Set) word args = set_page args
+run_page (Some Puts) word args = puts_page args
+
+-- The first word is looked up now. A command without words does nothing.
+abbrev pub invoke : List (List ℕ) → Prog Completion
+invoke [] = Give (normal [])
+invoke (word ∷ args) = run_page (page_of word) word args
+
+abbrev pub with_words : Value (List (List ℕ)) → Prog Completion
+with_words (Has words) = invoke words
+with_words (Fails c) = Give c
+
+-- a command that has been paid for
+abbrev pub run_command : ℕ → List Shape → Prog Completion
+run_command d ws = do
+  words ← words_text d ws
+  with_words words
+
+-- the rest of a script, after a command
+abbrev pub rest_by : ℕ → List ℕ → Code → List ℕ → Prog Completion
+rest_by d rest code.Ok t = call (Script d (normal t) rest)
+rest_by d rest code.Error t = Give (failure t)
+
+abbrev pub sequence : ℕ → List Shape → List ℕ → Prog Completion
+sequence d ws rest = do
+  c ← run_command d ws
+  rest_by d rest c.code c.result
+
+-- A command costs a unit. Separators alone are none, and a malformed command costs nothing.
+abbrev pub by_first : ℕ → Completion → First → Plan
+by_first d last (none rest) = Now last
+by_first d last (malformed m) = Now (failure (syntax_text m))
+by_first d last (command ws rest) = Costs (sequence d ws rest)
+
+-- scripts may stand in one another this deep
+abbrev pub most_depth : ℕ
+most_depth = 1000
+
+unfoldable pub plan : Task → Plan
+plan (Script d last t) = if nat_lt most_depth d then Now too_deep else by_first d last (first_command most_levels t)
+
+-- what a task comes to
+abbrev pub Run : Task → State → Got Completion
+Run task s = outcome plan task s

@@ -1,0 +1,75 @@
+-- The substitution of words: Tcl(n), rules 2 to 8 and 11. The pieces of a word are substituted from left to right.
+use Rattle.std.specs.Prelude.{ℕ, zero, ◌+◌, Bool, true, false, List, [], ◌∷◌, ◌++◌, Result, Ok, Err, codes}
+use Rattle.tcl_words.specs.Parts.{Part, text, escape, var, elem_, bracket, Parts, no_parts, part, Shape}
+use Rattle.tcl_meaning.specs.declared.refusal.Refusal.{Refusal}
+use Rattle.tcl_meaning.specs.declared.code.Code.{Code}
+use Rattle.tcl_meaning.specs.declared.code.Code.TheVariants as code
+use Rattle.tcl_meaning.specs.Completions.{Completion, normal, failure}
+use Rattle.tcl_meaning.specs.State.{Store}
+use Rattle.tcl_meaning.specs.Effects.{Task, Script, Prog}
+use Rattle.tcl_meaning.specs.Value.{Value, ◌>>=◌, give, fail, look, call}
+use Rattle.tcl_meaning.specs.Variables.{get, cant_read}
+
+-- a script that a command or a bracket of a script of this depth runs
+abbrev pub inside : ℕ → List ℕ → Task
+inside d script = Script (d + 1) (normal []) script
+
+abbrev pub read_result : List ℕ → Result (List ℕ) Refusal → Prog (Value (List ℕ))
+read_result name (Ok t) = give t
+read_result name (Err refusal) = fail (cant_read name refusal)
+
+-- the text of a variable
+abbrev pub read : List ℕ → Prog (Value (List ℕ))
+read name = do
+  s ← look
+  read_result name (get s.globals name)
+
+-- A bracket is replaced by its script's result; a completion that isn't ok is the command's.
+abbrev pub bracket_result : Code → List ℕ → Prog (Value (List ℕ))
+bracket_result code.Ok t = give t
+bracket_result code.Error t = fail (record { code = code.Error; result = t })
+
+abbrev pub element_name : List ℕ → List ℕ → List ℕ
+element_name name index = name ++ codes "(" ++ index ++ codes ")"
+
+abbrev mutual
+  pub piece_text : ℕ → Part → Prog (Value (List ℕ))
+  piece_text d (text s) = give s.text
+  piece_text d (escape s c) = give (c ∷ [])
+  piece_text d (var s name) = read name.text
+  piece_text d (elem_ s name index) = do
+    i ← index_text d index
+    read (element_name name.text i)
+  piece_text d (bracket s script) = do
+    c ← call (inside d script.text)
+    bracket_result c.code c.result
+
+  pub index_text : ℕ → Parts → Prog (Value (List ℕ))
+  index_text d no_parts = give []
+  index_text d (part p ps) = do
+    t ← piece_text d p
+    more ← index_text d ps
+    give (t ++ more)
+
+abbrev pub word_text : ℕ → List Part → Prog (Value (List ℕ))
+word_text d [] = give []
+word_text d (p ∷ ps) = do
+  t ← piece_text d p
+  more ← word_text d ps
+  give (t ++ more)
+
+-- A word with `{*}` in front is refused until tclint reads lists.
+abbrev pub no_expansion : Completion
+no_expansion = failure (codes "word expansion comes with lists")
+
+abbrev pub one_word : ℕ → Bool → List Part → Prog (Value (List ℕ))
+one_word d true ps = fail no_expansion
+one_word d false ps = word_text d ps
+
+-- the words of a command, from left to right
+abbrev pub words_text : ℕ → List Shape → Prog (Value (List (List ℕ)))
+words_text d [] = give []
+words_text d (w ∷ ws) = do
+  t ← one_word d w.expands w.pieces
+  more ← words_text d ws
+  give (t ∷ more)

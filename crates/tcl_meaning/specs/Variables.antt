@@ -1,0 +1,96 @@
+-- Variables by their names: Tcl(n), rule 8; set(n); array(n).
+use Rattle.std.specs.Prelude.{ℕ, Bool, ◌&&◌, ◌==◌, List, [], ◌∷◌, ◌++◌, codes, Option, Some, None, option_map, Result, Ok, Err, if◌then◌else◌}
+use Rattle.std.specs.FinMap as map
+use Rattle.tcl_chars.specs.Characters.{colon, open_paren, close_paren}
+use Rattle.tcl_chars.specs.Place.{begins, tail, before}
+use Rattle.tcl_names.specs.Named.{Named}
+use Rattle.tcl_meaning.specs.declared.refusal.Refusal.{Refusal}
+use Rattle.tcl_meaning.specs.declared.refusal.Refusal.TheVariants.{NoSuch, IsArray, IsntArray, NoElement}
+use Rattle.tcl_meaning.specs.State.{Variable, text, array, Variables}
+use Rattle.tcl_meaning.specs.Completions.{Completion, failure}
+
+-- ---- names
+
+-- what follows the colons at the front
+unfoldable pub after_colons : List ℕ → List ℕ
+after_colons [] = []
+after_colons (c ∷ cs) = if c == colon then after_colons cs else c ∷ cs
+
+-- A leading run of two or more colons means the global variables, and commands, and is no part of the name.
+abbrev pub without_colons : List ℕ → List ℕ
+without_colons cs = if begins colon cs && begins colon (tail cs) then after_colons cs else cs
+
+-- from the first `(` on
+unfoldable pub from_paren : List ℕ → List ℕ
+from_paren [] = []
+from_paren (c ∷ cs) = if c == open_paren then c ∷ cs else from_paren cs
+
+-- the text before a last `)`
+unfoldable pub before_paren : List ℕ → Option (List ℕ)
+before_paren [] = None
+before_paren (c ∷ []) = if c == close_paren then Some [] else None
+before_paren (c ∷ d ∷ cs) = option_map (λ front. c ∷ front) (before_paren (d ∷ cs))
+
+-- a name, and the index of an element
+pub record Name : Type 0 where
+  pub base : List ℕ
+  pub index : Option (List ℕ)
+
+abbrev pub element_or : List ℕ → List ℕ → List ℕ → Name
+element_or whole front [] = record { base = without_colons whole; index = None }
+element_or whole front (c ∷ index) = record { base = without_colons (before front (c ∷ index)); index = Some index }
+
+abbrev pub by_front : List ℕ → Option (List ℕ) → Name
+by_front whole None = record { base = without_colons whole; index = None }
+by_front whole (Some front) = element_or whole front (from_paren front)
+
+-- A name that ends in `)` and has a `(` is an element's, and the first `(` divides it.
+unfoldable pub divided : List ℕ → Name
+divided name = by_front name (before_paren name)
+
+-- ---- reading and writing
+
+abbrev pub element_in : Option (List ℕ) → Result (List ℕ) Refusal
+element_in None = Err NoElement
+element_in (Some t) = Ok t
+
+abbrev pub get_in : Option Variable → Option (List ℕ) → Result (List ℕ) Refusal
+get_in None index = Err NoSuch
+get_in (Some (text t)) None = Ok t
+get_in (Some (text t)) (Some i) = Err IsntArray
+get_in (Some (array m)) None = Err IsArray
+get_in (Some (array m)) (Some i) = element_in (map.get m i)
+
+-- the text of a variable or of an element
+unfoldable pub get : Variables → List ℕ → Result (List ℕ) Refusal
+get vs name = get_in (map.get vs (divided name).base) (divided name).index
+
+abbrev pub put_in : Option Variable → Option (List ℕ) → List ℕ → Result Variable Refusal
+put_in None None t = Ok (text t)
+put_in None (Some i) t = Ok (array (map.insert map.empty i t))
+put_in (Some (text u)) None t = Ok (text t)
+put_in (Some (text u)) (Some i) t = Err IsntArray
+put_in (Some (array m)) None t = Err IsArray
+put_in (Some (array m)) (Some i) t = Ok (array (map.insert m i t))
+
+abbrev pub put_at : Variables → List ℕ → Result Variable Refusal → Result Variables Refusal
+put_at vs base (Ok v) = Ok (map.insert vs base v)
+put_at vs base (Err fault) = Err fault
+
+-- the variables with a text under a name, which is made where it is missing
+unfoldable pub put : Variables → List ℕ → List ℕ → Result Variables Refusal
+put vs name t = put_at vs (divided name).base (put_in (map.get vs (divided name).base) (divided name).index t)
+
+-- ---- what the refusals say
+
+abbrev pub reason : Refusal → List ℕ
+reason NoSuch = codes "no such variable"
+reason IsArray = codes "variable is array"
+reason IsntArray = codes "variable isn't array"
+reason NoElement = codes "no such element in array"
+
+abbrev pub cant_read : List ℕ → Refusal → Completion
+cant_read name refusal = failure (codes "can't read \"" ++ name ++ codes "\": " ++ reason refusal)
+
+abbrev pub cant_set : List ℕ → Refusal → Completion
+cant_set name refusal = failure (codes "can't set \"" ++ name ++ codes "\": " ++ reason refusal)
