@@ -13,6 +13,7 @@ use Rattle.tcl_chan.specs.Devices.{unread}
 use Rattle.tcl_chan.specs.Sources.{OneLine, IsLineOf, TakesLine}
 use Rattle.tcl_chan.proofs.Fronts.{lossy_chars-split}
 use Rattle.tcl_chan.proofs.Lines.{NoReturn, one_line-text, joined-line, joined-before, joined-return, taken-line, taken-nothing, taken-last}
+use Rattle.tcl_chan.proofs.Scalars.{line-reads}
 use Rattle.tcl_chan.proofs.Takes.{behind, passed}
 use Rattle.tcl_chan.proofs.Steps.{input_chars-nil}
 
@@ -74,12 +75,15 @@ gets-line (Some bytes) held ended device after place met text is below feed one 
     b.whole ∙ ap (λ t. t ++ b.more) held_is ∙ append_assoc front (10 ∷ later) b.more ∙ ap (λ t. front ++ 10 ∷ t) (sym rest_is) in
     let chars : input_chars bytes ≡ line.chars ++ 10 ∷ input_chars rest =
     ap input_chars all ∙ ap joined_newlines (lossy_chars-split front 10 rest (omega arith)) ∙ line.joined one (lossy_chars rest) in
+    let taken = ap (λ cs. line_taken cs met) chars ∙ taken-line line.chars (input_chars rest) met (line.one one) in
+    let spells = ap Some line.spells in
     record {
       rest = rest;
       left = gone ∙ passed held ended device bytes (place + 1) (omega arith) is;
       chars = Some line.chars;
-      spells = ap Some line.spells;
-      taken = ap (λ cs. line_taken cs met) chars ∙ taken-line line.chars (input_chars rest) met (line.one one);
+      spells = spells;
+      reads = line-reads bytes met (Some text) (Some line.chars) _ spells taken;
+      taken = taken;
     }
 
 -- nothing is left
@@ -97,6 +101,7 @@ gets-nothing (Some bytes) [] ended device met is end none =
       left = is;
       chars = None;
       spells = refl;
+      reads = refl;
       taken = ap (λ cs. line_taken cs met) chars ∙ taken-nothing met ∙ ap (λ cs. record { text = None; left = record { chars = cs; met_end = true } }) (sym chars);
     }
 
@@ -118,13 +123,15 @@ gets-last (Some bytes) held ended device after met text is end some one spells g
     let nonempty : 0 < length cs = subst (λ l. 0 < length l) (sym (lossy_chars-step held some)) (omega arith) in
     let empty : drop (length held) bytes ≡ [] = ap (drop (length held)) all ∙ drop_all (length held) held (omega arith) in
     let none : input_chars (drop (length held) bytes) ≡ [] = ap input_chars empty ∙ input_chars-nil in
+    let taken = ap (λ l. line_taken l met) chars ∙ last_taken cs met nonempty (one_line-text held one)
+    ∙ ap (λ l. record { text = Some cs; left = record { chars = l; met_end = true } }) (sym none) in
     record {
       rest = drop (length held) bytes;
       left = gone ∙ passed held ended device bytes (length held) (omega arith) is;
       chars = Some cs;
       spells = ap Some spells;
-      taken = ap (λ l. line_taken l met) chars ∙ last_taken cs met nonempty (one_line-text held one)
-          ∙ ap (λ l. record { text = Some cs; left = record { chars = l; met_end = true } }) (sym none);
+      reads = line-reads bytes met (Some text) (Some cs) _ (ap Some spells) taken;
+      taken = taken;
     }
 
 pub on_ok : {A E : Type 0} (r : Result A E) (P Q : A → Type 0) → ((x : A) → P x → Q x) → IfOk r P → IfOk r Q

@@ -5,3 +5,5 @@ pub mod Faults
 pub mod Writing
 pub mod Outputs
 pub mod Worlds
+pub mod Memories
+pub mod Wrappers

@@ -1,5 +1,5 @@
 //! Devices over memory.
-ghost use Rattle.std.specs.Prelude.{◌≡◌, ◌≤◌, ◌<◌, ◌+◌, ◌++◌, ℕ, List, Some, [], Err, drop, length, IsOk, IfOk, OnErr, vec_len, vec_capacity};
+ghost use Rattle.std.specs.Prelude.{◌≡◌, ◌≤◌, ◌<◌, ◌+◌, ◌↔◌, Some, [], length, IsOk, IfOk, vec_len, vec_capacity};
 ghost use Rattle.tcl_chan.specs.Devices.{Writes, failures_after};
 
 use crate::device::{Broken, Input, Output};
@@ -12,9 +12,11 @@ pub struct MemoryInput<'a> {
 }
 
 impl<'a> MemoryInput<'a> {
+    ghost use Rattle.tcl_chan.specs.Memories.{bytes_left};
+
     /// An input of these bytes.
     pub fn new(bytes: &'a [u8]) -> MemoryInput<'a>
-        ensures { ⟦<MemoryInput<'a> as Input>⟧.to_come result ≡ Some bytes.now }
+        ensures { bytes_left result ≡ bytes.now }
     {
         MemoryInput { bytes }
     }
@@ -45,11 +47,18 @@ pub struct MemoryOutput {
     bytes: Vec<u8>,
     capacity: usize,
     failures: u64,
+    ghost within: { vec_len bytes ≤ capacity },
+    ghost reserved: { capacity ≤ vec_capacity bytes },
 }
 
 impl MemoryOutput {
-    /// An output that can take so many bytes.
+    ghost use Rattle.tcl_chan.specs.Memories.{bytes_of, capacity_of, failures_of};
+
+    /// An output that can take so many bytes in all.
     pub fn new(alloc: Global, capacity: usize) -> Result<MemoryOutput, AllocError>
+        ensures empty { IfOk result (λ device. bytes_of device ≡ []) }
+        ensures capacity { IfOk result (λ device. capacity_of device ≡ capacity) }
+        ensures failures { IfOk result (λ device. failures_of device ≡ 0) }
     {
         let bytes = Vec::with_capacity(alloc, capacity)?;
         Ok(MemoryOutput {
@@ -61,19 +70,32 @@ impl MemoryOutput {
 
     /// The bytes written so far.
     pub fn bytes(&self) -> &[u8]
-        ensures { ⟦<MemoryOutput as Output>⟧.written self.now ≡ Some result.now }
+        ensures { result.now ≡ bytes_of self.now }
     {
         &self.bytes
     }
 }
 
 impl Output for MemoryOutput {
-    ghost written = { λ device. Some device.bytes.items };
+    ghost use Rattle.tcl_chan.specs.Memories.{bytes_of, capacity_of, failures_of};
 
-    ghost failed_calls = { λ device. device.failures };
+    ghost written = { λ device. Some (bytes_of device) };
 
-    fn write(&mut self, bytes: &[u8]) -> Result<usize, Broken> {
-        if self.bytes.len() + bytes.len() > self.capacity || self.bytes.extend_from_slice(bytes).is_err() {
+    ghost failed_calls = { λ device. failures_of device };
+
+    fn write(&mut self, bytes: &[u8]) -> Result<usize, Broken>
+        ensures within { IfOk result (λ n. n ≤ length bytes.now) }
+        ensures some { IfOk result (λ n. 0 < length bytes.now → 1 ≤ n) }
+        ensures bytes { Writes (Some (bytes_of self.old)) (Some (bytes_of self.new)) bytes.now result }
+        ensures failures { failures_of self.new ≡ failures_after (failures_of self.old) result }
+
+        // It fails exactly where the bytes would go past the capacity.
+        ensures fits { IsOk result ↔ (length (bytes_of self.old) + length bytes.now ≤ capacity_of self.old) }
+        ensures whole { IfOk result (λ n. n ≡ length bytes.now) }
+        ensures capacity { capacity_of self.new ≡ capacity_of self.old }
+    {
+        let room = self.capacity - self.bytes.len();
+        if bytes.len() > room || self.bytes.extend_from_slice(bytes).is_err() {
             self.failures = self.failures.saturating_add(1);
             return Err(Broken);
         }

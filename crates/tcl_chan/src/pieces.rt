@@ -1,5 +1,6 @@
 //! Devices that pass on little at a time.
-ghost use Rattle.std.specs.Prelude.{◌≡◌};
+ghost use Rattle.std.specs.Prelude.{◌≡◌, ◌≤◌, ◌<◌, length, IfOk};
+ghost use Rattle.tcl_chan.specs.Devices.{Reads, EndsAt, Writes, failures_after};
 
 use crate::device::{Broken, Input, Output};
 
@@ -10,19 +11,37 @@ pub struct OneByte<D> {
 }
 
 impl<D> OneByte<D> {
+    ghost use Rattle.tcl_chan.specs.Wrappers.{one_byte_inner};
+
+    /// A device that passes on to this one.
     pub fn new(inner: D) -> OneByte<D>
-        ensures { result.inner ≡ inner }
+        ensures { one_byte_inner result ≡ inner }
     {
         OneByte { inner }
+    }
+
+    /// The device that the calls pass on to.
+    pub fn inner(&self) -> &D
+        ensures { result.now ≡ one_byte_inner self.now }
+    {
+        &self.inner
     }
 }
 
 impl<D: Input> Input for OneByte<D> {
-    ghost to_come = { λ device. D.to_come device.inner };
+    ghost use Rattle.tcl_chan.specs.Wrappers.{one_byte_inner};
 
-    ghost failed_calls = { λ device. D.failed_calls device.inner };
+    ghost to_come = { λ device. D.to_come (one_byte_inner device) };
 
-    fn read(&mut self, buffer: &mut [u8]) -> Result<usize, Broken> {
+    ghost failed_calls = { λ device. D.failed_calls (one_byte_inner device) };
+
+    fn read(&mut self, buffer: &mut [u8]) -> Result<usize, Broken>
+        ensures within { IfOk result (λ n. n ≤ length buffer.old) }
+        ensures one { IfOk result (λ n. n ≤ 1) }
+        ensures bytes { Reads (D.to_come (one_byte_inner self.old)) (D.to_come (one_byte_inner self.new)) buffer.new result }
+        ensures end { EndsAt (D.to_come (one_byte_inner self.old)) (length buffer.old) result }
+        ensures failures { D.failed_calls (one_byte_inner self.new) ≡ failures_after (D.failed_calls (one_byte_inner self.old)) result }
+    {
         let size = buffer.len().min(1);
         self.inner.read(&mut buffer[..size])
     }
@@ -33,11 +52,19 @@ impl<D: Input> Input for OneByte<D> {
 }
 
 impl<D: Output> Output for OneByte<D> {
-    ghost written = { λ device. D.written device.inner };
+    ghost use Rattle.tcl_chan.specs.Wrappers.{one_byte_inner};
 
-    ghost failed_calls = { λ device. D.failed_calls device.inner };
+    ghost written = { λ device. D.written (one_byte_inner device) };
 
-    fn write(&mut self, bytes: &[u8]) -> Result<usize, Broken> {
+    ghost failed_calls = { λ device. D.failed_calls (one_byte_inner device) };
+
+    fn write(&mut self, bytes: &[u8]) -> Result<usize, Broken>
+        ensures within { IfOk result (λ n. n ≤ length bytes.now) }
+        ensures one { IfOk result (λ n. n ≤ 1) }
+        ensures some { IfOk result (λ n. 0 < length bytes.now → 1 ≤ n) }
+        ensures bytes { Writes (D.written (one_byte_inner self.old)) (D.written (one_byte_inner self.new)) bytes.now result }
+        ensures failures { D.failed_calls (one_byte_inner self.new) ≡ failures_after (D.failed_calls (one_byte_inner self.old)) result }
+    {
         let size = bytes.len().min(1);
         self.inner.write(&bytes[..size])
     }
