@@ -1,0 +1,46 @@
+-- What calls of devices do to the bytes that the devices tell.
+use Rattle.std.specs.Prelude.{◌≡◌, ℕ, ◌+◌, ◌-◌, ◌^◌, ◌<◌, min, Bool, cond, List, [], ◌++◌, take, IfSome, Option, Some, None, Result, Ok, Err}
+
+-- these bytes before those that are told
+abbrev pub ahead : List ℕ → Option (List ℕ) → Option (List ℕ)
+ahead front None = None
+ahead front (Some rest) = Some (front ++ rest)
+
+-- these bytes behind those that are told
+abbrev pub put : Option (List ℕ) → List ℕ → Option (List ℕ)
+put None more = None
+put (Some before) more = Some (before ++ more)
+
+abbrev pub Reads : {E : Type 0} → Option (List ℕ) → Option (List ℕ) → List ℕ → Result ℕ E → Type 0
+Reads old new buffer (Ok n) = old ≡ ahead (take n buffer) new
+Reads old new buffer (Err e) = new ≡ old
+
+-- nothing is left, if what is left is told
+abbrev pub IsEnd : Option (List ℕ) → Type 0
+IsEnd None = Unit {0}
+IsEnd (Some rest) = rest ≡ []
+
+abbrev pub EndsAt : {E : Type 0} → Option (List ℕ) → ℕ → Result ℕ E → Type 0
+EndsAt old size (Ok n) = n ≡ 0 → 0 < size → IsEnd old
+EndsAt old size (Err e) = Unit {0}
+
+abbrev pub Writes : {E : Type 0} → Option (List ℕ) → Option (List ℕ) → List ℕ → Result ℕ E → Type 0
+Writes old new text (Ok n) = new ≡ put old (take n text)
+Writes old new text (Err e) = new ≡ old
+
+-- one more, up to the greatest number of 64 bits
+abbrev pub one_more : ℕ → ℕ
+one_more count = min (count + 1) (2 ^ 64 - 1)
+
+-- a call that fails counts
+abbrev pub failures_after : {A E : Type 0} → ℕ → Result A E → ℕ
+failures_after count (Ok x) = count
+failures_after count (Err e) = one_more count
+
+-- What is left of an input of which some bytes are held back: those, and what the device has, unless it has met its end.
+abbrev pub unread : List ℕ → Bool → Option (List ℕ) → Option (List ℕ)
+unread held ended device = cond ended (Some held) (ahead held device)
+
+-- The bytes that are left are the same, where they were told.
+abbrev pub StaysLeft : Option (List ℕ) → Option (List ℕ) → Type 0
+StaysLeft before after = IfSome before (λ bytes. after ≡ Some bytes)
