@@ -29,8 +29,9 @@ abbrev pub bracket_result : Code → List ℕ → Prog (Value (List ℕ))
 bracket_result code.Ok t = give t
 bracket_result code.Error t = fail (record { code = code.Error; result = t })
 
-abbrev pub element_name : List ℕ → List ℕ → List ℕ
-element_name name index = name ++ codes "(" ++ index ++ codes ")"
+-- the name of an element, as a script writes it
+abbrev pub spelled_element : List ℕ → List ℕ → List ℕ
+spelled_element name index = name ++ codes "(" ++ index ++ codes ")"
 
 abbrev mutual
   pub piece_text : ℕ → Part → Prog (Value (List ℕ))
@@ -39,7 +40,7 @@ abbrev mutual
   piece_text d (var s name) = read name.text
   piece_text d (elem_ s name index) = do
     i ← index_text d index
-    read (element_name name.text i)
+    read (spelled_element name.text i)
   piece_text d (bracket s script) = do
     c ← call (inside d script.text)
     bracket_result c.code c.result

@@ -1,5 +1,5 @@
 -- Variables by their names: Tcl(n), rule 8; set(n); array(n).
-use Rattle.std.specs.Prelude.{ℕ, Bool, ◌&&◌, ◌==◌, List, [], ◌∷◌, ◌++◌, codes, Option, Some, None, option_map, Result, Ok, Err, if◌then◌else◌}
+use Rattle.std.specs.Prelude.{ℕ, Bool, ◌&&◌, ◌==◌, List, [], ◌∷◌, ◌++◌, codes, Option, Some, None, Result, Ok, Err, if◌then◌else◌}
 use Rattle.std.specs.FinMap as map
 use Rattle.tcl_chars.specs.Characters.{colon, open_paren, close_paren}
 use Rattle.tcl_chars.specs.Place.{begins, tail, before}
@@ -25,28 +25,32 @@ unfoldable pub from_paren : List ℕ → List ℕ
 from_paren [] = []
 from_paren (c ∷ cs) = if c == open_paren then c ∷ cs else from_paren cs
 
--- the text before a last `)`
-unfoldable pub before_paren : List ℕ → Option (List ℕ)
-before_paren [] = None
-before_paren (c ∷ []) = if c == close_paren then Some [] else None
-before_paren (c ∷ d ∷ cs) = option_map (λ front. c ∷ front) (before_paren (d ∷ cs))
+-- the last character
+unfoldable pub last_part : List ℕ → List ℕ
+last_part [] = []
+last_part (c ∷ []) = c ∷ []
+last_part (c ∷ d ∷ cs) = last_part (d ∷ cs)
 
 -- a name, and the index of an element
 pub record Name : Type 0 where
   pub base : List ℕ
   pub index : Option (List ℕ)
 
-abbrev pub element_or : List ℕ → List ℕ → List ℕ → Name
-element_or whole front [] = record { base = without_colons whole; index = None }
-element_or whole front (c ∷ index) = record { base = without_colons (before front (c ∷ index)); index = Some index }
+abbrev pub whole_name : List ℕ → Name
+whole_name name = record { base = without_colons name; index = None }
 
-abbrev pub by_front : List ℕ → Option (List ℕ) → Name
-by_front whole None = record { base = without_colons whole; index = None }
-by_front whole (Some front) = element_or whole front (from_paren front)
+abbrev pub element_name : List ℕ → List ℕ → Name
+element_name base index = record { base = without_colons base; index = Some index }
+
+abbrev pub by_paren : List ℕ → List ℕ → Name
+by_paren name [] = whole_name name
+by_paren name (c ∷ index) =
+    if begins close_paren (last_part index) then element_name (before name (c ∷ index)) (before index (last_part index))
+    else whole_name name
 
 -- A name that ends in `)` and has a `(` is an element's, and the first `(` divides it.
 unfoldable pub divided : List ℕ → Name
-divided name = by_front name (before_paren name)
+divided name = by_paren name (from_paren name)
 
 -- ---- reading and writing
 

@@ -1,0 +1,5 @@
+//! The interpreter.
+#![tactic(auto)]
+
+mod names;
+mod value;
