@@ -1,2 +1,5 @@
+pub mod Faults
 pub mod Names
 pub mod Values
+pub mod VariableCode
+pub mod VariableShape

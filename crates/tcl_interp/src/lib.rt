@@ -1,5 +1,9 @@
 //! The interpreter.
 #![tactic(auto)]
 
+mod host;
 mod names;
 mod value;
+mod variables;
+
+pub use host::VarFault;

@@ -81,9 +81,12 @@ abbrev pub put_at : Variables → List ℕ → Result Variable Refusal → Resul
 put_at vs base (Ok v) = Ok (map.insert vs base v)
 put_at vs base (Err fault) = Err fault
 
+abbrev pub put_named : Variables → Name → List ℕ → Result Variables Refusal
+put_named vs name t = put_at vs name.base (put_in (map.get vs name.base) name.index t)
+
 -- the variables with a text under a name, which is made where it is missing
 unfoldable pub put : Variables → List ℕ → List ℕ → Result Variables Refusal
-put vs name t = put_at vs (divided name).base (put_in (map.get vs (divided name).base) (divided name).index t)
+put vs name t = put_named vs (divided name) t
 
 -- ---- what the refusals say
 
