@@ -10,7 +10,7 @@ use Rattle.tcl_interp.proofs.variables.Variables.change.Goals as goal
 -- a write that was refused left the variable, and so the variables
 unwritten : {V A E : Type 0} (r : Result A E) (m now : Named V) (k : List ℕ) (v w : V) → OnErr r (w ≡ v) → map.get m k ≡ Some v → m ≡ now → OnErr r (map.insert m k w ≡ now)
 unwritten (Ok x) m now k v w h e is = tt
-unwritten (Err x) m now k v w h e is = insert_same m k v w e h ∙ is
+unwritten (Err x) m now k v w h e is = ap (map.insert m k) e ∙ insert_same m k v h ∙ is
 
 pub returns-clause-same : goal.returns-clause-same
 returns-clause-same c =
