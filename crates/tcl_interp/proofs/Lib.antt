@@ -1,1 +1,4 @@
+pub mod Messages
 pub mod NameEnds
+pub mod Says
+pub mod Writes

@@ -1,5 +1,9 @@
+pub mod Endings
 pub mod Faults
+pub mod Named
 pub mod Names
+pub mod Puts
+pub mod Shown
 pub mod Values
 pub mod VariableCode
 pub mod VariableShape

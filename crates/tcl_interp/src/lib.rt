@@ -1,8 +1,12 @@
 //! The interpreter.
 #![tactic(auto)]
 
+mod completion;
+mod evaluation;
+mod fault;
 mod host;
 mod names;
+mod pages;
 mod value;
 mod variables;
 

@@ -5,16 +5,32 @@ ghost use Rattle.std.specs.Str.{chars};
 ghost use Rattle.std.specs.Option.{option_copied};
 ghost use Rattle.tcl_meaning.specs.Variables.{get, get_in, put, put_in, put_named};
 ghost use Rattle.tcl_meaning.specs.State.{text, array};
-ghost use Rattle.tcl_interp.specs.Faults.{Refuses};
+ghost use Rattle.tcl_interp.specs.Puts.{Refuses};
 ghost use Rattle.tcl_interp.specs.Names.{name_of};
 
-use crate::host::VarFault;
 use crate::names::{Divided, divide};
 use crate::value::Value;
-use std::alloc::Global;
+use std::alloc::{AllocError, Global};
 use std::marker::Model;
 use tcl_meaning::Refusal;
 use tcl_names::NameMap;
+
+/// Why a value wasn't put into a variable.
+#[derive(Clone, Copy, Debug, PartialEq, Eq)]
+pub(crate) enum PutFault {
+    Refused(Refusal),
+    Memory,
+}
+
+impl From<AllocError> for PutFault {
+    ghost use Rattle.tcl_interp.specs.declared.variables.PutFault.TheVariants as fault;
+
+    ghost from_gives = { λ _ f. f ≡ fault.Memory };
+
+    fn from(_refused: AllocError) -> PutFault {
+        PutFault::Memory
+    }
+}
 
 // What a variable holds.
 #[derive(Drop)]
@@ -72,7 +88,7 @@ impl Variable {
     }
 
     // Puts a text in the place of the variable's, or of an element's.
-    fn write(&mut self, alloc: Global, index: Option<&str>, value: Value) -> Result<(), VarFault>
+    fn write(&mut self, alloc: Global, index: Option<&str>, value: Value) -> Result<(), PutFault>
         ensures done { OnOk result (put_in (Some self.old) (option_map (λ i. chars i.now) index.entry) value ≡ Ok self.new) }
         ensures refused { IfErr result (Refuses (put_in (Some self.old) (option_map (λ i. chars i.now) index.entry) value)) }
         ensures same { OnErr result (self.new ≡ self.old) }
@@ -80,10 +96,10 @@ impl Variable {
         match &mut self.held {
             Held::Text(text) => match index {
                 None => *text = value,
-                Some(_) => return Err(VarFault::IsntArray),
+                Some(_) => return Err(PutFault::Refused(Refusal::IsntArray)),
             },
             Held::Array(elements) => match index {
-                None => return Err(VarFault::IsArray),
+                None => return Err(PutFault::Refused(Refusal::IsArray)),
                 Some(index) => elements.insert(alloc, index, value)?,
             },
         }
@@ -132,7 +148,7 @@ impl Variables {
 
     /// Puts a value under the name of a variable or an element, which is made where it is missing: set(n).
     #[tactic(auto, unfolding(tcl_meaning::specs::Variables::put))]
-    pub(crate) fn put(&mut self, alloc: Global, name: &str, value: Value) -> Result<(), VarFault>
+    pub(crate) fn put(&mut self, alloc: Global, name: &str, value: Value) -> Result<(), PutFault>
         ensures done { OnOk result (put self.old (chars name.now) value ≡ Ok self.new) }
         ensures refused { IfErr result (Refuses (put self.old (chars name.now) value)) }
         ensures same { OnErr result (self.new ≡ self.old) }
@@ -146,7 +162,7 @@ impl Variables {
     }
 
     // Puts a value into a variable that is there.
-    fn change(&mut self, alloc: Global, name: Divided<'_>, value: Value) -> Result<(), VarFault>
+    fn change(&mut self, alloc: Global, name: Divided<'_>, value: Value) -> Result<(), PutFault>
         requires { IsSome (map.get self.old (name_of name).base) }
         ensures done { OnOk result (put_named self.old (name_of name.entry) value ≡ Ok self.new) }
         ensures refused { IfErr result (Refuses (put_named self.old (name_of name.entry) value)) }
@@ -159,7 +175,7 @@ impl Variables {
     }
 
     // Makes a variable.
-    fn make(&mut self, alloc: Global, name: Divided<'_>, value: Value) -> Result<(), VarFault>
+    fn make(&mut self, alloc: Global, name: Divided<'_>, value: Value) -> Result<(), PutFault>
         requires { map.get self.old (name_of name).base ≡ None }
         ensures done { OnOk result (put_named self.old (name_of name.entry) value ≡ Ok self.new) }
         ensures refused { IfErr result (Refuses (put_named self.old (name_of name.entry) value)) }

@@ -1,6 +1,6 @@
 -- The commands: set(n), puts(n).
-use Rattle.std.specs.Prelude.{ℕ, Bool, ◌==◌, List, [], ◌∷◌, ◌++◌, codes, Option, Some, None, Result, Ok, Err, if◌then◌else◌}
-use Rattle.std.specs.Str.{bytes_eq}
+use Rattle.std.specs.Prelude.{ℕ, Bool, nat_eq, List, [], ◌∷◌, ◌++◌, codes, Option, Some, None, Result, Ok, Err, if◌then◌else◌}
+use Rattle.std.specs.Cmp.Lexicographic.{pointwise}
 use Rattle.tcl_meaning.specs.declared.refusal.Refusal.{Refusal}
 use Rattle.tcl_meaning.specs.Completions.{Completion, normal, failure, wrong_words}
 use Rattle.tcl_meaning.specs.State.{Store, Variables, Output, stdout, stderr}
@@ -9,7 +9,7 @@ use Rattle.tcl_meaning.specs.Variables.{get, put, cant_read, cant_set}
 
 -- are the texts the same
 abbrev pub same_text : List ℕ → List ℕ → Bool
-same_text = bytes_eq
+same_text = pointwise nat_eq
 
 -- ---- set
 
@@ -41,13 +41,20 @@ set_page _ = Give (wrong_words set_usage)
 abbrev pub puts_usage : List ℕ
 puts_usage = codes "puts ?-nonewline? ?channelId? string"
 
+-- what is said of a word that is no channel's name
+abbrev pub unknown_channel : List ℕ → List ℕ
+unknown_channel name = codes "can not find channel named \"" ++ name ++ codes "\""
+
+abbrev pub input_only : List ℕ
+input_only = codes "channel \"stdin\" wasn't opened for writing"
+
 -- what a word says as an output
 unfoldable pub output_of : List ℕ → Result Output (List ℕ)
 output_of name =
     if same_text name (codes "stdout") then Ok stdout
     else if same_text name (codes "stderr") then Ok stderr
-    else if same_text name (codes "stdin") then Err (codes "channel \"stdin\" wasn't opened for writing")
-    else Err (codes "can not find channel named \"" ++ name ++ codes "\"")
+    else if same_text name (codes "stdin") then Err input_only
+    else Err (unknown_channel name)
 
 abbrev pub put_text : Result Output (List ℕ) → List ℕ → Prog Completion
 put_text (Ok o) t = do

@@ -1,5 +1,4 @@
-use Rattle.std.proofs.Common.{◌≡◌, ℕ, List, Option, Some, Result, Ok, Err, sym, ap, ◌∙◌}
-use Rattle.std.specs.Prelude.{OnErr}
+use Rattle.std.proofs.Common.{◌≡◌, ℕ, List, Option, Some, Result, Ok, Err, OnErr, sym, ap, ◌∙◌}
 use Rattle.std.specs.FinMap as map
 use Rattle.std.specs.Str.{chars}
 use Rattle.std.specs.Option.{option_copied_mut}
@@ -9,8 +8,8 @@ use Rattle.tcl_interp.proofs.variables.Variables.change.Goals as goal
 
 -- a write that was refused left the variable, and so the variables
 unwritten : {V A E : Type 0} (r : Result A E) (m now : Named V) (k : List ℕ) (v w : V) → OnErr r (w ≡ v) → map.get m k ≡ Some v → m ≡ now → OnErr r (map.insert m k w ≡ now)
-unwritten (Ok x) m now k v w h e is = tt
-unwritten (Err x) m now k v w h e is = ap (map.insert m k) e ∙ insert_same m k v h ∙ is
+unwritten {V} (Ok x) m now k v w h e is = tt
+unwritten {V} (Err x) m now k v w h e is = ap (λ (x : V). map.insert m k x) h ∙ insert_same m k v e ∙ is
 
 pub returns-clause-same : goal.returns-clause-same
 returns-clause-same c =

@@ -1,0 +1,7 @@
+use Rattle.std.specs.Str.{chars}
+use Rattle.tcl_interp.proofs.Messages.{invalid_name_text, end_quote_text, no_text}
+use Rattle.tcl_interp.proofs.Says.{says, quoted_end}
+use Rattle.tcl_interp.proofs.completion.Completion.unknown_command.Goals as goal
+
+pub returns : goal.returns
+returns c = says c.quoting.result _ _ c.quoting.ensures (quoted_end _ _ (chars c.args.word.now) _ _ _ invalid_name_text end_quote_text no_text)

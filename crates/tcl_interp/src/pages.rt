@@ -1,0 +1,185 @@
+//! The commands that run no script: set(n), puts(n).
+ghost use Rattle.std.specs.Prelude.{◌≡◌, ℕ, List, Option, Ok, IfOk, if◌then◌else◌};
+ghost use Rattle.std.specs.Str.{chars};
+ghost use Rattle.tcl_meaning.specs.Effects.{exec};
+ghost use Rattle.tcl_meaning.specs.Pages.{set_page, after_get, after_put, puts_page, put_text, output_of, line_of, is_nonewline};
+ghost use Rattle.tcl_meaning.specs.State.{Store};
+ghost use Rattle.tcl_meaning.specs.Variables.{get, put};
+ghost use Rattle.tcl_meaning.specs.Script.{Run};
+ghost use Rattle.tcl_interp.specs.Endings.{Follows, is_io};
+ghost use Rattle.tcl_interp.specs.Named.{Names, output_at};
+ghost use Rattle.tcl_interp.specs.Shown.{set_state, world_state, Leaves};
+
+use crate::completion::Completion;
+use crate::fault::Fault;
+use crate::names::is_text;
+use crate::value::Value;
+use crate::variables::{PutFault, Variables};
+use std::alloc::{AllocError, Global};
+use tcl_chan::device::{Input, Output};
+use tcl_chan::fault::Out;
+use tcl_chan::world::World;
+use tcl_chars::{push, push_text};
+
+const SET_USAGE: &str = "set varName ?newValue?";
+
+const INPUT_ONLY: &str = "channel \"stdin\" wasn't opened for writing";
+
+const PUTS_USAGE: &str = "puts ?-nonewline? ?channelId? string";
+
+/// set varName ?newValue?
+#[tactic(auto, unfolding(tcl_meaning::specs::Pages::set_page))]
+pub(crate) fn set_page(
+    alloc: Global,
+    variables: &mut Variables,
+    args: &[Value],
+) -> Result<Completion, Fault>
+    ensures { (out err : Option (List ℕ)) (units : ℕ) → Follows result (exec Run (set_page args.now) (set_state variables.old out err units)) (set_state variables.new out err units) }
+{
+    match args {
+        [name] => read_variable(alloc, variables, name.as_str()),
+        [name, value] => write_variable(alloc, variables, name.as_str(), value),
+        _ => Ok(Completion::wrong_words(alloc, SET_USAGE)?),
+    }
+}
+
+// Answers the value of a variable.
+fn read_variable(alloc: Global, variables: &Variables, name: &str) -> Result<Completion, Fault>
+    ensures { (out err : Option (List ℕ)) (units : ℕ) → Follows result (exec Run (after_get (chars name.now) (get variables.now (chars name.now))) (set_state variables.now out err units)) (set_state variables.now out err units) }
+{
+    match variables.find(name) {
+        Ok(value) => Ok(Completion::normal(value.copy()?)),
+        Err(refusal) => Ok(Completion::cant_read(alloc, name, refusal)?),
+    }
+}
+
+// Puts a value into a variable, and answers it.
+fn write_variable(
+    alloc: Global,
+    variables: &mut Variables,
+    name: &str,
+    value: &Value,
+) -> Result<Completion, Fault>
+    ensures { (out err : Option (List ℕ)) (units : ℕ) → Follows result (exec Run (after_put (chars name.now) value.now (put variables.old (chars name.now) value.now)) (set_state variables.old out err units)) (set_state variables.new out err units) }
+{
+    let answer = value.copy()?;
+    match variables.put(alloc, name, value.copy()?) {
+        Ok(()) => Ok(Completion::normal(answer)),
+        Err(PutFault::Refused(refusal)) => Ok(Completion::cant_set(alloc, name, refusal)?),
+        Err(PutFault::Memory) => Err(Fault::Memory),
+    }
+}
+
+// What a word says as an output.
+#[derive(Drop)]
+enum Named {
+    Output(Out),
+    // With the error.
+    Nothing(Completion),
+}
+
+// The output of a name.
+#[tactic(auto, unfolding(tcl_meaning::specs::Pages::output_of))]
+fn output_named(alloc: Global, name: &str) -> Result<Named, AllocError>
+    ensures { IfOk result (λ named. Names named (output_of (chars name.now))) }
+{
+    if is_text(name, "stdout") {
+        return Ok(Named::Output(Out::Stdout));
+    }
+    if is_text(name, "stderr") {
+        return Ok(Named::Output(Out::Stderr));
+    }
+    if is_text(name, "stdin") {
+        return Ok(Named::Nothing(Completion::failure(alloc, INPUT_ONLY)?));
+    }
+    Ok(Named::Nothing(Completion::unknown_channel(alloc, name)?))
+}
+
+// Writes a text to an output.
+fn write_text<R: Input, W: Output>(
+    world: &mut World<'_, R, W>,
+    to: Out,
+    text: &str,
+) -> Result<Completion, Fault>
+    ensures run { (store : Store) (units : ℕ) → Follows result (exec Run (put_text (Ok (output_at to)) (chars text.now)) (world_state W.written store world.old units)) (world_state W.written store world.new units) }
+    ensures leaves { Leaves R.to_come W.failed_calls (is_io result) world.old world.new }
+{
+    world.puts(to, text)?;
+    Ok(Completion::normal(Value::empty()))
+}
+
+// Writes a text and a newline to an output.
+fn write_line<R: Input, W: Output>(
+    alloc: Global,
+    world: &mut World<'_, R, W>,
+    to: Out,
+    text: &str,
+) -> Result<Completion, Fault>
+    ensures run { (store : Store) (units : ℕ) → Follows result (exec Run (put_text (Ok (output_at to)) (line_of (chars text.now))) (world_state W.written store world.old units)) (world_state W.written store world.new units) }
+    ensures leaves { Leaves R.to_come W.failed_calls (is_io result) world.old world.new }
+{
+    let mut line = String::new(alloc);
+    push_text(&mut line, text)?;
+    push(&mut line, '\n')?;
+    write_text(world, to, line.as_str())
+}
+
+// puts ?-nonewline? channelId string
+fn write_named<R: Input, W: Output>(
+    alloc: Global,
+    world: &mut World<'_, R, W>,
+    channel: &str,
+    text: &str,
+    newline: bool,
+) -> Result<Completion, Fault>
+    ensures run { (store : Store) (units : ℕ) → Follows result (exec Run (put_text (output_of (chars channel.now)) (if newline then line_of (chars text.now) else chars text.now)) (world_state W.written store world.old units)) (world_state W.written store world.new units) }
+    ensures leaves { Leaves R.to_come W.failed_calls (is_io result) world.old world.new }
+{
+    match output_named(alloc, channel)? {
+        Named::Nothing(completion) => Ok(completion),
+        Named::Output(to) => {
+            if newline {
+                write_line(alloc, world, to, text)
+            } else {
+                write_text(world, to, text)
+            }
+        }
+    }
+}
+
+/// puts ?-nonewline? ?channelId? string
+#[tactic(auto, unfolding(tcl_meaning::specs::Pages::puts_page))]
+pub(crate) fn puts_page<R: Input, W: Output>(
+    alloc: Global,
+    world: &mut World<'_, R, W>,
+    args: &[Value],
+) -> Result<Completion, Fault>
+    ensures run { (store : Store) (units : ℕ) → Follows result (exec Run (puts_page args.now) (world_state W.written store world.old units)) (world_state W.written store world.new units) }
+    ensures leaves { Leaves R.to_come W.failed_calls (is_io result) world.old world.new }
+{
+    match args {
+        [text] => write_line(alloc, world, Out::Stdout, text.as_str()),
+        [first, text] => {
+            if is_nonewline(first.as_str()) {
+                write_text(world, Out::Stdout, text.as_str())
+            } else {
+                write_named(alloc, world, first.as_str(), text.as_str(), true)
+            }
+        }
+        [first, channel, text] => {
+            if is_nonewline(first.as_str()) {
+                write_named(alloc, world, channel.as_str(), text.as_str(), false)
+            } else {
+                Ok(Completion::wrong_words(alloc, PUTS_USAGE)?)
+            }
+        }
+        _ => Ok(Completion::wrong_words(alloc, PUTS_USAGE)?),
+    }
+}
+
+// Is the word the option that leaves the newline out?
+fn is_nonewline(word: &str) -> bool
+    ensures { result ≡ is_nonewline (chars word.now) }
+{
+    is_text(word, "-nonewline")
+}
