@@ -3,7 +3,7 @@ use Rattle.std.proofs.Common.{◌≡◌, ℕ, zero, suc, ◌+◌, ◌-◌, ◌<�
 use Rattle.std.specs.Prelude.{IfOk, IsSome, if◌then◌else◌}
 use Rattle.std.proofs.lemmas.Bool.{cases_Bool}
 use Rattle.std.proofs.lemmas.List.{take-append-drop}
-use Rattle.tcl_chars.specs.Characters.{newline, backslash, semicolon, number_sign, dollar, colon, open_bracket, close_bracket, open_paren, open_brace, close_brace}
+use Rattle.tcl_chars.specs.Characters.{newline, backslash, semicolon, quote, number_sign, dollar, colon, open_bracket, close_bracket, open_paren, open_brace, close_brace}
 use Rattle.tcl_chars.specs.Classes.{is_word_space, is_name_char}
 use Rattle.tcl_chars.specs.Escape.{escape, escape_of, by_control, by_code_form, control_of, code_form, octal_or_self, longest_run}
 use Rattle.tcl_chars.specs.Place.{EndsWith, begins, tail, before, place}
@@ -20,7 +20,7 @@ use Rattle.tcl_words.specs.declared.front.Mode.TheVariants as mode
 use Rattle.tcl_words.specs.declared.word.Form.{Form}
 use Rattle.tcl_words.specs.declared.word.Form.TheVariants as form
 use Rattle.tcl_words.specs.Parts.{Shape}
-use Rattle.tcl_words.specs.Words.{after_blanks, after_gaps, ends_word, after_name, begins_variable, kind_of, is_plain, after_plain, at_variable_brace, at_brace, after_verbatim, begins_hidden_newline, marked, form_of, closed, after_command, verbatim_at, braced_at, Inner, named, variable_at, bracket_at, piece_of, piece_at, pieces_at, quoted_at, word_of, word_at, next_word, words_at, first_at, commands_at, after_commands, closing, inner_at}
+use Rattle.tcl_words.specs.Words.{lone_at, operand_at, after_blanks, after_gaps, ends_word, after_name, begins_variable, kind_of, is_plain, after_plain, at_variable_brace, at_brace, after_verbatim, begins_hidden_newline, marked, form_of, closed, after_command, verbatim_at, braced_at, Inner, named, variable_at, bracket_at, piece_of, piece_at, pieces_at, quoted_at, word_of, word_at, next_word, words_at, first_at, commands_at, after_commands, closing, inner_at}
 
 -- ---- ends of a text
 
@@ -309,6 +309,20 @@ module _ (size : ℕ) (inner : Inner) (inside : Inside inner) where
   unfolding quoted_at
   quoted_end cs = if_bind (λ x. EndsWith (tail cs) x.1) (λ x. EndsWith (tail cs) x.1) (pieces_at size inner mode.Quoted (tail cs)) _ (pieces_end mode.Quoted (tail cs)) (λ x h. ends_trans (tail cs) x.1 (tail x.1) h (ends_tail x.1))
 
+  lone_end : (cs : List ℕ) → Ends cs (lone_at size inner cs)
+  lone_end cs =
+      let one = cond (begins open_bracket cs) (bracket_at size inner cs) (variable_at size inner cs) in
+      if_bind (λ x. EndsWith (tail cs) x.1) (λ x. EndsWith cs x.1) one _ (if_cond (Ends (tail cs)) (begins open_bracket cs) _ _ (bracket_at_end cs) (variable_end cs)) (λ x h. ends_trans cs (tail cs) x.1 (ends_tail cs) h)
+
+  pub operand_end : (cs : List ℕ) → Ends cs (operand_at size inner cs)
+  unfolding operand_at
+  operand_end cs =
+      if_cond (Ends cs) (begins open_brace cs) _ _
+      (if_bind (λ x. EndsWith (tail cs) x.1) (λ x. EndsWith cs x.1) (braced_at size cs) _ (braced_end size cs) (λ x h. ends_trans cs (tail cs) x.1 (ends_tail cs) h))
+      (if_cond (Ends cs) (begins quote cs) _ _
+      (if_bind (λ x. EndsWith (tail cs) x.1) (λ x. EndsWith cs x.1) (quoted_at size inner cs) _ (quoted_end cs) (λ x h. ends_trans cs (tail cs) x.1 (ends_tail cs) h))
+      (lone_end cs))
+
   other_pieces : (nested : Bool) (k : Kind) (c : ℕ) (cs : List ℕ) → (k ≡ kind.Ends → ⊥) → IfOk (piece_of size inner (mode.Bare nested) k (c ∷ cs)) (λ t. IsSome t.0)
   other_pieces nested kind.Ends c cs e = absurd (e refl)
   other_pieces nested kind.Open c cs e = tt
@@ -398,9 +412,9 @@ module _ (size : ℕ) (inner : Inner) (inside : Inside inner) where
   pub first_forward : (nested : Bool) → Forward (first_at size inner nested)
   first_forward nested = record { each = first_moves nested }
 
-  commands_end : (cs : List ℕ) → IfOk (after_commands size inner cs) (EndsWith cs)
+  commands_end : (nested : Bool) (cs : List ℕ) → IfOk (after_commands size inner nested cs) (EndsWith cs)
   unfolding after_commands commands_at
-  commands_end cs = if_bind (λ x. EndsWith cs x.1) (EndsWith cs) (all_turns (first_at size inner true) cs) _ (turns_end (first_at size inner true) cs (first_forward true)) (λ x h. h)
+  commands_end nested cs = if_bind (λ x. EndsWith cs x.1) (EndsWith cs) (all_turns (first_at size inner nested) cs) _ (turns_end (first_at size inner nested) cs (first_forward nested)) (λ x h. h)
 
 closing_end : (cs : List ℕ) → IfOk (closing cs) (EndsWith cs)
 closing_end [] = tt
@@ -413,7 +427,7 @@ inner_inside size (suc levels) =
     let below = inner_inside size levels in
     record {
       bracket_end = λ cs.
-          if_bind (EndsWith cs) (EndsWith cs) (after_commands size (inner_at size levels) cs) closing (commands_end size (inner_at size levels) below cs) (λ r h. if_weak (EndsWith r) (EndsWith cs) (closing r) (closing_end r) (λ t k. ends_trans cs r t h k));
+          if_bind (EndsWith cs) (EndsWith cs) (after_commands size (inner_at size levels) true cs) closing (commands_end size (inner_at size levels) below true cs) (λ r h. if_weak (EndsWith r) (EndsWith cs) (closing r) (closing_end r) (λ t k. ends_trans cs r t h k));
       index_end = λ cs.
           if_bind (λ x. EndsWith cs x.1) (λ x. EndsWith cs x.1) (pieces_at size (inner_at size levels) mode.Index cs) _ (pieces_end size (inner_at size levels) below mode.Index cs) (λ x h. ends_trans cs x.1 (tail x.1) h (ends_tail x.1));
     }

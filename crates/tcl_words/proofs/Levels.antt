@@ -18,22 +18,22 @@ use Rattle.tcl_words.proofs.Forward.{ends_trans, ends_tail, ends_drop, name_end,
 
 -- ---- one level deeper
 
-pub deeper : (size levels : ℕ) (cs rest : List ℕ) → (levels ≡ 0 → ⊥) → after_commands size (inner_at size (levels - 1)) cs ≡ Ok rest → (inner_at size levels).bracket cs ≡ closing rest
+pub deeper : (size levels : ℕ) (cs rest : List ℕ) → (levels ≡ 0 → ⊥) → after_commands size (inner_at size (levels - 1)) true cs ≡ Ok rest → (inner_at size levels).bracket cs ≡ closing rest
 unfolding inner_at
 deeper size zero cs rest h e = absurd (h refl)
 deeper size (suc n) cs rest h e =
     let k : suc n - 1 ≡ n = omega arith in
-    let P : ℕ → Type 0 = λ m. after_commands size (inner_at size m) cs ≡ Ok rest in
+    let P : ℕ → Type 0 = λ m. after_commands size (inner_at size m) true cs ≡ Ok rest in
     let Q : Result (List ℕ) Syntax → Type 0 = λ r. (r >>= closing) ≡ closing rest in
     subst Q (sym (subst P k e)) refl
 
-pub deeper_err : (size levels : ℕ) (cs : List ℕ) (err : ReadFault Syntax) → (levels ≡ 0 → ⊥) → Fails err (after_commands size (inner_at size (levels - 1)) cs) → Fails err ((inner_at size levels).bracket cs)
+pub deeper_err : (size levels : ℕ) (cs : List ℕ) (err : ReadFault Syntax) → (levels ≡ 0 → ⊥) → Fails err (after_commands size (inner_at size (levels - 1)) true cs) → Fails err ((inner_at size levels).bracket cs)
 unfolding inner_at
 deeper_err size levels cs fault.Memory h e = tt
 deeper_err size zero cs (fault.Bad m) h e = absurd (h refl)
 deeper_err size (suc n) cs (fault.Bad m) h e =
     let k : suc n - 1 ≡ n = omega arith in
-    let P : ℕ → Type 0 = λ j. after_commands size (inner_at size j) cs ≡ Err m in
+    let P : ℕ → Type 0 = λ j. after_commands size (inner_at size j) true cs ≡ Err m in
     let Q : Result (List ℕ) Syntax → Type 0 = λ r. (r >>= closing) ≡ Err m in
     subst Q (sym (subst P k e)) refl
 

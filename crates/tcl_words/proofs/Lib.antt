@@ -3,3 +3,4 @@ pub mod Levels
 pub mod Placed
 pub mod Spelled
 pub mod Verbatim
+pub mod Whole

@@ -7,10 +7,10 @@ use Rattle.std.proofs.lemmas.Str.{encodes-chars, encodes-append, chars-append, I
 use Rattle.tcl_chars.specs.Place.{EndsWith, place}
 use Rattle.tcl_chars.proofs.Cuts.{rest_boundary}
 use Rattle.tcl_words.specs.declared.fault.Syntax.{Syntax}
-use Rattle.tcl_words.specs.First.{first_of, first, IsRestAt}
+use Rattle.tcl_words.specs.First.{first_of, first, operand, IsRestAt}
 use Rattle.tcl_words.specs.Parts.{Shape}
-use Rattle.tcl_words.specs.Words.{first_at, inner_at}
-use Rattle.tcl_words.proofs.Forward.{Forward, Moves, ends_trans, if_ok, if_weak, first_forward, inner_inside}
+use Rattle.tcl_words.specs.Words.{first_at, operand_at, inner_at}
+use Rattle.tcl_words.proofs.Forward.{Forward, Moves, ends_trans, if_ok, if_weak, first_forward, operand_end, inner_inside}
 
 -- what follows a place ends the text
 pub rest_ends : (bs : List ℕ) (i : ℕ) → IsUtf8 bs → IsCharBoundary bs i → EndsWith (chars bs) (chars (drop i bs))
@@ -45,3 +45,12 @@ after_first size levels nested whole cs x after w e =
 pub first_is : (size levels : ℕ) (nested : Bool) (cs : List ℕ) (r : Result (Option (List Shape) × List ℕ) Syntax) → first_at size (inner_at size levels) nested cs ≡ r → first size levels nested cs ≡ first_of r
 unfolding first
 first_is size levels nested cs r e = ap first_of e
+
+-- what follows an operand ends the text
+pub after_operand : (size levels : ℕ) (whole cs : List ℕ) (x : Shape) (after : List ℕ) → EndsWith whole cs → operand_at size (inner_at size levels) cs ≡ Ok (x, after) → EndsWith whole after
+after_operand size levels whole cs x after w e =
+    ends_trans whole cs after w (if_ok (λ t. EndsWith cs t.1) (operand_at size (inner_at size levels) cs) (x, after) (operand_end size (inner_at size levels) (inner_inside size levels) cs) e)
+
+pub operand_is : (size levels : ℕ) (cs : List ℕ) (r : Result (Shape × List ℕ) Syntax) → operand_at size (inner_at size levels) cs ≡ r → operand size levels cs ≡ r
+unfolding operand
+operand_is size levels cs r e = e

@@ -237,9 +237,11 @@ module _ (size : ℕ) (inner : Inner) where
     found ← pieces_at (mode.Bare nested) cs
     Ok (record { form = form.Bare; expands = expands; pieces = found.0 }, found.1)
 
-  -- the one piece of a bracket or a variable
-  abbrev pub lone_piece : Part × List ℕ → Shape × List ℕ
-  lone_piece found = (record { form = form.Bare; expands = false; pieces = found.0 ∷ [] }, found.1)
+  -- the bracket or the variable that begins here, as the one piece of a word
+  abbrev pub lone_at : Reading Syntax Shape
+  lone_at cs = do
+    found ← if begins open_bracket cs then bracket_at cs else variable_at cs
+    Ok (record { form = form.Bare; expands = false; pieces = found.0 ∷ [] }, found.1)
 
   -- The operand of an expression that begins here, whatever follows it: a braced or a quoted word, a bracket or a
   -- variable (expr(n), Operands).
@@ -251,12 +253,7 @@ module _ (size : ℕ) (inner : Inner) where
       else if begins quote cs then (do
         found ← quoted_at cs
         Ok (record { form = form.Quoted; expands = false; pieces = found.0 }, found.1))
-      else if begins open_bracket cs then (do
-        found ← bracket_at cs
-        Ok (lone_piece found))
-      else (do
-        found ← variable_at cs
-        Ok (lone_piece found))
+      else lone_at cs
 
   unfoldable pub word_at : Bool → Reading Syntax Shape
   word_at nested cs =
@@ -282,12 +279,12 @@ module _ (size : ℕ) (inner : Inner) where
         words ← words_at nested rest
         Ok (Some words.0, after_command words.1))
 
-  -- the commands up to a bracket's `]` or the end of the text
-  unfoldable pub commands_at : Reading Syntax (List (List Shape))
-  commands_at cs = all_turns (first_at true) cs
+  -- the commands up to the end of the text, or inside brackets up to `]`
+  unfoldable pub commands_at : Bool → Reading Syntax (List (List Shape))
+  commands_at nested cs = all_turns (first_at nested) cs
 
-  unfoldable pub after_commands : List ℕ → Result (List ℕ) Syntax
-  after_commands cs = commands_at cs >>= λ found. Ok found.1
+  unfoldable pub after_commands : Bool → List ℕ → Result (List ℕ) Syntax
+  after_commands nested cs = commands_at nested cs >>= λ found. Ok found.1
 
 -- the `]` of a bracket that holds these commands
 abbrev pub closing : List ℕ → Result (List ℕ) Syntax
@@ -302,6 +299,6 @@ index_of found = (parts_of found.0, tail found.1)
 unfoldable pub inner_at : ℕ → ℕ → Inner
 inner_at size zero = record { bracket = λ cs. Err TooDeep; index = λ cs. Err TooDeep }
 inner_at size (suc levels) = record {
-  bracket = λ cs. after_commands size (inner_at size levels) cs >>= closing;
+  bracket = λ cs. after_commands size (inner_at size levels) true cs >>= closing;
   index = λ cs. pieces_at size (inner_at size levels) mode.Index cs >>= λ found. Ok (index_of found);
 }

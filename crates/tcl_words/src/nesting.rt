@@ -284,14 +284,18 @@ pub(crate) fn first(
     Ok((Some(words), after_command(rest)))
 }
 
-/// What follows the commands up to a bracket's `]` or the end of the text.
+/// What follows the commands up to the end of the text, or inside brackets up to `]`.
 #[cycle(nesting)]
-fn after_commands(reader: Reader, text: &str) -> Result<&str, ReadFault<Syntax>>
-    ensures { Gives (λ r. chars r.now) result (spec.after_commands reader.size (spec.inner_at reader.size reader.levels) (chars text.now)) }
+pub(crate) fn after_commands(
+    reader: Reader,
+    nested: bool,
+    text: &str,
+) -> Result<&str, ReadFault<Syntax>>
+    ensures { Gives (λ r. chars r.now) result (spec.after_commands reader.size (spec.inner_at reader.size reader.levels) nested (chars text.now)) }
 {
     let mut rest = text;
     'commands: loop {
-        let (command, after) = first(reader, true, rest)?;
+        let (command, after) = first(reader, nested, rest)?;
         match command {
             None => return Ok(after),
             Some(_) => rest = after,
@@ -311,7 +315,7 @@ fn at_close(reader: Reader, text: &str) -> Result<&str, ReadFault<Syntax>>
         levels: reader.levels - 1,
         ..reader
     };
-    let rest = after_commands(inner, text)?;
+    let rest = after_commands(inner, true, text)?;
     match split_first(rest) {
         Some(_) => Ok(rest),
         None => Err(ReadFault::Bad(Syntax::MissingBracket)),

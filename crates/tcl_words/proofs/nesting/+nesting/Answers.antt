@@ -79,31 +79,31 @@ words-words-preserved t c =
 pub after_commands-returns-in_err-command : goal.after_commands-returns-in_err-command
 unfolding after_commands commands_at
 after_commands-returns-in_err-command t c =
-    let step = first_at c.args.reader.size (inner_at c.args.reader.size c.args.reader.levels) true in
+    let step = first_at c.args.reader.size (inner_at c.args.reader.size c.args.reader.levels) c.args.nested in
     let p = err_from_is_err_and c.from_residual.result c.from_residual.ensures.1 in
     rw (p.1, p.2) (ends_scan step c.in_err-command.field-0.0 (chars c.commands.rest.now) _ c.in_err-command.ensures c.commands.invariant.same)
 
 pub after_commands-returns-in-None : goal.after_commands-returns-in-None
 unfolding after_commands commands_at
 after_commands-returns-in-None t c =
-    let step = first_at c.args.reader.size (inner_at c.args.reader.size c.args.reader.levels) true in
+    let step = first_at c.args.reader.size (inner_at c.args.reader.size c.args.reader.levels) c.args.nested in
     let last = rw c.in-None.is at c.in_ok-command.ensures in
     sym c.commands.invariant.same ∙ scan_done step (chars c.commands.rest.now) (chars c.in_ok-command.after.now) last
 
 pub after_commands-commands-smaller-in-Some : goal.after_commands-commands-smaller-in-Some
 after_commands-commands-smaller-in-Some t c =
-    let step = first_at c.args.reader.size (inner_at c.args.reader.size c.args.reader.levels) true in
+    let step = first_at c.args.reader.size (inner_at c.args.reader.size c.args.reader.levels) c.args.nested in
     let more = rw c.in-Some.is at c.in_ok-command.ensures in
-    shorter step (chars c.commands.rest.now) _ (chars c.in_ok-command.after.now) (forward_shrinks step (first_forward c.args.reader.size (inner_at c.args.reader.size c.args.reader.levels) (inner_inside c.args.reader.size c.args.reader.levels) true)) more
+    shorter step (chars c.commands.rest.now) _ (chars c.in_ok-command.after.now) (forward_shrinks step (first_forward c.args.reader.size (inner_at c.args.reader.size c.args.reader.levels) (inner_inside c.args.reader.size c.args.reader.levels) c.args.nested)) more
 
 pub after_commands-commands-preserved-in-Some : goal.after_commands-commands-preserved-in-Some
 unfolding after_commands commands_at
 after_commands-commands-preserved-in-Some t c =
-    let step = first_at c.args.reader.size (inner_at c.args.reader.size c.args.reader.levels) true in
+    let step = first_at c.args.reader.size (inner_at c.args.reader.size c.args.reader.levels) c.args.nested in
     let more = rw c.in-Some.is at c.in_ok-command.ensures in
     record {
       text = search rules;
-      same = sym (scan_goes_on step (chars c.commands.rest.now) _ (chars c.in_ok-command.after.now) (forward_shrinks step (first_forward c.args.reader.size (inner_at c.args.reader.size c.args.reader.levels) (inner_inside c.args.reader.size c.args.reader.levels) true)) more) ∙ c.commands.invariant.same;
+      same = sym (scan_goes_on step (chars c.commands.rest.now) _ (chars c.in_ok-command.after.now) (forward_shrinks step (first_forward c.args.reader.size (inner_at c.args.reader.size c.args.reader.levels) (inner_inside c.args.reader.size c.args.reader.levels) c.args.nested)) more) ∙ c.commands.invariant.same;
     }
 
 -- at_close

@@ -68,7 +68,7 @@ decreases-words-words l = length (chars l.rest)
 abbrev pub invariant-after_commands-commands : goal.invariant-after_commands-commands
 invariant-after_commands-commands l = record {
   text : shadow (Utf8 l.rest);
-  same : after_commands l.reader.size (inner_at l.reader.size l.reader.levels) (chars l.rest) ≡ after_commands l.reader.size (inner_at l.reader.size l.reader.levels) (chars l.fn.text);
+  same : after_commands l.reader.size (inner_at l.reader.size l.reader.levels) l.nested (chars l.rest) ≡ after_commands l.reader.size (inner_at l.reader.size l.reader.levels) l.nested (chars l.fn.text);
 }
 
 abbrev pub decreases-after_commands-commands : goal.decreases-after_commands-commands
