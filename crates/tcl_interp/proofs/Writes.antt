@@ -1,5 +1,5 @@
 -- What writing to a channel is to the definition.
-use Rattle.std.proofs.Common.{◌≡◌, ℕ, List, ◌++◌, Option, Some, None, refl, sym, ap, ◌∙◌, subst}
+use Rattle.std.proofs.Common.{◌≡◌, ℕ, List, ◌++◌, Option, Some, None, Result, Err, refl, sym, ap, ◌∙◌, subst}
 use Rattle.std.specs.Str.{chars, IsUtf8, encode_utf8_all}
 use Rattle.std.proofs.lemmas.Str.{encodes-chars}
 use Rattle.tcl_chan.specs.Devices as device
@@ -15,6 +15,9 @@ use Rattle.tcl_meaning.specs.Beginnings.{state_of, OutBegins, OutputsBegin}
 use Rattle.tcl_meaning.proofs.Runs.{out_same, out_front}
 use Rattle.tcl_interp.specs.Endings.{FaultFollows, fault_by}
 use Rattle.tcl_interp.specs.Named.{output_at}
+
+pub err_same : {A : Type 0} (a b : ChanFault) → ◌≡◌ {A = Result A ChanFault} (Err a) (Err b) → a ≡ b
+err_same a b h = cc
 
 put_same : (o : Option (List ℕ)) (t : List ℕ) → device.put o t ≡ put o t
 put_same None t = refl

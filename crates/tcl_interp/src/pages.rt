@@ -1,12 +1,13 @@
 //! The commands that run no script: set(n), puts(n).
-ghost use Rattle.std.specs.Prelude.{◌≡◌, ℕ, List, Option, Ok, IfOk, if◌then◌else◌};
+ghost use Rattle.std.specs.Prelude.{◌≡◌, ℕ, List, codes, Option, Ok, IfOk, if◌then◌else◌};
 ghost use Rattle.std.specs.Str.{chars};
 ghost use Rattle.tcl_meaning.specs.Effects.{exec};
-ghost use Rattle.tcl_meaning.specs.Pages.{set_page, after_get, after_put, puts_page, put_text, output_of, line_of, is_nonewline};
+ghost use Rattle.tcl_meaning.specs.Completions.{failure, wrong_words};
+ghost use Rattle.tcl_meaning.specs.Pages.{same_text, set_usage, set_page, after_get, after_put, puts_usage, puts_page, put_text, input_only, output_of, line_of, is_nonewline};
 ghost use Rattle.tcl_meaning.specs.State.{Store};
 ghost use Rattle.tcl_meaning.specs.Variables.{get, put};
 ghost use Rattle.tcl_meaning.specs.Script.{Run};
-ghost use Rattle.tcl_interp.specs.Endings.{Follows, is_io};
+ghost use Rattle.tcl_interp.specs.Endings.{completion_of, Follows, is_io};
 ghost use Rattle.tcl_interp.specs.Named.{Names, output_at};
 ghost use Rattle.tcl_interp.specs.Shown.{set_state, world_state, Leaves};
 
@@ -21,12 +22,6 @@ use tcl_chan::fault::Out;
 use tcl_chan::world::World;
 use tcl_chars::{push, push_text};
 
-const SET_USAGE: &str = "set varName ?newValue?";
-
-const INPUT_ONLY: &str = "channel \"stdin\" wasn't opened for writing";
-
-const PUTS_USAGE: &str = "puts ?-nonewline? ?channelId? string";
-
 /// set varName ?newValue?
 #[tactic(auto, unfolding(tcl_meaning::specs::Pages::set_page))]
 pub(crate) fn set_page(
@@ -39,8 +34,15 @@ pub(crate) fn set_page(
     match args {
         [name] => read_variable(alloc, variables, name.as_str()),
         [name, value] => write_variable(alloc, variables, name.as_str(), value),
-        _ => Ok(Completion::wrong_words(alloc, SET_USAGE)?),
+        _ => Ok(set_usage(alloc)?),
     }
+}
+
+// The error of `set` with other words than its usage says.
+fn set_usage(alloc: Global) -> Result<Completion, AllocError>
+    ensures { IfOk result (λ c. completion_of c ≡ wrong_words set_usage) }
+{
+    Completion::wrong_words(alloc, "set varName ?newValue?")
 }
 
 // Answers the value of a variable.
@@ -78,19 +80,54 @@ enum Named {
     Nothing(Completion),
 }
 
+// Is the name standard output's?
+fn is_stdout(name: &str) -> bool
+    ensures { result ≡ same_text (chars name.now) (codes "stdout") }
+{
+    is_text(name, "stdout")
+}
+
+// Is the name standard error's?
+fn is_stderr(name: &str) -> bool
+    ensures { result ≡ same_text (chars name.now) (codes "stderr") }
+{
+    is_text(name, "stderr")
+}
+
+// Is the name standard input's?
+fn is_stdin(name: &str) -> bool
+    ensures { result ≡ same_text (chars name.now) (codes "stdin") }
+{
+    is_text(name, "stdin")
+}
+
+// The error of writing to the input.
+fn input_only(alloc: Global) -> Result<Completion, AllocError>
+    ensures { IfOk result (λ c. completion_of c ≡ failure input_only) }
+{
+    Completion::failure(alloc, "channel \"stdin\" wasn't opened for writing")
+}
+
+// The error of `puts` with other words than its usage says.
+fn puts_usage(alloc: Global) -> Result<Completion, AllocError>
+    ensures { IfOk result (λ c. completion_of c ≡ wrong_words puts_usage) }
+{
+    Completion::wrong_words(alloc, "puts ?-nonewline? ?channelId? string")
+}
+
 // The output of a name.
 #[tactic(auto, unfolding(tcl_meaning::specs::Pages::output_of))]
 fn output_named(alloc: Global, name: &str) -> Result<Named, AllocError>
     ensures { IfOk result (λ named. Names named (output_of (chars name.now))) }
 {
-    if is_text(name, "stdout") {
+    if is_stdout(name) {
         return Ok(Named::Output(Out::Stdout));
     }
-    if is_text(name, "stderr") {
+    if is_stderr(name) {
         return Ok(Named::Output(Out::Stderr));
     }
-    if is_text(name, "stdin") {
-        return Ok(Named::Nothing(Completion::failure(alloc, INPUT_ONLY)?));
+    if is_stdin(name) {
+        return Ok(Named::Nothing(input_only(alloc)?));
     }
     Ok(Named::Nothing(Completion::unknown_channel(alloc, name)?))
 }
@@ -170,10 +207,10 @@ pub(crate) fn puts_page<R: Input, W: Output>(
             if is_nonewline(first.as_str()) {
                 write_named(alloc, world, channel.as_str(), text.as_str(), false)
             } else {
-                Ok(Completion::wrong_words(alloc, PUTS_USAGE)?)
+                Ok(puts_usage(alloc)?)
             }
         }
-        _ => Ok(Completion::wrong_words(alloc, PUTS_USAGE)?),
+        _ => Ok(puts_usage(alloc)?),
     }
 }
 

@@ -4,14 +4,14 @@ use Rattle.tcl_chan.specs.Worlds.{stdout, stderr}
 use Rattle.tcl_meaning.specs.Completions.{normal}
 use Rattle.tcl_meaning.specs.Effects.{Gives}
 use Rattle.tcl_interp.specs.Shown.{world_state}
-use Rattle.tcl_interp.proofs.Writes.{wrote_whole, wrote_front}
+use Rattle.tcl_interp.proofs.Writes.{err_same, wrote_whole, wrote_front}
 use Rattle.tcl_interp.proofs.pages.write_text.Goals as goal
 
 pub returns-in_err-puts-clause-run : goal.returns-in_err-puts-clause-run
 returns-in_err-puts-clause-run g c =
     let p = err_from_is_err_and c.from_residual.result c.from_residual.ensures.1 in
     λ store units. rw (p.1, p.2) (wrote_front g.W.Output.written store units (stdout c.args.world.now) (stderr c.args.world.now) (stdout c.puts.new.self) (stderr c.puts.new.self) c.args.text.now
-        (normal []) c.args.to c.in_err-puts.field-0.0 (let h = c.in_err-puts.ensures.fault in ?) c.utf8.text c.in_err-puts.ensures.front c.in_err-puts.ensures.other)
+        (normal []) c.args.to c.in_err-puts.field-0.0 (err_same _ _ c.in_err-puts.ensures.fault) c.utf8.text c.in_err-puts.ensures.front c.in_err-puts.ensures.other)
 
 pub returns-clause-run : goal.returns-clause-run
 returns-clause-run g c =
