@@ -39,6 +39,16 @@ abbrev pub ValueFollows : {A B : Type 0} → (A → B) → Result A Halt → Got
 ValueFollows view (Ok a) got s = got ≡ Gives (Has (view a)) s
 ValueFollows view (Err h) got s = HaltFollows h got s
 
+-- a text that a value was added to
+pub record IsAdded (old new : List ℕ) (got : Got (Value (List ℕ))) (s : State) : Type 0 where
+  pub text : List ℕ
+  pub added : new ≡ old ++ text
+  pub same : got ≡ Gives (Has text) s
+
+abbrev pub AddsText : {A : Type 0} → List ℕ → List ℕ → Result A Halt → Got (Value (List ℕ)) → State → Type 0
+AddsText old new (Ok a) got s = IsAdded old new got s
+AddsText old new (Err h) got s = HaltFollows h got s
+
 -- a completion that stands in the place of a value is the command's
 abbrev pub stopped : Halt → Result Completion Fault
 stopped (halt.Stops c) = Ok c

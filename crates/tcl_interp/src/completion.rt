@@ -1,7 +1,8 @@
 //! How a command ended.
 ghost use Rattle.std.specs.Prelude.{◌≡◌, ◌++◌, IfOk, List, ℕ};
 ghost use Rattle.std.specs.Str.{chars};
-ghost use Rattle.tcl_meaning.specs.Completions.{normal, failure, wrong_words};
+ghost use Rattle.tcl_meaning.specs.Completions.{normal, failure, wrong_words, too_deep};
+ghost use Rattle.tcl_meaning.specs.Substitution.{no_expansion};
 ghost use Rattle.tcl_meaning.specs.Variables.{cant_read, cant_set, reason};
 ghost use Rattle.tcl_meaning.specs.Pages.{unknown_channel};
 ghost use Rattle.tcl_meaning.specs.Script.{unknown_command};
@@ -34,6 +35,20 @@ impl Completion {
     {
         let result = Value::from_str(alloc, message)?;
         Ok(Completion { code: Code::Error, result })
+    }
+
+    /// The error of a script that stands in too many others.
+    pub(crate) fn too_deep(alloc: Global) -> Result<Completion, AllocError>
+        ensures { IfOk result (λ c. completion_of c ≡ too_deep) }
+    {
+        Completion::failure(alloc, "too many nested evaluations (infinite loop?)")
+    }
+
+    /// The error of a word with `{*}` in front.
+    pub(crate) fn no_expansion(alloc: Global) -> Result<Completion, AllocError>
+        ensures { IfOk result (λ c. completion_of c ≡ no_expansion) }
+    {
+        Completion::failure(alloc, "word expansion comes with lists")
     }
 
     // The error of a message that quotes a word.

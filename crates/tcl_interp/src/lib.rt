@@ -2,9 +2,11 @@
 #![tactic(auto)]
 
 mod completion;
+mod evaluate;
 mod evaluation;
 mod fault;
 mod host;
+mod lookup;
 mod names;
 mod pages;
 mod value;
