@@ -1,3 +1,4 @@
+pub mod Adding
 pub mod Leaving
 pub mod Messages
 pub mod NameEnds

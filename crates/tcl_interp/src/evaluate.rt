@@ -2,11 +2,12 @@
 ghost use Rattle.std.specs.Prelude.{◌≡◌, ◌≤◌, ◌++◌, ◌∷◌, [], map, OnOk};
 ghost use Rattle.std.specs.Str.{chars};
 ghost use Rattle.std.specs.String.{string_bytes};
-ghost use Rattle.tcl_words.specs.Parts.{shape_of, part_of};
+ghost use Rattle.tcl_words.specs.Parts.{shape_of, part_of, parts_of};
+ghost use Rattle.tcl_meaning.specs.Nesting.{PartNests, PartsNest, WordsNest};
 ghost use Rattle.tcl_meaning.specs.Completions.{normal};
 ghost use Rattle.tcl_meaning.specs.Effects.{Script, exec};
 ghost use Rattle.tcl_meaning.specs.Substitution.{piece_text, word_text, one_word, words_text};
-ghost use Rattle.tcl_meaning.specs.Script.{Run, most_depth, run_command};
+ghost use Rattle.tcl_meaning.specs.Script.{Run, most_depth, most_levels, run_command};
 ghost use Rattle.tcl_interp.specs.Endings.{Follows, ValueFollows, AddsText, is_io, value_is_io, stopped};
 ghost use Rattle.tcl_interp.specs.Shown.{shown, Leaves};
 
@@ -87,7 +88,8 @@ fn eval_command<R: Input, W: Output>(
     depth: u32,
     words: &[Word<'_>],
 ) -> Result<Completion, Fault>
-    requires { depth ≤ most_depth }
+    requires shallow { depth ≤ most_depth }
+    requires nests { WordsNest most_levels (map shape_of words.now) }
     ensures spends { state.new.units ≤ state.old.units }
     ensures run { Follows result (exec Run (run_command depth (map shape_of words.now)) (shown W.written state.old world.old)) (shown W.written state.new world.new) }
     ensures leaves { Leaves R.to_come W.failed_calls (is_io result) world.old world.new }
@@ -114,7 +116,8 @@ fn subst_words<R: Input, W: Output>(
     depth: u32,
     words: &[Word<'_>],
 ) -> Result<Vec<Value>, Halt>
-    requires { depth ≤ most_depth }
+    requires shallow { depth ≤ most_depth }
+    requires nests { WordsNest most_levels (map shape_of words.now) }
     ensures spends { state.new.units ≤ state.old.units }
     ensures run { ValueFollows (λ v. v.items) result (exec Run (words_text depth (map shape_of words.now)) (shown W.written state.old world.old)) (shown W.written state.new world.new) }
     ensures leaves { Leaves R.to_come W.failed_calls (value_is_io result) world.old world.new }
@@ -136,7 +139,8 @@ fn subst_word<R: Input, W: Output>(
     depth: u32,
     word: &Word<'_>,
 ) -> Result<Value, Halt>
-    requires { depth ≤ most_depth }
+    requires shallow { depth ≤ most_depth }
+    requires nests { PartsNest most_levels (parts_of (shape_of word.now).pieces) }
     ensures spends { state.new.units ≤ state.old.units }
     ensures run { ValueFollows (λ v. v) result (exec Run (one_word depth (shape_of word.now).expands (shape_of word.now).pieces) (shown W.written state.old world.old)) (shown W.written state.new world.new) }
     ensures leaves { Leaves R.to_come W.failed_calls (value_is_io result) world.old world.new }
@@ -145,42 +149,55 @@ fn subst_word<R: Input, W: Output>(
         return Err(Halt::Stops(Completion::no_expansion(alloc)?));
     }
     let mut text = String::new(alloc);
-    subst_pieces(alloc, state, world, depth, &word.pieces, &mut text)?;
+    subst_pieces(
+        alloc,
+        state,
+        world,
+        depth,
+        MOST_LEVELS,
+        word.pieces.as_slice(),
+        &mut text,
+    )?;
     Ok(Value::of_text(RcStr::from_string(text)?))
 }
 
-// Substitutes pieces, from left to right, and adds their texts to one.
+// Substitutes pieces, from left to right, and adds their texts to one. Their array indices stand in one another at most
+// `levels` deep.
 #[cycle(evaluate)]
 fn subst_pieces<R: Input, W: Output>(
     alloc: Global,
     state: &mut Evaluation,
     world: &mut World<'_, R, W>,
     depth: u32,
+    levels: u32,
     pieces: &[Piece<'_>],
     text: &mut String,
 ) -> Result<(), Halt>
-    requires { depth ≤ most_depth }
+    requires shallow { depth ≤ most_depth }
+    requires nests { PartsNest levels (parts_of (map part_of pieces.now)) }
     ensures spends { state.new.units ≤ state.old.units }
     ensures run { AddsText (chars (string_bytes text.old)) (chars (string_bytes text.new)) result (exec Run (word_text depth (map part_of pieces.now)) (shown W.written state.old world.old)) (shown W.written state.new world.new) }
     ensures leaves { Leaves R.to_come W.failed_calls (value_is_io result) world.old world.new }
 {
     'pieces: for piece in pieces {
-        subst_piece(alloc, state, world, depth, piece, text)?;
+        subst_piece(alloc, state, world, depth, levels, piece, text)?;
     }
     Ok(())
 }
 
-// Substitutes one piece, and adds its text to one.
+// Substitutes one piece, and adds its text to one. Its array indices stand in one another at most `levels` deep.
 #[cycle(evaluate)]
 fn subst_piece<R: Input, W: Output>(
     alloc: Global,
     state: &mut Evaluation,
     world: &mut World<'_, R, W>,
     depth: u32,
+    levels: u32,
     piece: &Piece<'_>,
     text: &mut String,
 ) -> Result<(), Halt>
-    requires { depth ≤ most_depth }
+    requires shallow { depth ≤ most_depth }
+    requires nests { PartNests levels (part_of piece.now) }
     ensures spends { state.new.units ≤ state.old.units }
     ensures run { AddsText (chars (string_bytes text.old)) (chars (string_bytes text.new)) result (exec Run (piece_text depth (part_of piece.now)) (shown W.written state.old world.old)) (shown W.written state.new world.new) }
     ensures leaves { Leaves R.to_come W.failed_calls (value_is_io result) world.old world.new }
@@ -193,7 +210,7 @@ fn subst_piece<R: Input, W: Output>(
             let mut element = String::new(alloc);
             push_text(&mut element, name.text)?;
             push(&mut element, '(')?;
-            subst_pieces(alloc, state, world, depth, index, &mut element)?;
+            subst_pieces(alloc, state, world, depth, levels - 1, index, &mut element)?;
             push(&mut element, ')')?;
             add_variable(alloc, &state.variables, element.as_str(), text)
         }

@@ -1,12 +1,12 @@
 //! What a word calls, and the texts of variables.
-ghost use Rattle.std.specs.Prelude.{◌≡◌, ℕ, List, codes, Option};
+ghost use Rattle.std.specs.Prelude.{◌≡◌, ℕ, List, codes, Option, false};
 ghost use Rattle.std.specs.Str.{chars};
 ghost use Rattle.std.specs.String.{string_bytes};
 ghost use Rattle.tcl_meaning.specs.Effects.{exec};
 ghost use Rattle.tcl_meaning.specs.Pages.{same_text};
 ghost use Rattle.tcl_meaning.specs.Substitution.{read};
 ghost use Rattle.tcl_meaning.specs.Script.{Run, invoke, page_named, page_of};
-ghost use Rattle.tcl_interp.specs.Endings.{Follows, AddsText, is_io};
+ghost use Rattle.tcl_interp.specs.Endings.{Follows, AddsText, is_io, value_is_io};
 ghost use Rattle.tcl_interp.specs.Shown.{shown, set_state, Leaves};
 
 use crate::completion::Completion;
@@ -29,7 +29,8 @@ pub(crate) fn add_variable(
     name: &str,
     text: &mut String,
 ) -> Result<(), Halt>
-    ensures { (out err : Option (List ℕ)) (units : ℕ) → AddsText (chars (string_bytes text.old)) (chars (string_bytes text.new)) result (exec Run (read (chars name.now)) (set_state variables.now out err units)) (set_state variables.now out err units) }
+    ensures quiet { value_is_io result ≡ false }
+    ensures run { (out err : Option (List ℕ)) (units : ℕ) → AddsText (chars (string_bytes text.old)) (chars (string_bytes text.new)) result (exec Run (read (chars name.now)) (set_state variables.now out err units)) (set_state variables.now out err units) }
 {
     match variables.find(name) {
         Ok(value) => {

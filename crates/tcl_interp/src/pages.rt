@@ -1,5 +1,5 @@
 //! The commands that run no script: set(n), puts(n).
-ghost use Rattle.std.specs.Prelude.{◌≡◌, ℕ, List, codes, Option, Ok, IfOk, if◌then◌else◌};
+ghost use Rattle.std.specs.Prelude.{◌≡◌, ℕ, List, codes, Option, Ok, false, IfOk, if◌then◌else◌};
 ghost use Rattle.std.specs.Str.{chars};
 ghost use Rattle.tcl_meaning.specs.Effects.{exec};
 ghost use Rattle.tcl_meaning.specs.Completions.{failure, wrong_words};
@@ -29,7 +29,8 @@ pub(crate) fn set_page(
     variables: &mut Variables,
     args: &[Value],
 ) -> Result<Completion, Fault>
-    ensures { (out err : Option (List ℕ)) (units : ℕ) → Follows result (exec Run (set_page args.now) (set_state variables.old out err units)) (set_state variables.new out err units) }
+    ensures quiet { is_io result ≡ false }
+    ensures run { (out err : Option (List ℕ)) (units : ℕ) → Follows result (exec Run (set_page args.now) (set_state variables.old out err units)) (set_state variables.new out err units) }
 {
     match args {
         [name] => read_variable(alloc, variables, name.as_str()),
@@ -47,7 +48,8 @@ fn set_usage(alloc: Global) -> Result<Completion, AllocError>
 
 // Answers the value of a variable.
 fn read_variable(alloc: Global, variables: &Variables, name: &str) -> Result<Completion, Fault>
-    ensures { (out err : Option (List ℕ)) (units : ℕ) → Follows result (exec Run (after_get (chars name.now) (get variables.now (chars name.now))) (set_state variables.now out err units)) (set_state variables.now out err units) }
+    ensures quiet { is_io result ≡ false }
+    ensures run { (out err : Option (List ℕ)) (units : ℕ) → Follows result (exec Run (after_get (chars name.now) (get variables.now (chars name.now))) (set_state variables.now out err units)) (set_state variables.now out err units) }
 {
     match variables.find(name) {
         Ok(value) => Ok(Completion::normal(value.copy()?)),
@@ -62,7 +64,8 @@ fn write_variable(
     name: &str,
     value: &Value,
 ) -> Result<Completion, Fault>
-    ensures { (out err : Option (List ℕ)) (units : ℕ) → Follows result (exec Run (after_put (chars name.now) value.now (put variables.old (chars name.now) value.now)) (set_state variables.old out err units)) (set_state variables.new out err units) }
+    ensures quiet { is_io result ≡ false }
+    ensures run { (out err : Option (List ℕ)) (units : ℕ) → Follows result (exec Run (after_put (chars name.now) value.now (put variables.old (chars name.now) value.now)) (set_state variables.old out err units)) (set_state variables.new out err units) }
 {
     let answer = value.copy()?;
     match variables.put(alloc, name, value.copy()?) {
