@@ -1,4 +1,5 @@
 pub mod Adding
+pub mod Evaluating
 pub mod Leaving
 pub mod Messages
 pub mod NameEnds

@@ -96,6 +96,9 @@ words_after d done ws = words_text d ws >>= (λ more. give (done ++ more))
 abbrev pub shape_text : ℕ → Shape → Prog (Value (List ℕ))
 shape_text d w = one_word d w.expands w.pieces
 
+pub word_start : (d : ℕ) (ps : List Part) (s : State) → exec Run (word_text d ps) s ≡ exec Run (word_after d [] ps) s
+word_start d ps s = sym (gather_start (λ b. b) (λ b. refl) (word_text d ps) s)
+
 pub words_start : (d : ℕ) (ws : List Shape) (s : State) → exec Run (words_text d ws) s ≡ exec Run (words_after d [] ws) s
 words_start d ws s = sym (gather_start (λ b. b) (λ b. refl) (words_text d ws) s)
 
