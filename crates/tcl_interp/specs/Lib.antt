@@ -1,7 +1,9 @@
 pub mod Endings
 pub mod Faults
+pub mod Interps
 pub mod Named
 pub mod Names
+pub mod Outcomes
 pub mod Puts
 pub mod Shown
 pub mod Values

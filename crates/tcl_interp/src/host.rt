@@ -1,9 +1,12 @@
-//! What a host asks of an interpreter, and why it has no answer.
+//! What a host asks of an interpreter, and what it is answered.
 ghost use Rattle.std.specs.Prelude.{◌≡◌};
 ghost use Rattle.tcl_interp.specs.Faults.{fault_of};
 ghost use Rattle.tcl_interp.specs.declared.host.VarFault.TheVariants as var;
+ghost use Rattle.tcl_interp.specs.declared.host.HostFault.TheVariants as host;
 
 use std::alloc::AllocError;
+use std::rc::RcStr;
+use tcl_chars::Dialect;
 use tcl_meaning::Refusal;
 
 /// Why a variable can't be read, written or linked: set(n), upvar(n).
@@ -47,5 +50,57 @@ impl From<AllocError> for VarFault {
 
     fn from(_refused: AllocError) -> VarFault {
         VarFault::Memory
+    }
+}
+
+/// How an interpreter is made.
+#[derive(Clone, Copy, Debug, PartialEq, Eq)]
+pub struct Config {
+    /// Which texts are numbers.
+    pub dialect: Dialect,
+}
+
+/// How an evaluation ended.
+#[derive(Debug, Drop)]
+pub enum Outcome {
+    /// The script ended by itself.
+    Done {
+        /// The return code: 0 is ok, 1 an error.
+        code: i64,
+        /// The result, or the error's message.
+        result: RcStr,
+        /// The return options, as catch(n) gives them.
+        options: RcStr,
+        /// The units that are left.
+        left: u64,
+    },
+    /// A unit was wanting.
+    Budget,
+    /// The script asked to end, with a status.
+    Exit(u8),
+    /// A growth was refused; the interpreter has failed.
+    Memory,
+    /// A device failed; the interpreter has failed.
+    Io,
+    /// The interpreter had failed before.
+    Failed,
+}
+
+/// Why a host has no answer.
+#[derive(Clone, Copy, Debug, PartialEq, Eq)]
+pub enum HostFault {
+    /// A growth was refused, and nothing has changed.
+    Memory,
+    /// The interpreter had failed before.
+    Failed,
+    /// The variable can't be read or written.
+    Var(VarFault),
+}
+
+impl From<AllocError> for HostFault {
+    ghost from_gives = { λ _ fault. fault ≡ host.Memory };
+
+    fn from(_refused: AllocError) -> HostFault {
+        HostFault::Memory
     }
 }

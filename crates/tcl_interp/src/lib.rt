@@ -6,10 +6,13 @@ mod evaluate;
 mod evaluation;
 mod fault;
 mod host;
+mod interp;
 mod lookup;
 mod names;
+mod outcome;
 mod pages;
 mod value;
 mod variables;
 
-pub use host::VarFault;
+pub use host::{Config, HostFault, Outcome, VarFault};
+pub use interp::Interp;

@@ -1,10 +1,22 @@
 -- A whole run: the arguments are put into variables, and the script is run.
-use Rattle.std.specs.Prelude.{ℕ, List, [], ◌∷◌, codes, Option, Some, None, length}
+use Rattle.std.specs.Prelude.{ℕ, ℤ, pos, List, [], ◌∷◌, codes, Option, Some, None, length}
 use Rattle.std.specs.FinMap as map
+use Rattle.tcl_meaning.specs.declared.code.Code.{Code}
+use Rattle.tcl_meaning.specs.declared.code.Code.TheVariants as code
 use Rattle.tcl_meaning.specs.Completions.{Completion, normal, failure}
 use Rattle.tcl_meaning.specs.State.{Variable, text, Variables, Store, State}
 use Rattle.tcl_meaning.specs.Effects.{Script, Got, Gives}
 use Rattle.tcl_meaning.specs.Script.{Run}
+
+-- the number of a return code: return(n), RETURN CODES
+abbrev pub code_number : Code → ℤ
+code_number code.Ok = pos 0
+code_number code.Error = pos 1
+
+-- the return options of a completion: catch(n)
+abbrev pub options_text : Code → List ℕ
+options_text code.Ok = codes "-code 0 -level 0"
+options_text code.Error = codes "-code 1 -level 0"
 
 -- what a script comes to that nothing runs
 abbrev pub run_script : List ℕ → State → Got Completion

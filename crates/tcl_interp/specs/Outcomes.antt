@@ -1,0 +1,77 @@
+-- How an evaluation ended, as a host sees it.
+use Rattle.std.specs.Prelude.{◌≡◌, ℕ, Bool, true, false, List, Option, Result, Ok, Err}
+use Rattle.tcl_names.specs.Named.{text_of}
+use Rattle.tcl_meaning.specs.State.{Variables, State}
+use Rattle.tcl_meaning.specs.Completions as meaning
+use Rattle.tcl_meaning.specs.Effects.{Got, Gives, Broke}
+use Rattle.tcl_meaning.specs.Beginnings.{state_of, OutputsBegin}
+use Rattle.tcl_meaning.specs.Run.{code_number, options_text}
+use Rattle.tcl_interp.specs.Endings.{completion_of}
+use Rattle.tcl_interp.specs.Shown.{set_state}
+use Rattle.tcl_interp.specs.declared.completion.Completion.{Completion}
+use Rattle.tcl_interp.specs.declared.fault.Fault.{Fault}
+use Rattle.tcl_interp.specs.declared.fault.Fault.TheVariants as fault
+use Rattle.tcl_interp.specs.declared.host.Outcome.{Outcome}
+use Rattle.tcl_interp.specs.declared.host.Outcome.TheVariants as outcome
+
+-- the interpreter has failed after this
+abbrev pub outcome_fails : Outcome → Bool
+outcome_fails (outcome.Done code result options left) = false
+outcome_fails outcome.Budget = false
+outcome_fails (outcome.Exit status) = false
+outcome_fails outcome.Memory = true
+outcome_fails outcome.Io = true
+outcome_fails outcome.Failed = false
+
+-- a device failed
+abbrev pub outcome_is_io : Outcome → Bool
+outcome_is_io (outcome.Done code result options left) = false
+outcome_is_io outcome.Budget = false
+outcome_is_io (outcome.Exit status) = false
+outcome_is_io outcome.Memory = false
+outcome_is_io outcome.Io = true
+outcome_is_io outcome.Failed = false
+
+-- the outcome of a completion with so many units left
+abbrev pub IsOutcomeOf : Outcome → Completion → ℕ → Type 0
+IsOutcomeOf (outcome.Done code result options left) c n =
+    (code ≡ code_number c.code) × (text_of result ≡ c.result) × (text_of options ≡ options_text c.code) × (left ≡ n)
+IsOutcomeOf outcome.Budget c n = ⊥
+IsOutcomeOf (outcome.Exit status) c n = ⊥
+IsOutcomeOf outcome.Memory c n = ⊥
+IsOutcomeOf outcome.Io c n = ⊥
+IsOutcomeOf outcome.Failed c n = ⊥
+
+-- the outcome of an evaluation; memory may be refused in its place
+abbrev pub Tells : Outcome → Result Completion Fault → ℕ → Type 0
+Tells (outcome.Done code result options left) (Ok c) n = IsOutcomeOf (outcome.Done code result options left) c n
+Tells outcome.Memory (Ok c) n = Unit {0}
+Tells outcome.Budget (Ok c) n = ⊥
+Tells (outcome.Exit status) (Ok c) n = ⊥
+Tells outcome.Io (Ok c) n = ⊥
+Tells outcome.Failed (Ok c) n = ⊥
+Tells o (Err fault.Budget) n = o ≡ outcome.Budget
+Tells o (Err fault.Memory) n = o ≡ outcome.Memory
+Tells o (Err fault.Io) n = o ≡ outcome.Io
+
+-- what a run that ended by itself says
+pub record IsDone (o : Outcome) (got : Got meaning.Completion) (vs : Variables) (out err : Option (List ℕ)) : Type 0 where
+  pub completion : Completion
+  pub left : ℕ
+  pub same : got ≡ Gives (completion_of completion) (set_state vs out err left)
+  pub tells : IsOutcomeOf o completion left
+
+-- a run in which a unit was wanting
+pub record IsBroke (got : Got meaning.Completion) (vs : Variables) (out err : Option (List ℕ)) : Type 0 where
+  pub left : ℕ
+  pub same : got ≡ Broke (set_state vs out err left)
+
+-- The outcome, the variables and the outputs are those of the run; where memory was refused or a device failed, the
+-- outputs are beginnings of the run's.
+abbrev pub Ends : Outcome → Got meaning.Completion → Variables → Option (List ℕ) → Option (List ℕ) → Type 0
+Ends (outcome.Done code result options left) got vs out err = IsDone (outcome.Done code result options left) got vs out err
+Ends outcome.Budget got vs out err = IsBroke got vs out err
+Ends outcome.Memory got vs out err = OutputsBegin (set_state vs out err 0) (state_of got)
+Ends outcome.Io got vs out err = OutputsBegin (set_state vs out err 0) (state_of got)
+Ends (outcome.Exit status) got vs out err = ⊥
+Ends outcome.Failed got vs out err = ⊥

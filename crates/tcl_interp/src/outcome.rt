@@ -1,0 +1,73 @@
+//! How an evaluation ended, as a host sees it.
+ghost use Rattle.std.specs.Prelude.{◌≡◌, IfOk};
+ghost use Rattle.std.specs.Str.{chars};
+ghost use Rattle.tcl_meaning.specs.Run.{code_number, options_text};
+ghost use Rattle.tcl_interp.specs.Outcomes.{Tells, IsOutcomeOf, outcome_fails};
+
+use crate::completion::Completion;
+use crate::fault::Fault;
+use crate::host::Outcome;
+use std::alloc::{AllocError, Global};
+use std::rc::RcStr;
+use tcl_meaning::Code;
+
+// The number of a return code.
+fn code_number(code: Code) -> i64
+    ensures { result ≡ code_number code }
+{
+    match code {
+        Code::Ok => 0,
+        Code::Error => 1,
+    }
+}
+
+// The return options of a code.
+fn options_text(code: Code) -> &'static str
+    ensures { chars result.now ≡ options_text code }
+{
+    match code {
+        Code::Ok => "-code 0 -level 0",
+        Code::Error => "-code 1 -level 0",
+    }
+}
+
+// The outcome of a script that ended by itself.
+fn done(alloc: Global, completion: Completion, left: u64) -> Result<Outcome, AllocError>
+    ensures { IfOk result (λ outcome. IsOutcomeOf outcome completion left) }
+{
+    let code = code_number(completion.code);
+    let options = RcStr::from_str(alloc, options_text(completion.code))?;
+    let result = completion.result.into_text(alloc)?;
+    Ok(Outcome::Done {
+        code,
+        result,
+        options,
+        left,
+    })
+}
+
+/// The outcome of an evaluation that left so many units.
+pub(crate) fn outcome_of(
+    alloc: Global,
+    ended: Result<Completion, Fault>,
+    left: u64,
+) -> Outcome
+    ensures { Tells result ended left }
+{
+    match ended {
+        Ok(completion) => match done(alloc, completion, left) {
+            Ok(outcome) => outcome,
+            Err(_) => Outcome::Memory,
+        },
+        Err(Fault::Budget) => Outcome::Budget,
+        Err(Fault::Memory) => Outcome::Memory,
+        Err(Fault::Io) => Outcome::Io,
+    }
+}
+
+/// Has an interpreter failed after this outcome?
+pub(crate) fn outcome_fails(outcome: &Outcome) -> bool
+    ensures { result ≡ outcome_fails outcome.now }
+{
+    matches!(outcome, Outcome::Memory | Outcome::Io)
+}
