@@ -1,11 +1,10 @@
 -- What an interpreter shows.
-use Rattle.std.specs.Prelude.{◌≡◌, ℕ, Bool, List, Option, Some, None, Result, Ok, Err, refl}
+use Rattle.std.specs.Prelude.{Bool, refl}
 use Rattle.std.specs.Coded.{Coded, code_by, coded×, coded_bool}
 use Rattle.tcl_chars.specs.declared.numbers.Dialect.{Dialect}
 use Rattle.tcl_chars.specs.contracts.numbers.Dialect as dialect
 use Rattle.tcl_names.specs.Named.{Named, named_code}
-use Rattle.tcl_meaning.specs.State.{Variable, Variables}
-use Rattle.tcl_meaning.specs.declared.refusal.Refusal.{Refusal}
+use Rattle.tcl_meaning.specs.State.{Variable}
 use Rattle.tcl_interp.specs.VariableCode.{variable_code}
 
 -- its dialect, the global variables, and whether it has failed
@@ -16,8 +15,3 @@ pub record Shows : Type 0 where
 
 abbrev pub shows_code : Coded Shows
 shows_code = code_by (Dialect × (Named Variable × Bool)) (coded× dialect.the_row.coded (coded× (named_code variable_code) coded_bool)) (λ s. (s.dialect, (s.globals, s.failed))) (λ p. record { dialect = p.0; globals = p.1.0; failed = p.1.1 }) (λ _. refl)
-
--- a variable's text, for a host
-abbrev pub host_text : Result (List ℕ) Refusal → Option (List ℕ)
-host_text (Ok t) = Some t
-host_text (Err refusal) = None

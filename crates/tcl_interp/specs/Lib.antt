@@ -1,5 +1,6 @@
 pub mod Endings
 pub mod Faults
+pub mod HostVars
 pub mod Interps
 pub mod Named
 pub mod Names

@@ -60,6 +60,15 @@ pub struct Config {
     pub dialect: Dialect,
 }
 
+/// A variable, as a host sees it.
+#[derive(Debug, Drop)]
+pub enum HostVar {
+    /// Its text.
+    Text(RcStr),
+    /// The elements of an array, by name in the order of code points.
+    Array(Vec<(RcStr, RcStr)>),
+}
+
 /// How an evaluation ended.
 #[derive(Debug, Drop)]
 pub enum Outcome {

@@ -1,20 +1,27 @@
 //! The interpreter.
-ghost use Rattle.std.specs.Prelude.{◌≡◌, ◌↔◌, true, false, IsTrue, IfOk, OnOk, OnErr, Ok, option_map};
+ghost use Rattle.std.specs.Prelude.{◌≡◌, ◌↔◌, false, IsTrue, IfOk, IfErr, IsErrOf, OnOk, OnErr, Ok, option_map};
 ghost use Rattle.std.specs.FinMap as map;
 ghost use Rattle.std.specs.Str.{chars};
 ghost use Rattle.tcl_chan.specs.Worlds.{stdout, stderr};
 ghost use Rattle.tcl_meaning.specs.Run.{run_script, first_state};
 ghost use Rattle.tcl_interp.specs.Outcomes.{Ends, outcome_fails, outcome_is_io};
 ghost use Rattle.tcl_interp.specs.Shown.{Leaves};
+ghost use Rattle.tcl_meaning.specs.Variables.{get, put};
+ghost use Rattle.tcl_names.specs.Named.{text_of};
+ghost use Rattle.tcl_interp.specs.Faults.{IsRefusal, RefusesPut};
+ghost use Rattle.tcl_interp.specs.HostVars.{host_text, AreAll};
+ghost use Rattle.tcl_interp.specs.declared.host.HostFault.TheVariants as host;
 ghost use Rattle.tcl_interp.specs.declared.host.Outcome.TheVariants as outcome;
 
 use crate::evaluate::eval_script;
 use crate::evaluation::Evaluation;
-use crate::host::{Config, Outcome};
+use crate::host::{Config, HostFault, HostVar, Outcome, VarFault};
 use crate::outcome::{outcome_fails, outcome_of};
-use crate::variables::Variables;
+use crate::value::Value;
+use crate::variables::{PutFault, Variables};
 use std::alloc::Global;
 use std::marker::Model;
+use std::rc::RcStr;
 use tcl_chan::device::{Input, Output};
 use tcl_chan::world::World;
 use tcl_chars::{Dialect, Fault};
@@ -91,5 +98,65 @@ impl Interp {
         let outcome = outcome_of(self.alloc, ended, self.evaluation.units);
         self.failed = outcome_fails(&outcome);
         outcome
+    }
+
+    /// The text of a global variable, or of an element; `None` where there is none, for an array, and for an element of
+    /// a text.
+    ///
+    /// # Errors
+    /// `Failed` where the interpreter has failed, `Memory` where a growth was refused.
+    pub fn var(&mut self, name: &str) -> Result<Option<RcStr>, HostFault>
+        ensures failed { IsErrOf result host.Failed ↔ IsTrue self.old.failed }
+        ensures text { IfOk result (λ text. option_map text_of text ≡ host_text (get self.old.globals (chars name.now))) }
+        ensures fault { IfErr result IsRefusal }
+        ensures same { self.new ≡ self.old }
+    {
+        if self.failed {
+            return Err(HostFault::Failed);
+        }
+        match self.evaluation.variables.find(name) {
+            Ok(value) => Ok(Some(value.copy()?.into_text(self.alloc)?)),
+            Err(_) => Ok(None),
+        }
+    }
+
+    /// Puts a text into a global variable or an element, which is made where it is missing.
+    ///
+    /// # Errors
+    /// `Failed` where the interpreter has failed, `Memory` where a growth was refused, `Var` where the variable can't be
+    /// written. The interpreter is then as it was.
+    pub fn set_var(&mut self, name: &str, text: &str) -> Result<(), HostFault>
+        ensures failed { IsErrOf result host.Failed ↔ IsTrue self.old.failed }
+        ensures done { OnOk result (put self.old.globals (chars name.now) (chars text.now) ≡ Ok self.new.globals) }
+        ensures refused { IfErr result (RefusesPut (put self.old.globals (chars name.now) (chars text.now))) }
+        ensures same { OnErr result (self.new ≡ self.old) }
+        ensures dialect { self.new.dialect ≡ self.old.dialect }
+        ensures sound { self.new.failed ≡ self.old.failed }
+    {
+        if self.failed {
+            return Err(HostFault::Failed);
+        }
+        let value = Value::from_str(self.alloc, text)?;
+        match self.evaluation.variables.put(self.alloc, name, value) {
+            Ok(()) => Ok(()),
+            Err(PutFault::Refused(refusal)) => Err(HostFault::Var(VarFault::from(refusal))),
+            Err(PutFault::Memory) => Err(HostFault::Memory),
+        }
+    }
+
+    /// The global variables, by name in the order of code points.
+    ///
+    /// # Errors
+    /// `Failed` where the interpreter has failed, `Memory` where a growth was refused.
+    pub fn vars(&mut self) -> Result<Vec<(RcStr, HostVar)>, HostFault>
+        ensures failed { IsErrOf result host.Failed ↔ IsTrue self.old.failed }
+        ensures all { IfOk result (λ vars. AreAll self.old.globals vars.items) }
+        ensures fault { IfErr result IsRefusal }
+        ensures same { self.new ≡ self.old }
+    {
+        if self.failed {
+            return Err(HostFault::Failed);
+        }
+        Ok(self.evaluation.variables.host_vars(self.alloc)?)
     }
 }

@@ -14,5 +14,5 @@ mod pages;
 mod value;
 mod variables;
 
-pub use host::{Config, HostFault, Outcome, VarFault};
+pub use host::{Config, HostFault, HostVar, Outcome, VarFault};
 pub use interp::Interp;

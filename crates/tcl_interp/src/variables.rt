@@ -1,5 +1,5 @@
 //! The variables of a script.
-ghost use Rattle.std.specs.Prelude.{◌≡◌, Some, None, Ok, Err, IfOk, IfErr, OnOk, OnErr, IsSome, option_map};
+ghost use Rattle.std.specs.Prelude.{◌≡◌, ◌∷◌, ◌++◌, [], Some, None, Ok, Err, IfOk, IfErr, OnOk, OnErr, IsSome, option_map};
 ghost use Rattle.std.specs.FinMap as map;
 ghost use Rattle.std.specs.Str.{chars};
 ghost use Rattle.std.specs.Option.{option_copied};
@@ -7,11 +7,14 @@ ghost use Rattle.tcl_meaning.specs.Variables.{get, get_in, put, put_in, put_name
 ghost use Rattle.tcl_meaning.specs.State.{text, array};
 ghost use Rattle.tcl_interp.specs.Puts.{Refuses};
 ghost use Rattle.tcl_interp.specs.Names.{name_of};
+ghost use Rattle.tcl_interp.specs.HostVars.{AreElements, IsVar, AreAll};
 
+use crate::host::HostVar;
 use crate::names::{Divided, divide};
 use crate::value::Value;
 use std::alloc::{AllocError, Global};
 use std::marker::Model;
+use std::rc::RcStr;
 use tcl_meaning::Refusal;
 use tcl_names::NameMap;
 
@@ -84,6 +87,16 @@ impl Variable {
                 Some(value) => Ok(value),
                 None => Err(Refusal::NoElement),
             },
+        }
+    }
+
+    // What a host sees of the variable.
+    fn host_var(&self, alloc: Global) -> Result<HostVar, AllocError>
+        ensures { IfOk result (λ var. IsVar (Some self.now) var) }
+    {
+        match &self.held {
+            Held::Text(value) => Ok(HostVar::Text(value.copy()?.into_text(alloc)?)),
+            Held::Array(elements) => Ok(HostVar::Array(host_elements(alloc, elements)?)),
         }
     }
 
@@ -192,4 +205,44 @@ impl Variables {
         self.map.insert(alloc, name.base, variable)?;
         Ok(())
     }
+
+    /// The variables as a host sees them, by name in the order of code points.
+    pub(crate) fn host_vars(&self, alloc: Global) -> Result<Vec<(RcStr, HostVar)>, AllocError>
+        ensures { IfOk result (λ vars. AreAll self.now vars.items) }
+    {
+        let mut vars = Vec::new(alloc);
+        let names = self.map.names(alloc)?;
+        'names: for name in names {
+            if let Some(variable) = self.map.get(name.as_str()) {
+                let var = variable.host_var(alloc)?;
+                push_pair(&mut vars, name, var)?;
+            }
+        }
+        Ok(vars)
+    }
+}
+
+fn push_pair<V: Drop>(pairs: &mut Vec<(RcStr, V)>, name: RcStr, value: V) -> Result<(), AllocError>
+    ensures { OnOk result (pairs.new.items ≡ pairs.old.items ++ (name, value) ∷ []) }
+{
+    pairs.push((name, value))?;
+    Ok(())
+}
+
+// The elements of an array, by name in the order of code points.
+fn host_elements(
+    alloc: Global,
+    elements: &NameMap<Value>,
+) -> Result<Vec<(RcStr, RcStr)>, AllocError>
+    ensures { IfOk result (λ es. AreElements elements.now es.items) }
+{
+    let mut texts = Vec::new(alloc);
+    let names = elements.names(alloc)?;
+    'names: for name in names {
+        if let Some(value) = elements.get(name.as_str()) {
+            let text = value.copy()?.into_text(alloc)?;
+            push_pair(&mut texts, name, text)?;
+        }
+    }
+    Ok(texts)
 }
