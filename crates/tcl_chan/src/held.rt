@@ -6,7 +6,7 @@ ghost use Rattle.tcl_chan.specs.Sources.{Grew};
 
 use crate::device::{Broken, Input};
 use crate::fault::ChanFault;
-use std::alloc::{AllocError, Global};
+use std::alloc::Global;
 use std::marker::Model;
 
 // How many bytes a device is asked for at once.
@@ -29,12 +29,14 @@ impl Model for Held {
 }
 
 impl Held {
-    /// No bytes, and room for the first ones.
-    pub fn new(alloc: Global) -> Result<Held, AllocError>
-        ensures { IfOk result (λ held. held ≡ []) }
+    /// No bytes.
+    pub fn new(alloc: Global) -> Held
+        ensures { result ≡ [] }
     {
-        let bytes = Vec::with_capacity(alloc, CHUNK)?;
-        Ok(Held { bytes, taken: 0 })
+        Held {
+            bytes: Vec::new(alloc),
+            taken: 0,
+        }
     }
 
     /// The bytes.

@@ -10,7 +10,7 @@ ghost use Rattle.tcl_chan.specs.declared.fault.ChanFault.TheVariants.{Write, Mem
 
 use crate::device::{Input, Output};
 use crate::fault::{ChanFault, Out};
-use crate::source::Source;
+use crate::reading::Reader;
 use std::alloc::Global;
 use std::rc::RcStr;
 
@@ -49,26 +49,55 @@ fn flush_device<W: Output>(output: &mut W) -> Result<(), ChanFault>
 /// The characters of the input are those of its bytes, read as UTF-8, where each maximal ill-formed part is U+FFFD and
 /// then each CR LF is one LF, however the device cuts the bytes. The input ends at the device's first end and stays
 /// ended. On an output nothing is held back.
-#[derive(Drop)]
-pub struct World<'a, R: Input, W: Output> {
+///
+/// `S` is always `Reader`. It is a parameter, and each loan has a lifetime of its own, so that a caller's proof learns
+/// what its devices end as.
+pub struct World<'input, 'out, 'err, R: Input, W: Output, S: Drop = Reader> {
+    input: &'input mut R,
+    out: &'out mut W,
+    err: &'err mut W,
     alloc: Global,
-    source: Source<'a, R>,
-    out: &'a mut W,
-    err: &'a mut W,
+    reader: S,
 }
 
-impl<'a, R: Input, W: Output> World<'a, R, W> {
+impl<'input, 'out, 'err, R: Input, W: Output, S: Drop> Drop for World<'input, 'out, 'err, R, W, S> {
+    fn drop(self)
+        ensures input { self.exit.0.now ≡ self.entry.input.now }
+        ensures out { self.exit.1.0.now ≡ self.entry.out.now }
+        ensures err { self.exit.1.1.0.now ≡ self.entry.err.now }
+    {
+        let World {
+            input: _,
+            out: _,
+            err: _,
+            alloc: _,
+            reader,
+        } = self;
+        drop(reader);
+    }
+}
+
+impl<'input, 'out, 'err, R: Input, W: Output> World<'input, 'out, 'err, R, W, Reader> {
     ghost use Rattle.tcl_chan.specs.Worlds.{stdin, stdout, stderr, unread_of, met_end, LentTo, SameDevices, SameInput, SameOutputs};
 
-    /// A world over an input of which nothing was taken, and two outputs. It is refused for want of memory alone.
-    pub fn new(alloc: Global, input: &'a mut R, out: &'a mut W, err: &'a mut W) -> Result<World<'a, R, W>, ChanFault>
-        ensures devices { IfOk result (λ world. LentTo world input.entry out.entry err.entry) }
-        ensures unread { IfOk result (λ world. unread_of R.to_come world ≡ R.to_come input.old) }
-        ensures met_end { IfOk result (λ world. met_end world ≡ false) }
-        ensures fault { OnErr result (result ≡ Err Memory) }
+    /// A world over an input of which nothing was taken, and two outputs.
+    pub fn new(
+        alloc: Global,
+        input: &'input mut R,
+        out: &'out mut W,
+        err: &'err mut W,
+    ) -> World<'input, 'out, 'err, R, W, Reader>
+        ensures devices { LentTo result input.entry out.entry err.entry }
+        ensures unread { unread_of R.to_come result ≡ R.to_come input.old }
+        ensures met_end { met_end result ≡ false }
     {
-        let source = Source::new(alloc, input)?;
-        Ok(World { alloc, source, out, err })
+        World {
+            input,
+            out,
+            err,
+            alloc,
+            reader: Reader::new(alloc),
+        }
     }
 
     /// Writes the text to an output, as UTF-8 (puts(n)).
@@ -123,7 +152,7 @@ impl<'a, R: Input, W: Output> World<'a, R, W> {
         ensures outputs { SameOutputs self.old self.new }
         ensures devices { SameDevices self.old self.new }
     {
-        self.source.gets(self.alloc)
+        self.reader.gets(self.alloc, self.input)
     }
 
     /// Takes so many characters of the input, or all that are left where it has fewer or no count is given (read(n)).
@@ -138,7 +167,7 @@ impl<'a, R: Input, W: Output> World<'a, R, W> {
         ensures outputs { SameOutputs self.old self.new }
         ensures devices { SameDevices self.old self.new }
     {
-        self.source.read(self.alloc, count)
+        self.reader.read(self.alloc, self.input, count)
     }
 
     /// Whether a call met the input's end: `gets` that found no line feed, `read` of all, or `read` of more characters
@@ -146,6 +175,6 @@ impl<'a, R: Input, W: Output> World<'a, R, W> {
     pub fn eof(&self) -> bool
         ensures { result ≡ met_end self.now }
     {
-        self.source.eof()
+        self.reader.eof()
     }
 }

@@ -1,15 +1,14 @@
 use Rattle.std.proofs.Common.{◌≡◌, ◌≤◌, cond, Some, length, IfSome, ◌+◌, ◌-◌, ◌^◌}
 use Rattle.memchr.specs.Find.{Passes, Nowhere, is_byte}
 use Rattle.tcl_chan.specs.Devices.{unread, StaysLeft}
-use Rattle.tcl_chan.proofs.source.Source.line_end.Given as goal
+use Rattle.tcl_chan.proofs.reading.Reader.line_end.Given as goal
 
 abbrev pub invariant-search : goal.invariant-search
 invariant-search g l =
-    (l.self.input.ghost_name ≡ l.fn.self.input.ghost_name)
-    × (l.self.met_end ≡ l.fn.self.met_end)
-    × (g.R.Input.failed_calls l.self.input.now ≡ g.R.Input.failed_calls l.fn.self.input.now)
-    × StaysLeft (unread l.fn.self.held l.fn.self.ended (g.R.Input.to_come l.fn.self.input.now))
-    (unread l.self.held l.self.ended (g.R.Input.to_come l.self.input.now))
+    (l.self.met_end ≡ l.fn.self.met_end)
+    × (g.R.Input.failed_calls l.input ≡ g.R.Input.failed_calls l.fn.input)
+    × StaysLeft (unread l.fn.self.held l.fn.self.ended (g.R.Input.to_come l.fn.input))
+    (unread l.self.held l.self.ended (g.R.Input.to_come l.input))
     × (l.searched ≤ length l.self.held)
     × Nowhere (Passes (is_byte 10) l.self.held) 0 l.searched
 
