@@ -3,7 +3,7 @@ ghost use Rattle.std.specs.Prelude.{◌≡◌, ◌≤◌, ◌++◌, false, ℕ, 
 ghost use Rattle.std.specs.Rc.{rc_str_bytes};
 ghost use Rattle.tcl_chan.specs.Devices.{put, StaysLeft};
 ghost use Rattle.tcl_chan.specs.Faults.{write_failures, read_failures};
-ghost use Rattle.tcl_chan.specs.Outputs.{picked, other_than};
+ghost use Rattle.tcl_chan.specs.Outputs.{picked};
 ghost use Rattle.tcl_chan.specs.Sources.{TakesLine, TakesText};
 ghost use Rattle.tcl_chan.specs.Writing.{WroteFront};
 ghost use Rattle.tcl_chan.specs.declared.fault.ChanFault.TheVariants.{Write, Memory};
@@ -50,17 +50,17 @@ fn flush_device<W: Output>(output: &mut W) -> Result<(), ChanFault>
 /// then each CR LF is one LF, however the device cuts the bytes. The input ends at the device's first end and stays
 /// ended. On an output nothing is held back.
 ///
-/// `S` is always `Reader`. It is a parameter, and each loan has a lifetime of its own, so that a caller's proof learns
-/// what its devices end as.
-pub struct World<'input, 'out, 'err, R: Input, W: Output, S: Drop = Reader> {
+/// `S` is always `Reader`. It is a parameter, and each loan has a type and a lifetime of its own, so that a caller's proof
+/// learns what its devices end as.
+pub struct World<'input, 'out, 'err, R: Input, W: Output, E: Output, S: Drop = Reader> {
     input: &'input mut R,
     out: &'out mut W,
-    err: &'err mut W,
+    err: &'err mut E,
     alloc: Global,
     reader: S,
 }
 
-impl<'input, 'out, 'err, R: Input, W: Output, S: Drop> Drop for World<'input, 'out, 'err, R, W, S> {
+impl<'input, 'out, 'err, R: Input, W: Output, E: Output, S: Drop> Drop for World<'input, 'out, 'err, R, W, E, S> {
     fn drop(self)
         ensures input { self.exit.0.now ≡ self.entry.input.now }
         ensures out { self.exit.1.0.now ≡ self.entry.out.now }
@@ -77,16 +77,16 @@ impl<'input, 'out, 'err, R: Input, W: Output, S: Drop> Drop for World<'input, 'o
     }
 }
 
-impl<'input, 'out, 'err, R: Input, W: Output> World<'input, 'out, 'err, R, W, Reader> {
-    ghost use Rattle.tcl_chan.specs.Worlds.{stdin, stdout, stderr, unread_of, met_end, LentTo, SameDevices, SameInput, SameOutputs};
+impl<'input, 'out, 'err, R: Input, W: Output, E: Output> World<'input, 'out, 'err, R, W, E, Reader> {
+    ghost use Rattle.tcl_chan.specs.Worlds.{stdin, stdout, stderr, unread_of, met_end, LentTo, SameDevices, SameInput, SameOutputs, SameOther};
 
     /// A world over an input of which nothing was taken, and two outputs.
     pub fn new(
         alloc: Global,
         input: &'input mut R,
         out: &'out mut W,
-        err: &'err mut W,
-    ) -> World<'input, 'out, 'err, R, W, Reader>
+        err: &'err mut E,
+    ) -> World<'input, 'out, 'err, R, W, E, Reader>
         ensures devices { LentTo result input.entry out.entry err.entry }
         ensures unread { unread_of R.to_come result ≡ R.to_come input.old }
         ensures met_end { met_end result ≡ false }
@@ -102,16 +102,16 @@ impl<'input, 'out, 'err, R: Input, W: Output> World<'input, 'out, 'err, R, W, Re
 
     /// Writes the text to an output, as UTF-8 (puts(n)).
     pub fn puts(&mut self, to: Out, text: &str) -> Result<(), ChanFault>
-        ensures whole { OnOk result (W.written (picked to (stdout self.new) (stderr self.new))
-            ≡ put (W.written (picked to (stdout self.old) (stderr self.old))) text.now) }
-        ensures front { OnErr result (WroteFront (W.written (picked to (stdout self.old) (stderr self.old)))
-            (W.written (picked to (stdout self.new) (stderr self.new))) text.now) }
+        ensures whole { OnOk result (picked to (W.written (stdout self.new)) (E.written (stderr self.new))
+            ≡ put (picked to (W.written (stdout self.old)) (E.written (stderr self.old))) text.now) }
+        ensures front { OnErr result (WroteFront (picked to (W.written (stdout self.old)) (E.written (stderr self.old)))
+            (picked to (W.written (stdout self.new)) (E.written (stderr self.new))) text.now) }
         ensures fault { OnErr result (result ≡ Err Write) }
-        ensures failures { W.failed_calls (picked to (stdout self.new) (stderr self.new))
-            ≡ write_failures (W.failed_calls (picked to (stdout self.old) (stderr self.old))) result }
+        ensures failures { picked to (W.failed_calls (stdout self.new)) (E.failed_calls (stderr self.new))
+            ≡ write_failures (picked to (W.failed_calls (stdout self.old)) (E.failed_calls (stderr self.old))) result }
 
         // The rest stays.
-        ensures other { other_than to (stdout self.new) (stderr self.new) ≡ other_than to (stdout self.old) (stderr self.old) }
+        ensures other { SameOther to self.old self.new }
         ensures input { SameInput R.to_come self.old self.new }
         ensures devices { SameDevices self.old self.new }
     {
@@ -123,14 +123,14 @@ impl<'input, 'out, 'err, R: Input, W: Output> World<'input, 'out, 'err, R, W, Re
 
     /// Flushes an output (flush(n)).
     pub fn flush(&mut self, to: Out) -> Result<(), ChanFault>
-        ensures written { W.written (picked to (stdout self.new) (stderr self.new))
-            ≡ W.written (picked to (stdout self.old) (stderr self.old)) }
+        ensures written { picked to (W.written (stdout self.new)) (E.written (stderr self.new))
+            ≡ picked to (W.written (stdout self.old)) (E.written (stderr self.old)) }
         ensures fault { OnErr result (result ≡ Err Write) }
-        ensures failures { W.failed_calls (picked to (stdout self.new) (stderr self.new))
-            ≡ write_failures (W.failed_calls (picked to (stdout self.old) (stderr self.old))) result }
+        ensures failures { picked to (W.failed_calls (stdout self.new)) (E.failed_calls (stderr self.new))
+            ≡ write_failures (picked to (W.failed_calls (stdout self.old)) (E.failed_calls (stderr self.old))) result }
 
         // The rest stays.
-        ensures other { other_than to (stdout self.new) (stderr self.new) ≡ other_than to (stdout self.old) (stderr self.old) }
+        ensures other { SameOther to self.old self.new }
         ensures input { SameInput R.to_come self.old self.new }
         ensures devices { SameDevices self.old self.new }
     {
