@@ -7,6 +7,7 @@ use crate::memory::{MemoryInput, MemoryOutput};
 use crate::pieces::OneByte;
 use crate::world::World;
 use std::alloc::Global;
+use std::rc::RcStr;
 use std::string::String;
 use std::test::Fail;
 
@@ -90,55 +91,85 @@ fn texts_of_rows(rt: HostRuntime) -> Result<(), Fail> {
     Ok(())
 }
 
-#[test]
-fn lines_and_texts_take_turns(rt: HostRuntime) -> Result<(), Fail> {
-    let alloc = rt.alloc();
-    let mut input = OneByte::new(MemoryInput::new(b"ab\r\ncd\nef"));
+/// A character, the rest of the line, a line with its end, and the last line.
+fn by_turns<R: Input>(alloc: Global, input: &mut R) -> Result<String, ChanFault> {
     let mut out = MemoryOutput::new(alloc, 0)?;
     let mut err = MemoryOutput::new(alloc, 0)?;
-    let mut world = World::new(alloc, &mut input, &mut out, &mut err);
-    assert_eq!(rt; world.read(Some(1))?.as_str(), "a");
-    assert_eq!(rt; world.gets()?.ok_or("no line")?.as_str(), "b");
-    assert_eq!(rt; world.read(Some(3))?.as_str(), "cd\n");
-    assert!(rt; !world.eof());
-    assert_eq!(rt; world.gets()?.ok_or("no line")?.as_str(), "ef");
-    assert!(rt; world.eof());
+    let mut world = World::new(alloc, input, &mut out, &mut err);
+    let mut shown = String::new(alloc);
+    shown.push_str(&world.read(Some(1))?)?;
+    shown.push(';')?;
+    if let Some(line) = world.gets()? {
+        shown.push_str(&line)?;
+    }
+    shown.push(';')?;
+    shown.push_str(&world.read(Some(3))?)?;
+    shown.push(if world.eof() { '!' } else { ';' })?;
+    if let Some(line) = world.gets()? {
+        shown.push_str(&line)?;
+    }
+    shown.push(if world.eof() { '!' } else { ';' })?;
+    Ok(shown)
+}
+
+#[test]
+fn lines_and_texts_take_turns(rt: HostRuntime) -> Result<(), Fail> {
+    let mut input = OneByte::new(MemoryInput::new(b"ab\r\ncd\nef"));
+    assert_eq!(rt; by_turns(rt.alloc(), &mut input)?.as_str(), "a;b;cd\n;ef!");
     Ok(())
+}
+
+/// What a `read` of all and then a `gets` answer, and whether the end was met between them.
+fn read_again<R: Input>(
+    alloc: Global,
+    input: &mut R,
+) -> Result<(Option<ChanFault>, bool, Option<RcStr<Global>>), ChanFault> {
+    let mut out = MemoryOutput::new(alloc, 0)?;
+    let mut err = MemoryOutput::new(alloc, 0)?;
+    let mut world = World::new(alloc, input, &mut out, &mut err);
+    let fault = world.read(None).err();
+    let end = world.eof();
+    Ok((fault, end, world.gets()?))
 }
 
 #[test]
 fn after_a_fault_the_input_is_as_it_was(rt: HostRuntime) -> Result<(), Fail> {
-    let alloc = rt.alloc();
     for fail_read in 1..4u64 {
         let mut input = FaultyInput::new(OneByte::new(MemoryInput::new(b"x\n")), fail_read);
-        let mut out = MemoryOutput::new(alloc, 0)?;
-        let mut err = MemoryOutput::new(alloc, 0)?;
-        let mut world = World::new(alloc, &mut input, &mut out, &mut err);
-        assert_eq!(rt; world.read(None).err(), Some(ChanFault::Read));
-        assert!(rt; !world.eof());
-        assert_eq!(rt; world.gets()?.ok_or("no line")?.as_str(), "x");
-        drop(world);
+        let (fault, end, line) = read_again(rt.alloc(), &mut input)?;
+        assert_eq!(rt; fault, Some(ChanFault::Read));
+        assert!(rt; !end);
+        assert_eq!(rt; line.ok_or("no line")?.as_str(), "x");
         assert_eq!(rt; input.failures(), 1);
         assert_eq!(rt; input.inner().failures(), 0);
     }
     Ok(())
 }
 
-#[test]
-fn long_lines(rt: HostRuntime) -> Result<(), Fail> {
-    let alloc = rt.alloc();
-    let mut bytes = Vec::new(alloc);
-    for length in 0..300usize {
-        bytes.resize(bytes.len() + 97 * length, b'x')?;
-        bytes.push(b'\n')?;
-    }
-    let mut input = MemoryInput::new(&bytes);
+/// The lengths of all lines, summed up with their numbers, from 1.
+fn weighed_lengths<R: Input>(alloc: Global, input: &mut R) -> Result<u64, ChanFault> {
     let mut out = MemoryOutput::new(alloc, 0)?;
     let mut err = MemoryOutput::new(alloc, 0)?;
-    let mut world = World::new(alloc, &mut input, &mut out, &mut err);
-    for length in 0..300usize {
-        assert_eq!(rt; world.gets()?.ok_or("no line")?.len(), 97 * length);
+    let mut world = World::new(alloc, input, &mut out, &mut err);
+    let mut sum = 0u64;
+    for number in 1..u64::MAX {
+        match world.gets()? {
+            Some(line) => sum = sum.wrapping_add(number.wrapping_mul(line.len() as u64)),
+            None => break,
+        }
     }
-    assert!(rt; world.gets()?.is_none());
+    Ok(sum)
+}
+
+#[test]
+fn long_lines(rt: HostRuntime) -> Result<(), Fail> {
+    let mut bytes = Vec::new(rt.alloc());
+    let mut want = 0u64;
+    for length in 0..300usize {
+        bytes.resize(bytes.len().wrapping_add(97 * length), b'x')?;
+        bytes.push(b'\n')?;
+        want = want.wrapping_add((length as u64 + 1) * (97 * length as u64));
+    }
+    assert_eq!(rt; weighed_lengths(rt.alloc(), &mut MemoryInput::new(&bytes))?, want);
     Ok(())
 }

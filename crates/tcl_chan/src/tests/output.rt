@@ -1,5 +1,5 @@
 //! Rows of output: what is written, over devices that take all, a byte a call, or fail.
-use crate::device::Output;
+use crate::device::{Input, Output};
 use crate::fault::{ChanFault, Out};
 use crate::faulty::FaultyOutput;
 use crate::memory::{MemoryInput, MemoryOutput};
@@ -7,6 +7,25 @@ use crate::pieces::OneByte;
 use crate::world::World;
 use std::alloc::{AllocError, Global};
 use std::test::Fail;
+
+/// What four calls of `puts` answer.
+type Answers = [Result<(), ChanFault>; 4];
+
+/// Writes four texts to these outputs.
+fn write_texts<R: Input, W: Output, E: Output>(
+    alloc: Global,
+    input: &mut R,
+    out: &mut W,
+    err: &mut E,
+    texts: [(Out, &str); 4],
+) -> Answers {
+    let mut world = World::new(alloc, input, out, err);
+    let mut answers = [Ok(()); 4];
+    for (answer, (to, text)) in answers.iter_mut().zip(texts) {
+        *answer = world.puts(to, text);
+    }
+    answers
+}
 
 /// A device over memory that takes a byte a call, and fails at these calls.
 fn device(
@@ -20,16 +39,11 @@ fn device(
 #[test]
 fn a_failing_write_leaves_a_beginning(rt: HostRuntime) -> Result<(), Fail> {
     let alloc = rt.alloc();
-    let mut input = MemoryInput::new(b"");
     let mut out = device(alloc, 4, 0)?;
     let mut err = device(alloc, 0, 0)?;
-    let mut world = World::new(alloc, &mut input, &mut out, &mut err);
-    assert_eq!(rt; world.puts(Out::Stdout, "a\n"), Ok(()));
-    assert_eq!(rt; world.puts(Out::Stdout, "b\n"), Err(ChanFault::Write));
-    assert_eq!(rt; world.puts(Out::Stderr, "\u{E9}"), Ok(()));
-    assert_eq!(rt; world.puts(Out::Stdout, ""), Ok(()));
-    assert_eq!(rt; world.flush(Out::Stdout), Ok(()));
-    drop(world);
+    let texts = [(Out::Stdout, "a\n"), (Out::Stdout, "b\n"), (Out::Stderr, "\u{E9}"), (Out::Stdout, "")];
+    let answers = write_texts(alloc, &mut MemoryInput::new(b""), &mut out, &mut err, texts);
+    assert!(rt; answers == [Ok(()), Err(ChanFault::Write), Ok(()), Ok(())]);
     assert_eq!(rt; out.failures(), 1);
     assert_eq!(rt; out.inner().inner().bytes(), b"a\nb".as_slice());
     assert_eq!(rt; err.failures(), 0);
@@ -38,39 +52,43 @@ fn a_failing_write_leaves_a_beginning(rt: HostRuntime) -> Result<(), Fail> {
 }
 
 #[test]
-fn a_flush_reaches_its_device(rt: HostRuntime) -> Result<(), Fail> {
-    let alloc = rt.alloc();
-    for (to, other) in [(Out::Stdout, Out::Stderr), (Out::Stderr, Out::Stdout)] {
-        let (out_fault, err_fault) = if to == Out::Stdout { (1, 0) } else { (0, 1) };
-        let mut input = MemoryInput::new(b"");
-        let mut out = device(alloc, 0, out_fault)?;
-        let mut err = device(alloc, 0, err_fault)?;
-        let mut world = World::new(alloc, &mut input, &mut out, &mut err);
-        assert_eq!(rt; world.puts(to, "a\n"), Ok(()));
-        assert_eq!(rt; world.flush(other), Ok(()));
-        assert_eq!(rt; world.flush(to), Err(ChanFault::Write));
-        assert_eq!(rt; world.flush(to), Ok(()));
-        drop(world);
-        assert_eq!(rt; out.failures(), out_fault);
-        assert_eq!(rt; err.failures(), err_fault);
-    }
-    Ok(())
-}
-
-#[test]
 fn texts_past_the_capacity_are_refused_whole(rt: HostRuntime) -> Result<(), Fail> {
     let alloc = rt.alloc();
-    let mut input = MemoryInput::new(b"");
     let mut out = MemoryOutput::new(alloc, 3)?;
     let mut err = MemoryOutput::new(alloc, 0)?;
-    let mut world = World::new(alloc, &mut input, &mut out, &mut err);
-    assert_eq!(rt; world.puts(Out::Stdout, "ab"), Ok(()));
-    assert_eq!(rt; world.puts(Out::Stdout, "cd"), Err(ChanFault::Write));
-    assert_eq!(rt; world.puts(Out::Stdout, "c"), Ok(()));
-    assert_eq!(rt; world.puts(Out::Stderr, "x"), Err(ChanFault::Write));
-    drop(world);
+    let texts = [(Out::Stdout, "ab"), (Out::Stdout, "cd"), (Out::Stdout, "c"), (Out::Stderr, "x")];
+    let answers = write_texts(alloc, &mut MemoryInput::new(b""), &mut out, &mut err, texts);
+    assert!(rt; answers == [Ok(()), Err(ChanFault::Write), Ok(()), Err(ChanFault::Write)]);
     assert_eq!(rt; out.bytes(), b"abc".as_slice());
     assert_eq!(rt; out.failures(), 1);
     assert_eq!(rt; err.failures(), 1);
+    Ok(())
+}
+
+/// Flushes an output, the other one, and the first one again.
+fn flush_by_turns<R: Input, W: Output, E: Output>(
+    alloc: Global,
+    input: &mut R,
+    out: &mut W,
+    err: &mut E,
+    to: Out,
+    other: Out,
+) -> [Result<(), ChanFault>; 3] {
+    let mut world = World::new(alloc, input, out, err);
+    [world.flush(to), world.flush(other), world.flush(to)]
+}
+
+#[test]
+fn a_flush_reaches_its_device(rt: HostRuntime) -> Result<(), Fail> {
+    let alloc = rt.alloc();
+    let want = [Err(ChanFault::Write), Ok(()), Ok(())];
+    for (to, other, out_fault, err_fault) in [(Out::Stdout, Out::Stderr, 1, 0), (Out::Stderr, Out::Stdout, 0, 1)] {
+        let mut out = device(alloc, 0, out_fault)?;
+        let mut err = device(alloc, 0, err_fault)?;
+        let answers = flush_by_turns(alloc, &mut MemoryInput::new(b""), &mut out, &mut err, to, other);
+        assert!(rt; answers == want);
+        assert_eq!(rt; out.failures(), out_fault);
+        assert_eq!(rt; err.failures(), err_fault);
+    }
     Ok(())
 }
