@@ -1,5 +1,6 @@
 pub mod Devices
 pub mod Characters
+pub mod Ahead
 pub mod Sources
 pub mod Faults
 pub mod Writing

@@ -19,7 +19,8 @@ stdout w = w.out.now
 abbrev pub stderr : {R W E : Type 0} → World R W E Reader → E
 stderr w = w.err.now
 
--- The bytes of the input that no call took: those read ahead, and those still to come; where the device tells them, or has ended.
+-- The bytes of the input that no call took: those read ahead, and those still to come. Nothing is told of them where the device
+-- tells nothing and has not ended.
 abbrev pub unread_of : {R W E : Type 0} → (R → Option (List ℕ)) → World R W E Reader → Option (List ℕ)
 unread_of to_come w = unread w.reader.held w.reader.ended (to_come w.input.now)
 

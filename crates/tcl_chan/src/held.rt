@@ -2,7 +2,7 @@
 ghost use Rattle.std.specs.Prelude.{[], ◌≡◌, ◌≤◌, ◌<◌, ◌^◌, ℕ, false, List, Some, drop, length, IfSome, IfOk, OnOk, OnErr};
 ghost use Rattle.tcl_chan.specs.Devices.{unread};
 ghost use Rattle.tcl_chan.specs.Faults.{read_failures};
-ghost use Rattle.tcl_chan.specs.Sources.{Grew};
+ghost use Rattle.tcl_chan.specs.Ahead.{Grew};
 
 use crate::device::{Broken, Input};
 use crate::fault::ChanFault;

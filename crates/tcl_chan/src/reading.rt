@@ -6,7 +6,8 @@ ghost use Rattle.std.specs.String.{string_bytes};
 ghost use Rattle.tcl_chan.specs.Devices.{unread, StaysLeft};
 ghost use Rattle.tcl_chan.specs.Faults.{read_failures};
 ghost use Rattle.tcl_chan.specs.declared.fault.ChanFault.TheVariants.{Memory};
-ghost use Rattle.tcl_chan.specs.Sources.{Grew, Decides, TakesCount, TakesLine, TakesText};
+ghost use Rattle.tcl_chan.specs.Ahead.{Grew, Decides, TakesCount};
+ghost use Rattle.tcl_chan.specs.Sources.{TakesLine, TakesText};
 
 use crate::characters::{first_char, line_text, lossy_text};
 use crate::device::Input;
@@ -103,7 +104,12 @@ impl Reader {
 
     // The text of so many characters or, where there are fewer, of all, how many of the held bytes it is, and whether there
     // were fewer.
-    fn chars_ahead<R: Input>(&mut self, alloc: Global, input: &mut R, count: u64) -> Result<(String, usize, bool), ChanFault>
+    fn chars_ahead<R: Input>(
+        &mut self,
+        alloc: Global,
+        input: &mut R,
+        count: u64,
+    ) -> Result<(String, usize, bool), ChanFault>
         ensures failures { R.failed_calls input.new ≡ read_failures (R.failed_calls input.old) result }
         ensures met_end { self.new.met_end ≡ self.old.met_end }
         ensures unread { StaysLeft (unread self.old.held self.old.ended (R.to_come input.old))
@@ -134,7 +140,11 @@ impl Reader {
     }
 
     /// Takes a line and its line feed, or the rest; nothing where nothing is left.
-    pub(crate) fn gets<R: Input>(&mut self, alloc: Global, input: &mut R) -> Result<Option<RcStr<Global>>, ChanFault>
+    pub(crate) fn gets<R: Input>(
+        &mut self,
+        alloc: Global,
+        input: &mut R,
+    ) -> Result<Option<RcStr<Global>>, ChanFault>
         ensures failures { R.failed_calls input.new ≡ read_failures (R.failed_calls input.old) result }
         ensures line { IfSome (unread self.old.held self.old.ended (R.to_come input.old))
             (λ bytes. IfOk result (λ line. TakesLine bytes self.old.met_end (option_map rc_str_bytes line)
@@ -150,7 +160,11 @@ impl Reader {
     }
 
     // Takes the line that ends at a place, and its line feed.
-    fn whole_line(&mut self, alloc: Global, place: usize) -> Result<Option<RcStr<Global>>, ChanFault>
+    fn whole_line(
+        &mut self,
+        alloc: Global,
+        place: usize,
+    ) -> Result<Option<RcStr<Global>>, ChanFault>
         requires { IsFirstByte (is_byte 10) self.old.held (Some place) }
         ensures line { IfOk result (λ line. (device : Option (List ℕ)) → IfSome (unread self.old.held self.old.ended device)
             (λ bytes. TakesLine bytes self.old.met_end (option_map rc_str_bytes line)
@@ -185,7 +199,12 @@ impl Reader {
     }
 
     /// Takes so many characters, or all that are left.
-    pub(crate) fn read<R: Input>(&mut self, alloc: Global, input: &mut R, count: Option<u64>) -> Result<RcStr<Global>, ChanFault>
+    pub(crate) fn read<R: Input>(
+        &mut self,
+        alloc: Global,
+        input: &mut R,
+        count: Option<u64>,
+    ) -> Result<RcStr<Global>, ChanFault>
         ensures failures { R.failed_calls input.new ≡ read_failures (R.failed_calls input.old) result }
         ensures text { IfSome (unread self.old.held self.old.ended (R.to_come input.old))
             (λ bytes. IfOk result (λ text. TakesText count bytes self.old.met_end (rc_str_bytes text)

@@ -60,7 +60,8 @@ pub struct World<'input, 'out, 'err, R: Input, W: Output, E: Output, S: Drop = R
     reader: S,
 }
 
-impl<'input, 'out, 'err, R: Input, W: Output, E: Output, S: Drop> Drop for World<'input, 'out, 'err, R, W, E, S> {
+impl<'input, 'out, 'err, R: Input, W: Output, E: Output, S: Drop> Drop
+    for World<'input, 'out, 'err, R, W, E, S> {
     fn drop(self)
         ensures input { self.exit.0.now ≡ self.entry.input.now }
         ensures out { self.exit.1.0.now ≡ self.entry.out.now }
@@ -77,7 +78,15 @@ impl<'input, 'out, 'err, R: Input, W: Output, E: Output, S: Drop> Drop for World
     }
 }
 
-impl<'input, 'out, 'err, R: Input, W: Output, E: Output> World<'input, 'out, 'err, R, W, E, Reader> {
+impl<'input, 'out, 'err, R: Input, W: Output, E: Output> World<
+    'input,
+    'out,
+    'err,
+    R,
+    W,
+    E,
+    Reader,
+> {
     ghost use Rattle.tcl_chan.specs.Worlds.{stdin, stdout, stderr, unread_of, met_end, LentTo, SameDevices, SameInput, SameOutputs, SameOther};
 
     /// A world over an input of which nothing was taken, and two outputs.

@@ -65,7 +65,10 @@ fn standard_streams(rt: HostRuntime) {
     let mut input = StandardInput::new(rt.stdin());
     assert_eq!(rt; input.read(&mut []), Ok(0));
     assert_eq!(rt; input.failures(), 0);
-    for mut output in [StandardOutput::stdout(rt.stdout()), StandardOutput::stderr(rt.stderr())] {
+    for mut output in [
+        StandardOutput::stdout(rt.stdout()),
+        StandardOutput::stderr(rt.stderr()),
+    ] {
         assert_eq!(rt; output.write(b"ab"), Ok(2));
         assert_eq!(rt; output.write(b""), Ok(0));
         assert_eq!(rt; output.flush(), Ok(()));

@@ -33,13 +33,19 @@ fn lines_of_rows(rt: HostRuntime) -> Result<(), Fail> {
     let rows: [(&[u8], &str); 13] = [
         (b"a\r\nb", "a;b!none!none!"),
         (b"\xFF\n", "\u{FFFD};none!none!none!"),
-        (b"\xE2\x82\x41\xF0\x80\x80\n", "\u{FFFD}A\u{FFFD}\u{FFFD}\u{FFFD};none!none!none!"),
+        (
+            b"\xE2\x82\x41\xF0\x80\x80\n",
+            "\u{FFFD}A\u{FFFD}\u{FFFD}\u{FFFD};none!none!none!",
+        ),
         (b"a\r", "a\r!none!none!none!"),
         (b"a\r\r\nb\n", "a\r;b;none!none!"),
         (b"\ra\n", "\ra;none!none!none!"),
         (b"\r\n\r\n\n", ";;;none!"),
         (b"\xE2\x82", "\u{FFFD}!none!none!none!"),
-        (b"\xF0\x9F\x98\x80\xF0\x9F\x98\n\xF0\x9F\nx", "\u{1F600}\u{FFFD};\u{FFFD};x!none!"),
+        (
+            b"\xF0\x9F\x98\x80\xF0\x9F\x98\n\xF0\x9F\nx",
+            "\u{1F600}\u{FFFD};\u{FFFD};x!none!",
+        ),
         (b"\xEF\xBB\xBFa\n", "\u{FEFF}a;none!none!none!"),
         (b"", "none!none!none!none!"),
         (b"a\0b\n", "a\0b;none!none!none!"),
@@ -55,7 +61,11 @@ fn lines_of_rows(rt: HostRuntime) -> Result<(), Fail> {
 }
 
 /// What calls of `read` with these counts answer, marked as the lines are.
-fn texts<R: Input>(alloc: Global, input: &mut R, counts: [Option<u64>; 3]) -> Result<String, ChanFault> {
+fn texts<R: Input>(
+    alloc: Global,
+    input: &mut R,
+    counts: [Option<u64>; 3],
+) -> Result<String, ChanFault> {
     let mut out = MemoryOutput::new(alloc, 0)?;
     let mut err = MemoryOutput::new(alloc, 0)?;
     let mut world = World::new(alloc, input, &mut out, &mut err);
@@ -75,11 +85,27 @@ fn texts_of_rows(rt: HostRuntime) -> Result<(), Fail> {
         (b"abcd", [Some(9), None, Some(0)], "abcd!!!"),
         (b"abcd", [Some(4), Some(0), Some(1)], "abcd;;!"),
         (b"abcd", [None, None, None], "abcd!!!"),
-        (b"\xE2\x82\x41\xF0\x80\x80\n", [Some(2), Some(3), None], "\u{FFFD}A;\u{FFFD}\u{FFFD}\u{FFFD};\n!"),
-        (b"a\r\nb\r\r\nc\r", [Some(3), Some(2), None], "a\nb;\r\n;c\r!"),
+        (
+            b"\xE2\x82\x41\xF0\x80\x80\n",
+            [Some(2), Some(3), None],
+            "\u{FFFD}A;\u{FFFD}\u{FFFD}\u{FFFD};\n!",
+        ),
+        (
+            b"a\r\nb\r\r\nc\r",
+            [Some(3), Some(2), None],
+            "a\nb;\r\n;c\r!",
+        ),
         (b"\r\n\r\n", [Some(1), Some(1), Some(1)], "\n;\n;!"),
-        (b"\xF0\x9F\x98\x80\xF0\x9F\x98", [Some(1), Some(1), Some(1)], "\u{1F600};\u{FFFD};!"),
-        (b"\xEF\xBB\xBFa", [Some(1), Some(1), Some(1)], "\u{FEFF};a;!"),
+        (
+            b"\xF0\x9F\x98\x80\xF0\x9F\x98",
+            [Some(1), Some(1), Some(1)],
+            "\u{1F600};\u{FFFD};!",
+        ),
+        (
+            b"\xEF\xBB\xBFa",
+            [Some(1), Some(1), Some(1)],
+            "\u{FEFF};a;!",
+        ),
         (b"", [Some(0), Some(1), None], ";!!"),
     ];
     for (bytes, counts, want) in rows {
@@ -170,6 +196,9 @@ fn long_lines(rt: HostRuntime) -> Result<(), Fail> {
         bytes.push(b'\n')?;
         want = want.wrapping_add((length as u64 + 1) * (97 * length as u64));
     }
-    assert_eq!(rt; weighed_lengths(rt.alloc(), &mut MemoryInput::new(&bytes))?, want);
+    assert_eq!(rt;
+        weighed_lengths(rt.alloc(), &mut MemoryInput::new(&bytes))?,
+        want
+    );
     Ok(())
 }

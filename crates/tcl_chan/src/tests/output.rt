@@ -33,7 +33,11 @@ fn device(
     fail_write: u64,
     fail_flush: u64,
 ) -> Result<FaultyOutput<OneByte<MemoryOutput>>, AllocError> {
-    Ok(FaultyOutput::new(OneByte::new(MemoryOutput::new(alloc, 20)?), fail_write, fail_flush))
+    Ok(FaultyOutput::new(
+        OneByte::new(MemoryOutput::new(alloc, 20)?),
+        fail_write,
+        fail_flush,
+    ))
 }
 
 #[test]
@@ -41,7 +45,12 @@ fn a_failing_write_leaves_a_beginning(rt: HostRuntime) -> Result<(), Fail> {
     let alloc = rt.alloc();
     let mut out = device(alloc, 4, 0)?;
     let mut err = device(alloc, 0, 0)?;
-    let texts = [(Out::Stdout, "a\n"), (Out::Stdout, "b\n"), (Out::Stderr, "\u{E9}"), (Out::Stdout, "")];
+    let texts = [
+        (Out::Stdout, "a\n"),
+        (Out::Stdout, "b\n"),
+        (Out::Stderr, "\u{E9}"),
+        (Out::Stdout, ""),
+    ];
     let answers = write_texts(alloc, &mut MemoryInput::new(b""), &mut out, &mut err, texts);
     assert!(rt; answers == [Ok(()), Err(ChanFault::Write), Ok(()), Ok(())]);
     assert_eq!(rt; out.failures(), 1);
@@ -56,7 +65,12 @@ fn texts_past_the_capacity_are_refused_whole(rt: HostRuntime) -> Result<(), Fail
     let alloc = rt.alloc();
     let mut out = MemoryOutput::new(alloc, 3)?;
     let mut err = MemoryOutput::new(alloc, 0)?;
-    let texts = [(Out::Stdout, "ab"), (Out::Stdout, "cd"), (Out::Stdout, "c"), (Out::Stderr, "x")];
+    let texts = [
+        (Out::Stdout, "ab"),
+        (Out::Stdout, "cd"),
+        (Out::Stdout, "c"),
+        (Out::Stderr, "x"),
+    ];
     let answers = write_texts(alloc, &mut MemoryInput::new(b""), &mut out, &mut err, texts);
     assert!(rt; answers == [Ok(()), Err(ChanFault::Write), Ok(()), Err(ChanFault::Write)]);
     assert_eq!(rt; out.bytes(), b"abc".as_slice());
@@ -82,10 +96,20 @@ fn flush_by_turns<R: Input, W: Output, E: Output>(
 fn a_flush_reaches_its_device(rt: HostRuntime) -> Result<(), Fail> {
     let alloc = rt.alloc();
     let want = [Err(ChanFault::Write), Ok(()), Ok(())];
-    for (to, other, out_fault, err_fault) in [(Out::Stdout, Out::Stderr, 1, 0), (Out::Stderr, Out::Stdout, 0, 1)] {
+    for (to, other, out_fault, err_fault) in [
+        (Out::Stdout, Out::Stderr, 1, 0),
+        (Out::Stderr, Out::Stdout, 0, 1),
+    ] {
         let mut out = device(alloc, 0, out_fault)?;
         let mut err = device(alloc, 0, err_fault)?;
-        let answers = flush_by_turns(alloc, &mut MemoryInput::new(b""), &mut out, &mut err, to, other);
+        let answers = flush_by_turns(
+            alloc,
+            &mut MemoryInput::new(b""),
+            &mut out,
+            &mut err,
+            to,
+            other,
+        );
         assert!(rt; answers == want);
         assert_eq!(rt; out.failures(), out_fault);
         assert_eq!(rt; err.failures(), err_fault);

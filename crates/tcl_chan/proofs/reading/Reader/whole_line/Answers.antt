@@ -1,7 +1,7 @@
 use Rattle.std.proofs.Common.{◌+◌, drop, refl, subst, ap, take}
 use Rattle.std.specs.Rc.{rc_str_bytes}
 use Rattle.tcl_chan.specs.Devices.{unread}
-use Rattle.tcl_chan.specs.Sources.{IsLineOf}
+use Rattle.tcl_chan.specs.Ahead.{IsLineOf}
 use Rattle.tcl_chan.proofs.Gets.{gets-line, one_line-before, feed_at, stays_itself}
 use Rattle.tcl_chan.proofs.reading.Reader.whole_line.Goals as goal
 
