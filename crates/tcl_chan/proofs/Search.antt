@@ -1,5 +1,5 @@
 -- Where a byte stands, found in pieces.
-use Rattle.std.proofs.Common.{◌≡◌, ℕ, ◌+◌, ◌-◌, ◌<◌, ◌≤◌, Bool, true, List, ◌++◌, take, drop, length, length-append, length-drop, slice_index, Some, refl, sym, ap, subst, ◌∙◌, arith, get_or-drop, ⊎_elim}
+use Rattle.std.proofs.Common.{◌≡◌, ℕ, ◌+◌, ◌-◌, ◌<◌, ◌≤◌, Bool, List, take, drop, length, length-append, length-drop, slice_index, sym, ap, subst, ◌∙◌, arith, get_or-drop, ⊎_elim}
 use Rattle.std.proofs.lemmas.Bool.{cases_lt}
 use Rattle.std.proofs.lemmas.List.{take_all, get_or_append_left}
 use Rattle.memchr.specs.Find.{Nowhere, NoneBefore, Passes}

@@ -1,4 +1,4 @@
-use Rattle.std.proofs.Common.{◌≡◌, ◌+◌, ◌∙◌, length, encode_utf8_all, drop, refl, subst, ap, sym}
+use Rattle.std.proofs.Common.{◌≡◌, ◌∙◌, length, encode_utf8_all, drop, subst, ap, sym}
 use Rattle.std.specs.Rc.{rc_str_bytes}
 use Rattle.bstr.specs.Utf8.{lossy_chars}
 use Rattle.tcl_chan.specs.Devices.{unread}

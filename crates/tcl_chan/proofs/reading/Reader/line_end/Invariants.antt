@@ -1,4 +1,4 @@
-use Rattle.std.proofs.Common.{◌≡◌, ◌≤◌, cond, Some, length, IfSome, ◌+◌, ◌-◌, ◌^◌}
+use Rattle.std.proofs.Common.{◌≡◌, ◌≤◌, cond, length, ◌+◌, ◌-◌, ◌^◌}
 use Rattle.memchr.specs.Find.{Passes, Nowhere, is_byte}
 use Rattle.tcl_chan.specs.Devices.{unread, StaysLeft}
 use Rattle.tcl_chan.proofs.reading.Reader.line_end.Given as goal

@@ -1,4 +1,4 @@
-use Rattle.std.proofs.Common.{◌≡◌, ◌∙◌, ◌<◌, ◌^◌, drop, length, IfSome, sym, ap, arith}
+use Rattle.std.proofs.Common.{◌≡◌, ◌∙◌, ◌<◌, ◌^◌, length, IfSome, sym, ap, arith}
 use Rattle.std.specs.Rc.{rc_str_bytes}
 use Rattle.std.specs.String.{string_bytes}
 use Rattle.tcl_chan.specs.Devices.{unread}

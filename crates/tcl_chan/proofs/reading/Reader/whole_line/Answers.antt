@@ -1,4 +1,4 @@
-use Rattle.std.proofs.Common.{◌+◌, drop, refl, subst, ap, take}
+use Rattle.std.proofs.Common.{subst, ap, take}
 use Rattle.std.specs.Rc.{rc_str_bytes}
 use Rattle.tcl_chan.specs.Devices.{unread}
 use Rattle.tcl_chan.specs.Ahead.{IsLineOf}
