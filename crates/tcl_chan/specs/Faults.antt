@@ -25,3 +25,9 @@ write_failures_at count fault.Memory = count
 abbrev pub write_failures : {A : Type 0} → ℕ → Result A ChanFault → ℕ
 write_failures count (Ok x) = count
 write_failures count (Err e) = write_failures_at count e
+
+-- a fault that a call over an input may have: not the one of outputs
+abbrev pub IsInputFault : ChanFault → Type 0
+IsInputFault fault.Read = Unit {0}
+IsInputFault fault.Write = ⊥
+IsInputFault fault.Memory = Unit {0}

@@ -5,6 +5,7 @@ pub mod Sources
 pub mod Faults
 pub mod Writing
 pub mod Outputs
+pub mod Readers
 pub mod Worlds
 pub mod Memories
 pub mod Wrappers

@@ -1,7 +1,7 @@
 -- What a world shows: its devices, what is left of its input, and whether a call met the input's end.
 use Rattle.std.specs.Prelude.{◌≡◌, ℕ, Bool, List, Option}
 use Rattle.std.specs.Borrow.{MutBor}
-use Rattle.tcl_chan.specs.Devices.{unread}
+use Rattle.tcl_chan.specs.Readers.{left_of}
 use Rattle.tcl_chan.specs.declared.fault.Out.{Out}
 use Rattle.tcl_chan.specs.declared.fault.Out.TheVariants as out
 use Rattle.tcl_chan.specs.declared.reading.Reader.{Reader}
@@ -22,7 +22,7 @@ stderr w = w.err.now
 -- The bytes of the input that no call took: those read ahead, and those still to come. Nothing is told of them where the device
 -- tells nothing and has not ended.
 abbrev pub unread_of : {R W E : Type 0} → (R → Option (List ℕ)) → World R W E Reader → Option (List ℕ)
-unread_of to_come w = unread w.reader.held w.reader.ended (to_come w.input.now)
+unread_of to_come w = left_of to_come w.reader w.input.now
 
 -- whether a call met the input's end (eof(n))
 abbrev pub met_end : {R W E : Type 0} → World R W E Reader → Bool

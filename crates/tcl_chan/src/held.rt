@@ -1,7 +1,7 @@
 //! The bytes that were read ahead of the characters that were taken.
-ghost use Rattle.std.specs.Prelude.{[], ◌≡◌, ◌≤◌, ◌<◌, ◌^◌, ℕ, false, List, Some, drop, length, IfSome, IfOk, OnOk, OnErr};
+ghost use Rattle.std.specs.Prelude.{[], ◌≡◌, ◌≤◌, ◌<◌, ◌^◌, ℕ, false, List, Some, drop, length, IfSome, IfOk, IfErr, OnOk, OnErr};
 ghost use Rattle.tcl_chan.specs.Devices.{unread};
-ghost use Rattle.tcl_chan.specs.Faults.{read_failures};
+ghost use Rattle.tcl_chan.specs.Faults.{IsInputFault, read_failures};
 ghost use Rattle.tcl_chan.specs.Ahead.{Grew};
 
 use crate::device::{Broken, Input};
@@ -69,6 +69,7 @@ impl Held {
 
     /// Reads more bytes behind these, and answers whether the device was at its end.
     pub fn fill<R: Input>(&mut self, input: &mut R) -> Result<bool, ChanFault>
+        ensures fault { IfErr result IsInputFault }
         ensures failures { R.failed_calls input.new ≡ read_failures (R.failed_calls input.old) result }
         ensures unread { IfOk result (λ ended. IfSome (unread self.old false (R.to_come input.old))
             (λ bytes. unread self.new ended (R.to_come input.new) ≡ Some bytes)) }

@@ -1,10 +1,10 @@
 //! Reading an input ahead of the characters that are taken.
-ghost use Rattle.std.specs.Prelude.{[], ◌≡◌, ◌≤◌, ◌<◌, ◌+◌, ◌^◌, true, false, Some, None, length, drop, IsNone, Err, ℕ, List, Option, option_map, IfSome, IfOk, OnOk, OnErr};
+ghost use Rattle.std.specs.Prelude.{[], ◌≡◌, ◌≤◌, ◌<◌, ◌+◌, ◌^◌, true, false, Some, None, length, drop, IsNone, Err, ℕ, List, Option, option_map, IfSome, IfOk, IfErr, OnOk, OnErr};
 ghost use Rattle.memchr.specs.Find.{IsFirstByte, is_byte};
 ghost use Rattle.std.specs.Rc.{rc_str_bytes};
 ghost use Rattle.std.specs.String.{string_bytes};
 ghost use Rattle.tcl_chan.specs.Devices.{unread, StaysLeft};
-ghost use Rattle.tcl_chan.specs.Faults.{read_failures};
+ghost use Rattle.tcl_chan.specs.Faults.{IsInputFault, read_failures};
 ghost use Rattle.tcl_chan.specs.declared.fault.ChanFault.TheVariants.{Memory};
 ghost use Rattle.tcl_chan.specs.Ahead.{Grew, Decides, TakesCount};
 ghost use Rattle.tcl_chan.specs.Sources.{TakesLine, TakesText};
@@ -28,6 +28,8 @@ pub struct Reader {
 }
 
 impl Reader {
+    ghost use Rattle.tcl_chan.specs.Readers.{left_of};
+
     /// Nothing was read yet.
     pub(crate) fn new(alloc: Global) -> Reader
         ensures held { result.held ≡ [] }
@@ -51,10 +53,10 @@ impl Reader {
     // Reads more bytes, or meets the input's end.
     fn fill<R: Input>(&mut self, input: &mut R) -> Result<(), ChanFault>
         requires { self.old.ended ≡ false }
+        ensures fault { IfErr result IsInputFault }
         ensures failures { R.failed_calls input.new ≡ read_failures (R.failed_calls input.old) result }
         ensures met_end { self.new.met_end ≡ self.old.met_end }
-        ensures unread { StaysLeft (unread self.old.held self.old.ended (R.to_come input.old))
-            (unread self.new.held self.new.ended (R.to_come input.new)) }
+        ensures unread { StaysLeft (left_of R.to_come self.old input.old) (left_of R.to_come self.new input.new) }
         ensures grew { OnOk result (Grew self.old.held self.new.held self.new.ended) }
         ensures kept { OnErr result (self.new.held ≡ self.old.held) }
         ensures small { OnOk result (length self.new.held < 2 ^ 63) }
@@ -67,10 +69,10 @@ impl Reader {
     // The place of the first line feed among the bytes that are held, which are read on until there is one, or to the
     // input's end.
     fn line_end<R: Input>(&mut self, input: &mut R) -> Result<Option<usize>, ChanFault>
+        ensures fault { IfErr result IsInputFault }
         ensures failures { R.failed_calls input.new ≡ read_failures (R.failed_calls input.old) result }
         ensures met_end { self.new.met_end ≡ self.old.met_end }
-        ensures unread { StaysLeft (unread self.old.held self.old.ended (R.to_come input.old))
-            (unread self.new.held self.new.ended (R.to_come input.new)) }
+        ensures unread { StaysLeft (left_of R.to_come self.old input.old) (left_of R.to_come self.new input.new) }
         ensures found { IfOk result (λ end. IsFirstByte (is_byte 10) self.new.held end) }
         ensures whole { IfOk result (λ end. IsNone end → self.new.ended ≡ true) }
     {
@@ -110,12 +112,12 @@ impl Reader {
         input: &mut R,
         count: u64,
     ) -> Result<(String, usize, bool), ChanFault>
+        ensures fault { IfErr result IsInputFault }
         ensures failures { R.failed_calls input.new ≡ read_failures (R.failed_calls input.old) result }
         ensures met_end { self.new.met_end ≡ self.old.met_end }
-        ensures unread { StaysLeft (unread self.old.held self.old.ended (R.to_come input.old))
-            (unread self.new.held self.new.ended (R.to_come input.new)) }
+        ensures unread { StaysLeft (left_of R.to_come self.old input.old) (left_of R.to_come self.new input.new) }
         ensures within { IfOk result (λ taken. taken.1 ≤ length self.new.held) }
-        ensures taken { IfSome (unread self.old.held self.old.ended (R.to_come input.old))
+        ensures taken { IfSome (left_of R.to_come self.old input.old)
             (λ bytes. IfOk result (λ taken. TakesCount count bytes (string_bytes taken.0) taken.1 taken.2)) }
     {
         let mut text = String::new(alloc);
@@ -145,12 +147,11 @@ impl Reader {
         alloc: Global,
         input: &mut R,
     ) -> Result<Option<RcStr<Global>>, ChanFault>
+        ensures fault { IfErr result IsInputFault }
         ensures failures { R.failed_calls input.new ≡ read_failures (R.failed_calls input.old) result }
-        ensures line { IfSome (unread self.old.held self.old.ended (R.to_come input.old))
-            (λ bytes. IfOk result (λ line. TakesLine bytes self.old.met_end (option_map rc_str_bytes line)
-            (unread self.new.held self.new.ended (R.to_come input.new)) self.new.met_end)) }
-        ensures kept { OnErr result (StaysLeft (unread self.old.held self.old.ended (R.to_come input.old))
-            (unread self.new.held self.new.ended (R.to_come input.new))) }
+        ensures line { IfSome (left_of R.to_come self.old input.old) (λ bytes. IfOk result (λ line.
+            TakesLine bytes self.old.met_end (option_map rc_str_bytes line) (left_of R.to_come self.new input.new) self.new.met_end)) }
+        ensures kept { OnErr result (StaysLeft (left_of R.to_come self.old input.old) (left_of R.to_come self.new input.new)) }
         ensures kept_end { OnErr result (self.new.met_end ≡ self.old.met_end) }
     {
         match self.line_end(input)? {
@@ -205,12 +206,11 @@ impl Reader {
         input: &mut R,
         count: Option<u64>,
     ) -> Result<RcStr<Global>, ChanFault>
+        ensures fault { IfErr result IsInputFault }
         ensures failures { R.failed_calls input.new ≡ read_failures (R.failed_calls input.old) result }
-        ensures text { IfSome (unread self.old.held self.old.ended (R.to_come input.old))
-            (λ bytes. IfOk result (λ text. TakesText count bytes self.old.met_end (rc_str_bytes text)
-            (unread self.new.held self.new.ended (R.to_come input.new)) self.new.met_end)) }
-        ensures kept { OnErr result (StaysLeft (unread self.old.held self.old.ended (R.to_come input.old))
-            (unread self.new.held self.new.ended (R.to_come input.new))) }
+        ensures text { IfSome (left_of R.to_come self.old input.old) (λ bytes. IfOk result (λ text.
+            TakesText count bytes self.old.met_end (rc_str_bytes text) (left_of R.to_come self.new input.new) self.new.met_end)) }
+        ensures kept { OnErr result (StaysLeft (left_of R.to_come self.old input.old) (left_of R.to_come self.new input.new)) }
         ensures kept_end { OnErr result (self.new.met_end ≡ self.old.met_end) }
     {
         let (text, size, fewer) = self.chars_ahead(alloc, input, count.unwrap_or(u64::MAX))?;

@@ -1,8 +1,8 @@
 //! What a script reads and writes.
-ghost use Rattle.std.specs.Prelude.{◌≡◌, ◌≤◌, ◌++◌, false, ℕ, List, Err, take, drop, length, OnOk, OnErr, IfSome, IfOk, Some, None, option_map};
+ghost use Rattle.std.specs.Prelude.{◌≡◌, ◌≤◌, ◌++◌, false, ℕ, List, Err, take, drop, length, OnOk, OnErr, IfSome, IfOk, IfErr, Some, None, option_map};
 ghost use Rattle.std.specs.Rc.{rc_str_bytes};
 ghost use Rattle.tcl_chan.specs.Devices.{put, StaysLeft};
-ghost use Rattle.tcl_chan.specs.Faults.{write_failures, read_failures};
+ghost use Rattle.tcl_chan.specs.Faults.{IsInputFault, write_failures, read_failures};
 ghost use Rattle.tcl_chan.specs.Outputs.{picked};
 ghost use Rattle.tcl_chan.specs.Sources.{TakesLine, TakesText};
 ghost use Rattle.tcl_chan.specs.Writing.{WroteFront};
@@ -153,6 +153,7 @@ impl<'input, 'out, 'err, R: Input, W: Output, E: Output> World<
     pub fn gets(&mut self) -> Result<Option<RcStr<Global>>, ChanFault>
         ensures line { IfSome (unread_of R.to_come self.old) (λ bytes. IfOk result (λ line.
             TakesLine bytes (met_end self.old) (option_map rc_str_bytes line) (unread_of R.to_come self.new) (met_end self.new))) }
+        ensures fault { IfErr result IsInputFault }
         ensures failures { R.failed_calls (stdin self.new) ≡ read_failures (R.failed_calls (stdin self.old)) result }
 
         // After a fault the input left is as it was.
@@ -168,6 +169,7 @@ impl<'input, 'out, 'err, R: Input, W: Output, E: Output> World<
     pub fn read(&mut self, count: Option<u64>) -> Result<RcStr<Global>, ChanFault>
         ensures text { IfSome (unread_of R.to_come self.old) (λ bytes. IfOk result (λ text.
             TakesText count bytes (met_end self.old) (rc_str_bytes text) (unread_of R.to_come self.new) (met_end self.new))) }
+        ensures fault { IfErr result IsInputFault }
         ensures failures { R.failed_calls (stdin self.new) ≡ read_failures (R.failed_calls (stdin self.old)) result }
 
         // After a fault the input left is as it was.
