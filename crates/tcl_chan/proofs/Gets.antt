@@ -10,7 +10,8 @@ use Rattle.bstr.proofs.lemmas.PieceLemmas.{lossy_chars-last, lossy_chars-step, l
 use Rattle.memchr.specs.Find.{Passes, Nowhere, is_byte}
 use Rattle.tcl_chan.specs.Characters.{input_chars, joined_newlines, line_taken}
 use Rattle.tcl_chan.specs.Devices.{unread}
-use Rattle.tcl_chan.specs.Sources.{OneLine, IsLineOf, TakesLine}
+use Rattle.tcl_chan.specs.Ahead.{OneLine, IsLineOf}
+use Rattle.tcl_chan.specs.Sources.{TakesLine}
 use Rattle.tcl_chan.proofs.Fronts.{lossy_chars-split}
 use Rattle.tcl_chan.proofs.Lines.{NoReturn, one_line-text, joined-line, joined-before, joined-return, taken-line, taken-nothing, taken-last}
 use Rattle.tcl_chan.proofs.Scalars.{line-reads}

@@ -1,5 +1,5 @@
 -- What is taken of an input are characters, so its UTF-8 reads as them.
-use Rattle.std.proofs.Common.{◌≡◌, ℕ, zero, suc, ◌≤◌, Bool, true, false, List, [], ◌∷◌, take, drop, length, length-drop, Option, Some, None, option_map, refl, sym, ap, subst, ◌∙◌, arith, encode_utf8_all}
+use Rattle.std.proofs.Common.{◌≡◌, ℕ, zero, suc, ◌≤◌, Bool, true, false, List, [], ◌∷◌, take, drop, length, length-drop, Option, Some, None, option_map, refl, ap, subst, ◌∙◌, arith, encode_utf8_all}
 use Rattle.std.proofs.Math.Utf8.{scalar, scalars}
 use Rattle.std.specs.Prelude.{◌==◌, ◌&&◌, cond}
 use Rattle.std.specs.Str.{chars as spelled}

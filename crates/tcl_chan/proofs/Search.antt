@@ -1,9 +1,9 @@
 -- Where a byte stands, found in pieces.
-use Rattle.std.proofs.Common.{◌≡◌, ℕ, ◌+◌, ◌-◌, ◌<◌, ◌≤◌, Bool, true, List, ◌++◌, take, drop, length, length-append, length-drop, slice_index, Some, refl, sym, ap, subst, ◌∙◌, arith, get_or-drop, ⊎_elim}
+use Rattle.std.proofs.Common.{◌≡◌, ℕ, ◌+◌, ◌-◌, ◌<◌, ◌≤◌, Bool, List, take, drop, length, length-append, length-drop, slice_index, sym, ap, subst, ◌∙◌, arith, get_or-drop, ⊎_elim}
 use Rattle.std.proofs.lemmas.Bool.{cases_lt}
 use Rattle.std.proofs.lemmas.List.{take_all, get_or_append_left}
 use Rattle.memchr.specs.Find.{Nowhere, NoneBefore, Passes}
-use Rattle.tcl_chan.specs.Sources.{Grew}
+use Rattle.tcl_chan.specs.Ahead.{Grew}
 
 module _ (test : ℕ → Bool) (held : List ℕ) (searched : ℕ) where
   -- nowhere in the front, nor in a part of the rest
@@ -26,8 +26,7 @@ module _ (test : ℕ → Bool) (held : List ℕ) (searched : ℕ) where
   found_at bytes rest place same is within front found =
       let rest_held : rest ≡ drop searched held = is ∙ ap (λ l. take (length l - searched) (drop searched l)) same ∙ rest_is in
       let later = subst (λ l. NoneBefore (Passes test l) 0 (length l) place × Passes test l place) rest_held found in
-      let high = later.0.high in
-      (
+      let high = later.0.high in (
         record {
           low = omega arith;
           high = omega (arith, length-drop searched held);

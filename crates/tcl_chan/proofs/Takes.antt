@@ -4,7 +4,7 @@ use Rattle.std.proofs.lemmas.Bool.Decides.{nat_tests}
 use Rattle.std.proofs.lemmas.List.{drop-append-le, take-append-le, take_all, drop_all}
 use Rattle.tcl_chan.specs.Characters.{input_chars}
 use Rattle.tcl_chan.specs.Devices.{unread, StaysLeft}
-use Rattle.tcl_chan.specs.Sources.{Grew, IsFront, Taking, TakesCount}
+use Rattle.tcl_chan.specs.Ahead.{Grew, IsFront, TakesCount}
 use Rattle.tcl_chan.proofs.Steps.{input_chars-nil}
 
 -- What is left of an input is what is held, and more behind it, none where the input has ended.
@@ -46,6 +46,13 @@ spelled-more : (xs : List ℕ) (c : ℕ) → encode_utf8_all (xs ++ c ∷ []) �
 spelled-more [] c = append-nil (encode_utf8 c)
 spelled-more (x ∷ xs) c =
     ap (λ t. encode_utf8 x ++ t) (spelled-more xs c) ∙ sym (append_assoc (encode_utf8 x) (encode_utf8_all xs) (encode_utf8 c))
+
+-- So far: the characters that the text is of, and how many are still wanted.
+pub record Taking (count left : ℕ) (bytes text : List ℕ) (size : ℕ) : Type 0 where
+  pub taken : List ℕ
+  pub spells : text ≡ encode_utf8_all taken
+  pub wanted : length taken + left ≡ count
+  pub chars : input_chars bytes ≡ taken ++ input_chars (drop size bytes)
 
 module _ (held : List ℕ) (ended : Bool) (bytes : List ℕ) (b : Behind held ended bytes) (size n : ℕ) (within : size ≤ length held) where
   next_chars : (char : Option ℕ) → IsFront (drop size held) ended char n → input_chars (drop size bytes) ≡ option_to_list char ++ input_chars (drop (size + n) bytes)

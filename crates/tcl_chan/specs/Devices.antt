@@ -11,6 +11,7 @@ abbrev pub put : Option (List ℕ) → List ℕ → Option (List ℕ)
 put None more = None
 put (Some before) more = Some (before ++ more)
 
+-- A read took the bytes that stand at the buffer's beginning; one that failed took none.
 abbrev pub Reads : {E : Type 0} → Option (List ℕ) → Option (List ℕ) → List ℕ → Result ℕ E → Type 0
 Reads old new buffer (Ok n) = old ≡ ahead (take n buffer) new
 Reads old new buffer (Err e) = new ≡ old
@@ -20,10 +21,12 @@ abbrev pub IsEnd : Option (List ℕ) → Type 0
 IsEnd None = Unit {0}
 IsEnd (Some rest) = rest ≡ []
 
+-- A read into a buffer that is not empty gives no byte only at the end.
 abbrev pub EndsAt : {E : Type 0} → Option (List ℕ) → ℕ → Result ℕ E → Type 0
 EndsAt old size (Ok n) = n ≡ 0 → 0 < size → IsEnd old
 EndsAt old size (Err e) = Unit {0}
 
+-- A write wrote the beginning of the text that it tells; one that failed wrote nothing.
 abbrev pub Writes : {E : Type 0} → Option (List ℕ) → Option (List ℕ) → List ℕ → Result ℕ E → Type 0
 Writes old new text (Ok n) = new ≡ put old (take n text)
 Writes old new text (Err e) = new ≡ old
@@ -32,12 +35,12 @@ Writes old new text (Err e) = new ≡ old
 abbrev pub one_more : ℕ → ℕ
 one_more count = min (count + 1) (2 ^ 64 - 1)
 
--- a call that fails counts
+-- how many calls have failed after one: a call that fails counts
 abbrev pub failures_after : {A E : Type 0} → ℕ → Result A E → ℕ
 failures_after count (Ok x) = count
 failures_after count (Err e) = one_more count
 
--- What is left of an input of which some bytes are held back: those, and what the device has, unless it has met its end.
+-- What is left of an input of which some bytes are held: those, and what the device has, unless the input has ended.
 abbrev pub unread : List ℕ → Bool → Option (List ℕ) → Option (List ℕ)
 unread held ended device = cond ended (Some held) (ahead held device)
 

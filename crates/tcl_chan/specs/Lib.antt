@@ -1,9 +1,11 @@
 pub mod Devices
 pub mod Characters
+pub mod Ahead
 pub mod Sources
 pub mod Faults
 pub mod Writing
 pub mod Outputs
+pub mod Readers
 pub mod Worlds
 pub mod Memories
 pub mod Wrappers

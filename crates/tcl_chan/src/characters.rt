@@ -3,7 +3,7 @@ ghost use Rattle.std.specs.Prelude.{◌≡◌, ◌<◌, length, Err, IfOk, OnErr
 ghost use Rattle.std.specs.Rc.{rc_str_bytes};
 ghost use Rattle.std.specs.Str.{encode_utf8_all};
 ghost use Rattle.bstr.specs.Utf8.{lossy_chars};
-ghost use Rattle.tcl_chan.specs.Sources.{Decides, IsLineOf};
+ghost use Rattle.tcl_chan.specs.Ahead.{Decides, IsLineOf};
 ghost use Rattle.tcl_chan.specs.declared.fault.ChanFault.TheVariants.{Memory};
 
 use crate::fault::ChanFault;

@@ -1,12 +1,12 @@
 //! The bytes that were read ahead of the characters that were taken.
-ghost use Rattle.std.specs.Prelude.{[], ◌≡◌, ◌≤◌, ◌<◌, ◌^◌, ℕ, false, List, Some, drop, length, IfSome, IfOk, OnOk, OnErr};
+ghost use Rattle.std.specs.Prelude.{[], ◌≡◌, ◌≤◌, ◌<◌, ◌^◌, ℕ, false, List, Some, drop, length, IfSome, IfOk, IfErr, OnOk, OnErr};
 ghost use Rattle.tcl_chan.specs.Devices.{unread};
-ghost use Rattle.tcl_chan.specs.Faults.{read_failures};
-ghost use Rattle.tcl_chan.specs.Sources.{Grew};
+ghost use Rattle.tcl_chan.specs.Faults.{IsInputFault, read_failures};
+ghost use Rattle.tcl_chan.specs.Ahead.{Grew};
 
 use crate::device::{Broken, Input};
 use crate::fault::ChanFault;
-use std::alloc::{AllocError, Global};
+use std::alloc::Global;
 use std::marker::Model;
 
 // How many bytes a device is asked for at once.
@@ -29,12 +29,14 @@ impl Model for Held {
 }
 
 impl Held {
-    /// No bytes, and room for the first ones.
-    pub fn new(alloc: Global) -> Result<Held, AllocError>
-        ensures { IfOk result (λ held. held ≡ []) }
+    /// No bytes.
+    pub fn new(alloc: Global) -> Held
+        ensures { result ≡ [] }
     {
-        let bytes = Vec::with_capacity(alloc, CHUNK)?;
-        Ok(Held { bytes, taken: 0 })
+        Held {
+            bytes: Vec::new(alloc),
+            taken: 0,
+        }
     }
 
     /// The bytes.
@@ -67,6 +69,7 @@ impl Held {
 
     /// Reads more bytes behind these, and answers whether the device was at its end.
     pub fn fill<R: Input>(&mut self, input: &mut R) -> Result<bool, ChanFault>
+        ensures fault { IfErr result IsInputFault }
         ensures failures { R.failed_calls input.new ≡ read_failures (R.failed_calls input.old) result }
         ensures unread { IfOk result (λ ended. IfSome (unread self.old false (R.to_come input.old))
             (λ bytes. unread self.new ended (R.to_come input.new) ≡ Some bytes)) }

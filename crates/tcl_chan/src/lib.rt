@@ -9,7 +9,7 @@ pub mod faulty;
 mod held;
 pub mod memory;
 pub mod pieces;
-mod source;
+pub mod reading;
 pub mod standard;
 #[cfg(test)]
 mod tests;

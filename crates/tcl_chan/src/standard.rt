@@ -60,18 +60,22 @@ impl StandardOutput {
     pub fn stdout(stdout: Stdout) -> StandardOutput
         ensures { ⟦<StandardOutput as Output>⟧.failed_calls result ≡ 0 }
     {
-        StandardOutput {
-            stream: Stream::Out(stdout),
-            failures: 0,
-        }
+        StandardOutput::over(Stream::Out(stdout))
     }
 
     /// Standard error, of which no call has failed.
     pub fn stderr(stderr: Stderr) -> StandardOutput
         ensures { ⟦<StandardOutput as Output>⟧.failed_calls result ≡ 0 }
     {
+        StandardOutput::over(Stream::Err(stderr))
+    }
+
+    // A stream of which no call has failed.
+    fn over(stream: Stream) -> StandardOutput
+        ensures { result.failures ≡ 0 }
+    {
         StandardOutput {
-            stream: Stream::Err(stderr),
+            stream,
             failures: 0,
         }
     }

@@ -1,1 +1,4 @@
+mod callers;
+mod devices;
 mod input;
+mod output;

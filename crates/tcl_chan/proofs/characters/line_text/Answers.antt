@@ -1,7 +1,7 @@
 use Rattle.std.proofs.Common.{subst}
 use Rattle.bstr.specs.Utf8.{IsLastPiece}
 use Rattle.std.specs.Rc.{rc_str_bytes}
-use Rattle.tcl_chan.specs.Sources.{IsLineOf}
+use Rattle.tcl_chan.specs.Ahead.{IsLineOf}
 use Rattle.tcl_chan.proofs.Gets.{line-return, line-plain, on_ok, char_is, char_is_not, some_bytes}
 use Rattle.tcl_chan.proofs.characters.line_text.Goals as goal
 

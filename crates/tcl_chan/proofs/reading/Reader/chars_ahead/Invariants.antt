@@ -2,16 +2,15 @@ use Rattle.std.proofs.Common.{◌≡◌, ◌≤◌, cond, length, ◌+◌, ◌-�
 use Rattle.std.specs.String.{string_bytes}
 use Rattle.tcl_chan.specs.Devices.{unread}
 use Rattle.tcl_chan.proofs.Takes.{Kept}
-use Rattle.tcl_chan.proofs.source.Source.chars_ahead.Given as goal
+use Rattle.tcl_chan.proofs.reading.Reader.chars_ahead.Given as goal
 
 abbrev pub invariant-chars : goal.invariant-chars
 invariant-chars g l =
-    (l.self.input.ghost_name ≡ l.fn.self.input.ghost_name)
-    × (l.self.met_end ≡ l.fn.self.met_end)
-    × (g.R.Input.failed_calls l.self.input.now ≡ g.R.Input.failed_calls l.fn.self.input.now)
+    (l.self.met_end ≡ l.fn.self.met_end)
+    × (g.R.Input.failed_calls l.input ≡ g.R.Input.failed_calls l.fn.input)
     × (l.size ≤ length l.self.held)
     × (l.left ≤ l.fn.count)
-    × Kept (unread l.fn.self.held l.fn.self.ended (g.R.Input.to_come l.fn.self.input.now)) l.self.held l.self.ended (g.R.Input.to_come l.self.input.now)
+    × Kept (unread l.fn.self.held l.fn.self.ended (g.R.Input.to_come l.fn.input)) l.self.held l.self.ended (g.R.Input.to_come l.input)
     l.fn.count l.left (string_bytes l.text) l.size
 
 abbrev pub decreases-chars : goal.decreases-chars
