@@ -2,25 +2,26 @@
 use Rattle.std.proofs.Common.{◌≡◌, ℕ, Bool, true, false, List, Option, refl, sym, ap, ◌∙◌, ◌⊎◌, inl, inr}
 use Rattle.tcl_chan.specs.Devices.{one_more}
 use Rattle.tcl_chan.specs.Worlds.{stdin, stdout, stderr, unread_of, met_end, SameDevices, SameInput}
+use Rattle.tcl_chan.specs.declared.reading.Reader.{Reader}
 use Rattle.tcl_chan.specs.declared.world.World.{World}
 use Rattle.tcl_interp.specs.Shown.{Counted, Leaves}
 
-module _ {R W : Type 0} (to_come : R → Option (List ℕ)) (failed : W → ℕ) where
-  pub leaves_same : (w : World R W) → Leaves to_come failed false w w
+module _ {R W E : Type 0} (to_come : R → Option (List ℕ)) (outs : W → ℕ) (errs : E → ℕ) where
+  pub leaves_same : (w : World R W E Reader) → Leaves to_come outs errs false w w
   leaves_same w = record {
     devices = record { stdin = refl; stdout = refl; stderr = refl };
     input = record { stdin = refl; unread = refl; met_end = refl };
     failures = (refl, refl);
   }
 
-  counted : (io : Bool) (o e o' e' o'' e'' : W) → Counted failed false o e o' e' → Counted failed io o' e' o'' e'' → Counted failed io o e o'' e''
-  counted false o e o' e' o'' e'' p q = (q.0 ∙ p.0, q.1 ∙ p.1)
-  counted true o e o' e' o'' e'' p (inl q) = inl (q.0 ∙ ap one_more p.0, q.1 ∙ p.1)
-  counted true o e o' e' o'' e'' p (inr q) = inr (q.0 ∙ p.0, q.1 ∙ ap one_more p.1)
+  pub counted : (io : Bool) (o o' o'' : W) (e e' e'' : E) → Counted outs errs false o e o' e' → Counted outs errs io o' e' o'' e'' → Counted outs errs io o e o'' e''
+  counted false o o' o'' e e' e'' p q = (q.0 ∙ p.0, q.1 ∙ p.1)
+  counted true o o' o'' e e' e'' p (inl q) = inl (q.0 ∙ ap one_more p.0, q.1 ∙ p.1)
+  counted true o o' o'' e e' e'' p (inr q) = inr (q.0 ∙ p.0, q.1 ∙ ap one_more p.1)
 
-  pub leaves_trans : (io : Bool) (u v w : World R W) → Leaves to_come failed false u v → Leaves to_come failed io v w → Leaves to_come failed io u w
+  pub leaves_trans : (io : Bool) (u v w : World R W E Reader) → Leaves to_come outs errs false u v → Leaves to_come outs errs io v w → Leaves to_come outs errs io u w
   leaves_trans io u v w p q = record {
     devices = record { stdin = q.devices.stdin ∙ p.devices.stdin; stdout = q.devices.stdout ∙ p.devices.stdout; stderr = q.devices.stderr ∙ p.devices.stderr };
     input = record { stdin = q.input.stdin ∙ p.input.stdin; unread = q.input.unread ∙ p.input.unread; met_end = q.input.met_end ∙ p.input.met_end };
-    failures = counted io (stdout u) (stderr u) (stdout v) (stderr v) (stdout w) (stderr w) p.failures q.failures;
+    failures = counted io (stdout u) (stdout v) (stdout w) (stderr u) (stderr v) (stderr w) p.failures q.failures;
   }

@@ -6,6 +6,7 @@ pub mod Named
 pub mod Names
 pub mod Outcomes
 pub mod Puts
+pub mod Reports
 pub mod Shown
 pub mod Values
 pub mod VariableCode

@@ -54,12 +54,22 @@ Tells o (Err fault.Budget) n = o ≡ outcome.Budget
 Tells o (Err fault.Memory) n = o ≡ outcome.Memory
 Tells o (Err fault.Io) n = o ≡ outcome.Io
 
+-- the outcome of a completion of the definition; memory may be refused in its place
+abbrev pub IsOutcome : Outcome → meaning.Completion → ℕ → Type 0
+IsOutcome (outcome.Done code result options left) c n =
+    (code ≡ code_number c.code) × (text_of result ≡ c.result) × (text_of options ≡ options_text c.code) × (left ≡ n)
+IsOutcome outcome.Memory c n = Unit {0}
+IsOutcome outcome.Budget c n = ⊥
+IsOutcome (outcome.Exit status) c n = ⊥
+IsOutcome outcome.Io c n = ⊥
+IsOutcome outcome.Failed c n = ⊥
+
 -- what a run that ended by itself says
 pub record IsDone (o : Outcome) (got : Got meaning.Completion) (vs : Variables) (out err : Option (List ℕ)) : Type 0 where
-  pub completion : Completion
+  pub completion : meaning.Completion
   pub left : ℕ
-  pub same : got ≡ Gives (completion_of completion) (set_state vs out err left)
-  pub tells : IsOutcomeOf o completion left
+  pub same : got ≡ Gives completion (set_state vs out err left)
+  pub tells : IsOutcome o completion left
 
 -- a run in which a unit was wanting
 pub record IsBroke (got : Got meaning.Completion) (vs : Variables) (out err : Option (List ℕ)) : Type 0 where

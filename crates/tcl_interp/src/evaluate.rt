@@ -32,16 +32,16 @@ const MOST_LEVELS: u32 = 0;
 
 /// Runs a script that stands in `depth - 1` others, one command after another.
 #[cycle(evaluate)]
-pub(crate) fn eval_script<R: Input, W: Output>(
+pub(crate) fn eval_script<R: Input, W: Output, E: Output>(
     alloc: Global,
     state: &mut Evaluation,
-    world: &mut World<'_, R, W>,
+    world: &mut World<'_, '_, '_, R, W, E>,
     depth: u32,
     script: &str,
 ) -> Result<Completion, Fault>
     ensures spends { state.new.units ≤ state.old.units }
-    ensures run { Follows result (Run (Script depth (normal []) (chars script.now)) (shown W.written state.old world.old)) (shown W.written state.new world.new) }
-    ensures leaves { Leaves R.to_come W.failed_calls (is_io result) world.old world.new }
+    ensures run { Follows result (Run (Script depth (normal []) (chars script.now)) (shown W.written E.written state.old world.old)) (shown W.written E.written state.new world.new) }
+    ensures leaves { Leaves R.to_come W.failed_calls E.failed_calls (is_io result) world.old world.new }
 {
     if depth > MOST_DEPTH {
         return Ok(Completion::too_deep(alloc)?);
@@ -81,18 +81,18 @@ fn stopped(halt: Halt) -> Result<Completion, Fault>
 
 // Runs a command that has been paid for.
 #[cycle(evaluate)]
-fn eval_command<R: Input, W: Output>(
+fn eval_command<R: Input, W: Output, E: Output>(
     alloc: Global,
     state: &mut Evaluation,
-    world: &mut World<'_, R, W>,
+    world: &mut World<'_, '_, '_, R, W, E>,
     depth: u32,
     words: &[Word<'_>],
 ) -> Result<Completion, Fault>
     requires shallow { depth ≤ most_depth }
     requires nests { WordsNest most_levels (map shape_of words.now) }
     ensures spends { state.new.units ≤ state.old.units }
-    ensures run { Follows result (exec Run (run_command depth (map shape_of words.now)) (shown W.written state.old world.old)) (shown W.written state.new world.new) }
-    ensures leaves { Leaves R.to_come W.failed_calls (is_io result) world.old world.new }
+    ensures run { Follows result (exec Run (run_command depth (map shape_of words.now)) (shown W.written E.written state.old world.old)) (shown W.written E.written state.new world.new) }
+    ensures leaves { Leaves R.to_come W.failed_calls E.failed_calls (is_io result) world.old world.new }
 {
     match subst_words(alloc, state, world, depth, words) {
         Ok(values) => invoke(alloc, state, world, values.as_slice()),
@@ -109,18 +109,18 @@ fn push_value(values: &mut Vec<Value>, value: Value) -> Result<(), AllocError>
 
 // Substitutes the words of a command, from left to right.
 #[cycle(evaluate)]
-fn subst_words<R: Input, W: Output>(
+fn subst_words<R: Input, W: Output, E: Output>(
     alloc: Global,
     state: &mut Evaluation,
-    world: &mut World<'_, R, W>,
+    world: &mut World<'_, '_, '_, R, W, E>,
     depth: u32,
     words: &[Word<'_>],
 ) -> Result<Vec<Value>, Halt>
     requires shallow { depth ≤ most_depth }
     requires nests { WordsNest most_levels (map shape_of words.now) }
     ensures spends { state.new.units ≤ state.old.units }
-    ensures run { ValueFollows (λ v. v.items) result (exec Run (words_text depth (map shape_of words.now)) (shown W.written state.old world.old)) (shown W.written state.new world.new) }
-    ensures leaves { Leaves R.to_come W.failed_calls (value_is_io result) world.old world.new }
+    ensures run { ValueFollows (λ v. v.items) result (exec Run (words_text depth (map shape_of words.now)) (shown W.written E.written state.old world.old)) (shown W.written E.written state.new world.new) }
+    ensures leaves { Leaves R.to_come W.failed_calls E.failed_calls (value_is_io result) world.old world.new }
 {
     let mut values = Vec::new(alloc);
     'words: for word in words {
@@ -132,18 +132,18 @@ fn subst_words<R: Input, W: Output>(
 
 // Substitutes one word.
 #[cycle(evaluate)]
-fn subst_word<R: Input, W: Output>(
+fn subst_word<R: Input, W: Output, E: Output>(
     alloc: Global,
     state: &mut Evaluation,
-    world: &mut World<'_, R, W>,
+    world: &mut World<'_, '_, '_, R, W, E>,
     depth: u32,
     word: &Word<'_>,
 ) -> Result<Value, Halt>
     requires shallow { depth ≤ most_depth }
     requires nests { PartsNest most_levels (parts_of (shape_of word.now).pieces) }
     ensures spends { state.new.units ≤ state.old.units }
-    ensures run { ValueFollows (λ v. v) result (exec Run (one_word depth (shape_of word.now).expands (shape_of word.now).pieces) (shown W.written state.old world.old)) (shown W.written state.new world.new) }
-    ensures leaves { Leaves R.to_come W.failed_calls (value_is_io result) world.old world.new }
+    ensures run { ValueFollows (λ v. v) result (exec Run (one_word depth (shape_of word.now).expands (shape_of word.now).pieces) (shown W.written E.written state.old world.old)) (shown W.written E.written state.new world.new) }
+    ensures leaves { Leaves R.to_come W.failed_calls E.failed_calls (value_is_io result) world.old world.new }
 {
     if word.expands {
         return Err(Halt::Stops(Completion::no_expansion(alloc)?));
@@ -164,10 +164,10 @@ fn subst_word<R: Input, W: Output>(
 // Substitutes pieces, from left to right, and adds their texts to one. Their array indices stand in one another at most
 // `levels` deep.
 #[cycle(evaluate)]
-fn subst_pieces<R: Input, W: Output>(
+fn subst_pieces<R: Input, W: Output, E: Output>(
     alloc: Global,
     state: &mut Evaluation,
-    world: &mut World<'_, R, W>,
+    world: &mut World<'_, '_, '_, R, W, E>,
     depth: u32,
     levels: u32,
     pieces: &[Piece<'_>],
@@ -176,8 +176,8 @@ fn subst_pieces<R: Input, W: Output>(
     requires shallow { depth ≤ most_depth }
     requires nests { PartsNest levels (parts_of (map part_of pieces.now)) }
     ensures spends { state.new.units ≤ state.old.units }
-    ensures run { AddsText (chars (string_bytes text.old)) (chars (string_bytes text.new)) result (exec Run (word_text depth (map part_of pieces.now)) (shown W.written state.old world.old)) (shown W.written state.new world.new) }
-    ensures leaves { Leaves R.to_come W.failed_calls (value_is_io result) world.old world.new }
+    ensures run { AddsText (chars (string_bytes text.old)) (chars (string_bytes text.new)) result (exec Run (word_text depth (map part_of pieces.now)) (shown W.written E.written state.old world.old)) (shown W.written E.written state.new world.new) }
+    ensures leaves { Leaves R.to_come W.failed_calls E.failed_calls (value_is_io result) world.old world.new }
 {
     'pieces: for piece in pieces {
         subst_piece(alloc, state, world, depth, levels, piece, text)?;
@@ -187,10 +187,10 @@ fn subst_pieces<R: Input, W: Output>(
 
 // Substitutes one piece, and adds its text to one. Its array indices stand in one another at most `levels` deep.
 #[cycle(evaluate)]
-fn subst_piece<R: Input, W: Output>(
+fn subst_piece<R: Input, W: Output, E: Output>(
     alloc: Global,
     state: &mut Evaluation,
-    world: &mut World<'_, R, W>,
+    world: &mut World<'_, '_, '_, R, W, E>,
     depth: u32,
     levels: u32,
     piece: &Piece<'_>,
@@ -199,8 +199,8 @@ fn subst_piece<R: Input, W: Output>(
     requires shallow { depth ≤ most_depth }
     requires nests { PartNests levels (part_of piece.now) }
     ensures spends { state.new.units ≤ state.old.units }
-    ensures run { AddsText (chars (string_bytes text.old)) (chars (string_bytes text.new)) result (exec Run (piece_text depth (part_of piece.now)) (shown W.written state.old world.old)) (shown W.written state.new world.new) }
-    ensures leaves { Leaves R.to_come W.failed_calls (value_is_io result) world.old world.new }
+    ensures run { AddsText (chars (string_bytes text.old)) (chars (string_bytes text.new)) result (exec Run (piece_text depth (part_of piece.now)) (shown W.written E.written state.old world.old)) (shown W.written E.written state.new world.new) }
+    ensures leaves { Leaves R.to_come W.failed_calls E.failed_calls (value_is_io result) world.old world.new }
 {
     match piece {
         Piece::Text(span) => Ok(push_text(text, span.text)?),

@@ -1,5 +1,5 @@
 //! The interpreter.
-ghost use Rattle.std.specs.Prelude.{◌≡◌, ◌↔◌, false, IsTrue, IfOk, IfErr, IsErrOf, OnOk, OnErr, Ok, option_map};
+ghost use Rattle.std.specs.Prelude.{◌≡◌, ◌↔◌, true, false, IsTrue, IfOk, IfErr, IsErrOf, OnOk, OnErr, Ok, option_map};
 ghost use Rattle.std.specs.FinMap as map;
 ghost use Rattle.std.specs.Str.{chars};
 ghost use Rattle.tcl_chan.specs.Worlds.{stdout, stderr};
@@ -75,20 +75,20 @@ impl Interp {
     }
 
     /// Evaluates a script, at most so many commands of it.
-    pub fn eval<R: Input, W: Output>(
+    pub fn eval<R: Input, W: Output, E: Output>(
         &mut self,
-        world: &mut World<'_, R, W>,
+        world: &mut World<'_, '_, '_, R, W, E>,
         script: &str,
         budget: u64,
     ) -> Outcome
         ensures failed { (result ≡ outcome.Failed) ↔ IsTrue self.old.failed }
         ensures idle { IsTrue self.old.failed → self.new ≡ self.old }
         ensures run { self.old.failed ≡ false →
-            Ends result (run_script (chars script.now) (first_state self.old.globals (W.written (stdout world.old)) (W.written (stderr world.old)) budget))
-                self.new.globals (W.written (stdout world.new)) (W.written (stderr world.new)) }
+            Ends result (run_script (chars script.now) (first_state self.old.globals (W.written (stdout world.old)) (E.written (stderr world.old)) budget))
+                self.new.globals (W.written (stdout world.new)) (E.written (stderr world.new)) }
         ensures fails { self.old.failed ≡ false → self.new.failed ≡ outcome_fails result }
         ensures dialect { self.new.dialect ≡ self.old.dialect }
-        ensures leaves { Leaves R.to_come W.failed_calls (outcome_is_io result) world.old world.new }
+        ensures leaves { Leaves R.to_come W.failed_calls E.failed_calls (outcome_is_io result) world.old world.new }
     {
         if self.failed {
             return Outcome::Failed;
@@ -158,5 +158,14 @@ impl Interp {
             return Err(HostFault::Failed);
         }
         Ok(self.evaluation.variables.host_vars(self.alloc)?)
+    }
+
+    // Marks the interpreter as failed.
+    pub(crate) fn fail(&mut self)
+        ensures failed { self.new.failed ≡ true }
+        ensures globals { self.new.globals ≡ self.old.globals }
+        ensures dialect { self.new.dialect ≡ self.old.dialect }
+    {
+        self.failed = true;
     }
 }

@@ -13,6 +13,8 @@ mod outcome;
 mod pages;
 mod value;
 mod variables;
+mod whole;
 
 pub use host::{Config, HostFault, HostVar, Outcome, VarFault};
 pub use interp::Interp;
+pub use whole::{Report, run};

@@ -71,15 +71,15 @@ fn page_of(word: &str) -> Option<Page>
 }
 
 /// Runs the command of these words.
-pub(crate) fn invoke<R: Input, W: Output>(
+pub(crate) fn invoke<R: Input, W: Output, E: Output>(
     alloc: Global,
     state: &mut Evaluation,
-    world: &mut World<'_, R, W>,
+    world: &mut World<'_, '_, '_, R, W, E>,
     words: &[Value],
 ) -> Result<Completion, Fault>
     ensures spends { state.new.units ≡ state.old.units }
-    ensures run { Follows result (exec Run (invoke words.now) (shown W.written state.old world.old)) (shown W.written state.new world.new) }
-    ensures leaves { Leaves R.to_come W.failed_calls (is_io result) world.old world.new }
+    ensures run { Follows result (exec Run (invoke words.now) (shown W.written E.written state.old world.old)) (shown W.written E.written state.new world.new) }
+    ensures leaves { Leaves R.to_come W.failed_calls E.failed_calls (is_io result) world.old world.new }
 {
     let Some((word, args)) = words.split_first() else {
         return Ok(Completion::normal(Value::empty()));

@@ -136,27 +136,27 @@ fn output_named(alloc: Global, name: &str) -> Result<Named, AllocError>
 }
 
 // Writes a text to an output.
-fn write_text<R: Input, W: Output>(
-    world: &mut World<'_, R, W>,
+fn write_text<R: Input, W: Output, E: Output>(
+    world: &mut World<'_, '_, '_, R, W, E>,
     to: Out,
     text: &str,
 ) -> Result<Completion, Fault>
-    ensures run { (store : Store) (units : ℕ) → Follows result (exec Run (put_text (Ok (output_at to)) (chars text.now)) (world_state W.written store world.old units)) (world_state W.written store world.new units) }
-    ensures leaves { Leaves R.to_come W.failed_calls (is_io result) world.old world.new }
+    ensures run { (store : Store) (units : ℕ) → Follows result (exec Run (put_text (Ok (output_at to)) (chars text.now)) (world_state W.written E.written store world.old units)) (world_state W.written E.written store world.new units) }
+    ensures leaves { Leaves R.to_come W.failed_calls E.failed_calls (is_io result) world.old world.new }
 {
     world.puts(to, text)?;
     Ok(Completion::normal(Value::empty()))
 }
 
 // Writes a text and a newline to an output.
-fn write_line<R: Input, W: Output>(
+fn write_line<R: Input, W: Output, E: Output>(
     alloc: Global,
-    world: &mut World<'_, R, W>,
+    world: &mut World<'_, '_, '_, R, W, E>,
     to: Out,
     text: &str,
 ) -> Result<Completion, Fault>
-    ensures run { (store : Store) (units : ℕ) → Follows result (exec Run (put_text (Ok (output_at to)) (line_of (chars text.now))) (world_state W.written store world.old units)) (world_state W.written store world.new units) }
-    ensures leaves { Leaves R.to_come W.failed_calls (is_io result) world.old world.new }
+    ensures run { (store : Store) (units : ℕ) → Follows result (exec Run (put_text (Ok (output_at to)) (line_of (chars text.now))) (world_state W.written E.written store world.old units)) (world_state W.written E.written store world.new units) }
+    ensures leaves { Leaves R.to_come W.failed_calls E.failed_calls (is_io result) world.old world.new }
 {
     let mut line = String::new(alloc);
     push_text(&mut line, text)?;
@@ -165,15 +165,15 @@ fn write_line<R: Input, W: Output>(
 }
 
 // puts ?-nonewline? channelId string
-fn write_named<R: Input, W: Output>(
+fn write_named<R: Input, W: Output, E: Output>(
     alloc: Global,
-    world: &mut World<'_, R, W>,
+    world: &mut World<'_, '_, '_, R, W, E>,
     channel: &str,
     text: &str,
     newline: bool,
 ) -> Result<Completion, Fault>
-    ensures run { (store : Store) (units : ℕ) → Follows result (exec Run (put_text (output_of (chars channel.now)) (if newline then line_of (chars text.now) else chars text.now)) (world_state W.written store world.old units)) (world_state W.written store world.new units) }
-    ensures leaves { Leaves R.to_come W.failed_calls (is_io result) world.old world.new }
+    ensures run { (store : Store) (units : ℕ) → Follows result (exec Run (put_text (output_of (chars channel.now)) (if newline then line_of (chars text.now) else chars text.now)) (world_state W.written E.written store world.old units)) (world_state W.written E.written store world.new units) }
+    ensures leaves { Leaves R.to_come W.failed_calls E.failed_calls (is_io result) world.old world.new }
 {
     match output_named(alloc, channel)? {
         Named::Nothing(completion) => Ok(completion),
@@ -189,13 +189,13 @@ fn write_named<R: Input, W: Output>(
 
 /// puts ?-nonewline? ?channelId? string
 #[tactic(auto, unfolding(tcl_meaning::specs::Pages::puts_page))]
-pub(crate) fn puts_page<R: Input, W: Output>(
+pub(crate) fn puts_page<R: Input, W: Output, E: Output>(
     alloc: Global,
-    world: &mut World<'_, R, W>,
+    world: &mut World<'_, '_, '_, R, W, E>,
     args: &[Value],
 ) -> Result<Completion, Fault>
-    ensures run { (store : Store) (units : ℕ) → Follows result (exec Run (puts_page args.now) (world_state W.written store world.old units)) (world_state W.written store world.new units) }
-    ensures leaves { Leaves R.to_come W.failed_calls (is_io result) world.old world.new }
+    ensures run { (store : Store) (units : ℕ) → Follows result (exec Run (puts_page args.now) (world_state W.written E.written store world.old units)) (world_state W.written E.written store world.new units) }
+    ensures leaves { Leaves R.to_come W.failed_calls E.failed_calls (is_io result) world.old world.new }
 {
     match args {
         [text] => write_line(alloc, world, Out::Stdout, text.as_str()),

@@ -33,7 +33,7 @@ eval_script-returns-in_err-too_deep-clause-run g t c =
 
 pub eval_script-returns-then-depth-gt-MOST_DEPTH-clause-run : goal.eval_script-returns-then-depth-gt-MOST_DEPTH-clause-run
 eval_script-returns-then-depth-gt-MOST_DEPTH-clause-run g t c =
-    script_deep _ _ _ _ c.if-depth-gt-MOST_DEPTH.true ∙ ap (λ k. Gives k (shown g.W.Output.written c.args.state.now c.args.world.now)) (sym c.in_ok-too_deep.ensures)
+    script_deep _ _ _ _ c.if-depth-gt-MOST_DEPTH.true ∙ ap (λ k. Gives k (shown g.W.Output.written g.E.Output.written c.args.state.now c.args.world.now)) (sym c.in_ok-too_deep.ensures)
 
 pub eval_script-returns-in_err-parse_first-clause-run : goal.eval_script-returns-in_err-parse_first-clause-run
 eval_script-returns-in_err-parse_first-clause-run g t c =
@@ -52,7 +52,7 @@ pub eval_script-returns-in-Bad-clause-run : goal.eval_script-returns-in-Bad-clau
 eval_script-returns-in-Bad-clause-run g t c =
     let e = parsed_bad _ _ _ _ c.in_ok-parse_first.ensures.first c.in-Bad.is in
     c.commands.invariant.1.same ∙ script_bad _ _ _ _ c.in-Bad.fault c.commands.invariant.1.shallow e
-    ∙ ap (λ k. Gives k (shown g.W.Output.written c.commands.state c.commands.world)) (sym (c.in_ok-failure-in-Bad.ensures ∙ ap failure c.text.ensures.text))
+    ∙ ap (λ k. Gives k (shown g.W.Output.written g.E.Output.written c.commands.state c.commands.world)) (sym (c.in_ok-failure-in-Bad.ensures ∙ ap failure c.text.ensures.text))
 
 pub eval_script-returns-then-state-eq0-clause-run : goal.eval_script-returns-then-state-eq0-clause-run
 eval_script-returns-then-state-eq0-clause-run g t c =
@@ -91,19 +91,19 @@ eval_script-commands-preserved g t c =
     let left : chars c.range_from-rest.result.now ≡ e.rest = ap chars c.range_from-rest.ensures.value ∙ e.left in
     (search rules, record {
       same = sequence_next d ws e.rest (completion_of c.in_ok-done-in-Command.done) r (rw c.as_slice.ensures.value at c.in_ok-done-in-Command.ensures.run) c.in-Ok.is
-          ∙ ap (λ x. Run (Script d (completion_of c.in_ok-done-in-Command.done) x) (shown g.W.Output.written c.eval_command.new.state c.eval_command.new.world)) (sym left);
+          ∙ ap (λ x. Run (Script d (completion_of c.in_ok-done-in-Command.done) x) (shown g.W.Output.written g.E.Output.written c.eval_command.new.state c.eval_command.new.world)) (sym left);
       shallow = c.commands.invariant.1.shallow;
       spends = omega arith;
-      leaves = leaves_trans g.R.Input.to_come g.W.Output.failed_calls false _ _ _ c.commands.invariant.1.leaves c.in_ok-done-in-Command.ensures.leaves;
+      leaves = leaves_trans g.R.Input.to_come g.W.Output.failed_calls g.E.Output.failed_calls false _ _ _ c.commands.invariant.1.leaves c.in_ok-done-in-Command.ensures.leaves;
     })
 
 pub subst_words-words-init : goal.subst_words-words-init
 subst_words-words-init g t c = record {
-  same = rw c.new-values.ensures.items (words_start c.args.depth (map shape_of c.args.words.now) (shown g.W.Output.written c.args.state.now c.args.world.now));
+  same = rw c.new-values.ensures.items (words_start c.args.depth (map shape_of c.args.words.now) (shown g.W.Output.written g.E.Output.written c.args.state.now c.args.world.now));
   shallow = c.requires.shallow;
   nests = c.requires.nests;
   spends = omega arith;
-  leaves = leaves_same g.R.Input.to_come g.W.Output.failed_calls c.args.world.now;
+  leaves = leaves_same g.R.Input.to_come g.W.Output.failed_calls g.E.Output.failed_calls c.args.world.now;
 }
 
 pub subst_words-subst_word-requires : goal.subst_words-subst_word-requires
@@ -147,7 +147,7 @@ subst_words-words-preserved g t c =
       shallow = c.words.invariant.shallow;
       nests = c.words.invariant.nests;
       spends = omega arith;
-      leaves = leaves_trans g.R.Input.to_come g.W.Output.failed_calls false _ _ _ c.words.invariant.leaves c.in_ok-value.ensures.leaves;
+      leaves = leaves_trans g.R.Input.to_come g.W.Output.failed_calls g.E.Output.failed_calls false _ _ _ c.words.invariant.leaves c.in_ok-value.ensures.leaves;
     }
 
 pub subst_word-returns-clause-run : goal.subst_word-returns-clause-run
@@ -157,11 +157,11 @@ subst_word-returns-clause-run g t c =
 
 pub subst_pieces-pieces-init : goal.subst_pieces-pieces-init
 subst_pieces-pieces-init g t c = record {
-  so_far = record { done = []; added = sym (append-nil (chars (string_bytes c.args.text.now))); holds = word_start c.args.depth (map part_of c.args.pieces.now) (shown g.W.Output.written c.args.state.now c.args.world.now) };
+  so_far = record { done = []; added = sym (append-nil (chars (string_bytes c.args.text.now))); holds = word_start c.args.depth (map part_of c.args.pieces.now) (shown g.W.Output.written g.E.Output.written c.args.state.now c.args.world.now) };
   shallow = c.requires.shallow;
   nests = c.requires.nests;
   spends = omega arith;
-  leaves = leaves_same g.R.Input.to_come g.W.Output.failed_calls c.args.world.now;
+  leaves = leaves_same g.R.Input.to_come g.W.Output.failed_calls g.E.Output.failed_calls c.args.world.now;
 }
 
 pub subst_pieces-subst_piece-requires : goal.subst_pieces-subst_piece-requires
@@ -191,18 +191,18 @@ subst_pieces-pieces-preserved g t c =
       shallow = c.pieces.invariant.shallow;
       nests = c.pieces.invariant.nests;
       spends = omega arith;
-      leaves = leaves_trans g.R.Input.to_come g.W.Output.failed_calls false _ _ _ c.pieces.invariant.leaves c.in_ok-subst_piece.ensures.leaves;
+      leaves = leaves_trans g.R.Input.to_come g.W.Output.failed_calls g.E.Output.failed_calls false _ _ _ c.pieces.invariant.leaves c.in_ok-subst_piece.ensures.leaves;
     }
 
 pub subst_piece-returns-in_err-push_text-in-Elem-clause-run : goal.subst_piece-returns-in_err-push_text-in-Elem-clause-run
 subst_piece-returns-in_err-push_text-in-Elem-clause-run g t c =
     let p = err_from_is_err_and c.from_residual-in_err-push_text-in-Elem.result c.from_residual-in_err-push_text-in-Elem.ensures.1 in
-    rw (p.1, p.2) (begins_of (piece_text c.args.depth (part_of c.args.piece.now)) (shown g.W.Output.written c.args.state.now c.args.world.now))
+    rw (p.1, p.2) (begins_of (piece_text c.args.depth (part_of c.args.piece.now)) (shown g.W.Output.written g.E.Output.written c.args.state.now c.args.world.now))
 
 pub subst_piece-returns-in_err-push-in-Elem-clause-run : goal.subst_piece-returns-in_err-push-in-Elem-clause-run
 subst_piece-returns-in_err-push-in-Elem-clause-run g t c =
     let p = err_from_is_err_and c.from_residual-in_err-push-in-Elem.result c.from_residual-in_err-push-in-Elem.ensures.1 in
-    rw (p.1, p.2) (begins_of (piece_text c.args.depth (part_of c.args.piece.now)) (shown g.W.Output.written c.args.state.now c.args.world.now))
+    rw (p.1, p.2) (begins_of (piece_text c.args.depth (part_of c.args.piece.now)) (shown g.W.Output.written g.E.Output.written c.args.state.now c.args.world.now))
 
 pub subst_piece-returns-in_err-subst_pieces-in-Elem-clause-run : goal.subst_piece-returns-in_err-subst_pieces-in-Elem-clause-run
 subst_piece-returns-in_err-subst_pieces-in-Elem-clause-run g t c =

@@ -36,26 +36,26 @@ decreases-eval_command g l = 1000 * l.state.now.units + (2 * most_levels + 5)
 
 abbrev pub invariant-eval_script-commands : goal.invariant-eval_script-commands
 invariant-eval_script-commands g l = shadow (Utf8 l.rest) × record {
-  same : Run (Script l.fn.depth (normal []) (chars l.fn.script)) (shown g.W.Output.written l.fn.state l.fn.world) ≡ Run (Script l.depth (completion_of l.last) (chars l.rest)) (shown g.W.Output.written l.state l.world);
+  same : Run (Script l.fn.depth (normal []) (chars l.fn.script)) (shown g.W.Output.written g.E.Output.written l.fn.state l.fn.world) ≡ Run (Script l.depth (completion_of l.last) (chars l.rest)) (shown g.W.Output.written g.E.Output.written l.state l.world);
   shallow : l.depth ≤ most_depth;
   spends : l.state.units ≤ l.fn.state.units;
-  leaves : Leaves g.R.Input.to_come g.W.Output.failed_calls false l.fn.world l.world }
+  leaves : Leaves g.R.Input.to_come g.W.Output.failed_calls g.E.Output.failed_calls false l.fn.world l.world }
 
 abbrev pub decreases-eval_script-commands : goal.decreases-eval_script-commands
 decreases-eval_script-commands g l = l.state.units
 
 abbrev pub invariant-subst_words-words : goal.invariant-subst_words-words
 invariant-subst_words-words g l = record {
-  same : exec Run (words_text l.depth (map shape_of l.fn.words)) (shown g.W.Output.written l.fn.state l.fn.world) ≡ exec Run (words_after l.depth l.values.items (drop l.word-index (map shape_of l.words))) (shown g.W.Output.written l.state l.world);
+  same : exec Run (words_text l.depth (map shape_of l.fn.words)) (shown g.W.Output.written g.E.Output.written l.fn.state l.fn.world) ≡ exec Run (words_after l.depth l.values.items (drop l.word-index (map shape_of l.words))) (shown g.W.Output.written g.E.Output.written l.state l.world);
   shallow : l.depth ≤ most_depth;
   nests : WordsNest most_levels (map shape_of l.words);
   spends : l.state.units ≤ l.fn.state.units;
-  leaves : Leaves g.R.Input.to_come g.W.Output.failed_calls false l.fn.world l.world }
+  leaves : Leaves g.R.Input.to_come g.W.Output.failed_calls g.E.Output.failed_calls false l.fn.world l.world }
 
 abbrev pub invariant-subst_pieces-pieces : goal.invariant-subst_pieces-pieces
 invariant-subst_pieces-pieces g l = record {
-  so_far : Added (chars (string_bytes l.fn.text)) (chars (string_bytes l.text)) (λ done. exec Run (word_text l.depth (map part_of l.fn.pieces)) (shown g.W.Output.written l.fn.state l.fn.world) ≡ exec Run (word_after l.depth done (drop l.piece-index (map part_of l.pieces))) (shown g.W.Output.written l.state l.world));
+  so_far : Added (chars (string_bytes l.fn.text)) (chars (string_bytes l.text)) (λ done. exec Run (word_text l.depth (map part_of l.fn.pieces)) (shown g.W.Output.written g.E.Output.written l.fn.state l.fn.world) ≡ exec Run (word_after l.depth done (drop l.piece-index (map part_of l.pieces))) (shown g.W.Output.written g.E.Output.written l.state l.world));
   shallow : l.depth ≤ most_depth;
   nests : PartsNest l.levels (parts_of (map part_of l.pieces));
   spends : l.state.units ≤ l.fn.state.units;
-  leaves : Leaves g.R.Input.to_come g.W.Output.failed_calls false l.fn.world l.world }
+  leaves : Leaves g.R.Input.to_come g.W.Output.failed_calls g.E.Output.failed_calls false l.fn.world l.world }

@@ -26,4 +26,4 @@ pub returns-clause-run : goal.returns-clause-run
 returns-clause-run g c =
     λ store units.
     let e = ap chars c.as_str.ensures.value ∙ line_is _ _ _ c.args.text.now c.new-line.ensures.bytes c.in_ok-push_text.ensures.ok c.in_ok-push.ensures.ok in
-    follows_line c.write_text.result c.args.to _ _ (world_state g.W.Output.written store c.args.world.now units) _ e (c.write_text.ensures.run store units)
+    follows_line c.write_text.result c.args.to _ _ (world_state g.W.Output.written g.E.Output.written store c.args.world.now units) _ e (c.write_text.ensures.run store units)

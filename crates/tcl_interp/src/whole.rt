@@ -1,0 +1,118 @@
+//! A whole run of a script.
+ghost use Rattle.std.specs.Prelude.{◌≡◌, IfOk, false, ℕ, List, Option, is_err, map as each};
+ghost use Rattle.std.specs.FinMap as map;
+ghost use Rattle.std.specs.Str.{chars};
+ghost use Rattle.tcl_chan.specs.Worlds.{stdout, stderr};
+ghost use Rattle.tcl_meaning.specs.Effects.{Gives};
+ghost use Rattle.tcl_meaning.specs.Run.{run_script, first_state, run_with_args, args_put, args_error};
+ghost use Rattle.tcl_interp.specs.Outcomes.{Ends, outcome_is_io, outcome_fails};
+ghost use Rattle.tcl_interp.specs.Reports.{Reports};
+ghost use Rattle.tcl_interp.specs.Shown.{Leaves, Counted};
+
+use crate::host::{Config, HostFault, Outcome};
+use crate::interp::Interp;
+use crate::outcome::{outcome_fails, refused_args};
+use std::alloc::Global;
+use tcl_chan::device::{Input, Output};
+use tcl_chan::fault::{ChanFault, Out};
+use tcl_chan::world::World;
+use tcl_chars::Dialect;
+
+/// How a run ended, and the interpreter that it leaves.
+#[derive(Drop)]
+pub struct Report {
+    pub outcome: Outcome,
+    /// `None` only where the outcome is `Memory`.
+    pub interp: Option<Interp>,
+}
+
+// Flushes both outputs, up to the first that fails.
+fn flush_both<R: Input, W: Output, E: Output>(world: &mut World<'_, '_, '_, R, W, E>) -> Result<(), ChanFault>
+    ensures leaves { Leaves R.to_come W.failed_calls E.failed_calls (is_err result) world.old world.new }
+    ensures out { W.written (stdout world.new) ≡ W.written (stdout world.old) }
+    ensures err { E.written (stderr world.new) ≡ E.written (stderr world.old) }
+{
+    world.flush(Out::Stdout)?;
+    world.flush(Out::Stderr)
+}
+
+// Evaluates a script and flushes both outputs.
+fn run_in<R: Input, W: Output, E: Output>(
+    interp: &mut Interp,
+    world: &mut World<'_, '_, '_, R, W, E>,
+    script: &str,
+    budget: u64,
+) -> Outcome
+    requires { interp.old.failed ≡ false }
+    ensures run { Ends result (run_script (chars script.now) (first_state interp.old.globals (W.written (stdout world.old)) (E.written (stderr world.old)) budget))
+        interp.new.globals (W.written (stdout world.new)) (E.written (stderr world.new)) }
+    ensures fails { interp.new.failed ≡ outcome_fails result }
+    ensures leaves { Leaves R.to_come W.failed_calls E.failed_calls (outcome_is_io result) world.old world.new }
+{
+    let outcome = interp.eval(world, script, budget);
+    if outcome_fails(&outcome) {
+        return outcome;
+    }
+    match flush_both(world) {
+        Ok(()) => outcome,
+        Err(_) => {
+            interp.fail();
+            Outcome::Io
+        }
+    }
+}
+
+// An interpreter whose variables hold the arguments.
+fn prepared(alloc: Global, name: &str) -> Result<Interp, HostFault>
+    ensures globals { IfOk result (λ interp. interp.globals ≡ args_put (chars name.now)) }
+    ensures sound { IfOk result (λ interp. interp.failed ≡ false) }
+{
+    let Ok(mut interp) = Interp::new(alloc, Config { dialect: Dialect::Tcl86 }) else {
+        return Err(HostFault::Memory);
+    };
+    interp.set_var("argv0", name)?;
+    interp.set_var("argv", "")?;
+    interp.set_var("argc", "0")?;
+    Ok(interp)
+}
+
+/// Runs a script: `argv0` holds the first of the arguments, `argv` the list of the others and `argc` their count. Unless
+/// memory was refused or a device failed, both outputs are flushed at the end.
+///
+/// More than one argument is refused until there are lists.
+pub fn run<R: Input, W: Output, E: Output>(
+    alloc: Global,
+    script: &str,
+    args: &[&str],
+    reader: &mut R,
+    out: &mut W,
+    err: &mut E,
+    budget: u64,
+) -> Report
+    ensures report { Reports result (run_with_args (chars script.now) (each (λ a. chars a.now) args.now) (W.written out.old) (E.written err.old) budget) (W.written out.new) (E.written err.new) }
+    ensures failures { Counted W.failed_calls E.failed_calls (outcome_is_io result.outcome) out.old err.old out.new err.new }
+{
+    if args.len() > 1 {
+        return refused(alloc, budget);
+    }
+    let name = args.first().copied().unwrap_or("");
+    let Ok(mut interp) = prepared(alloc, name) else {
+        return Report { outcome: Outcome::Memory, interp: None };
+    };
+    let mut world = World::new(alloc, reader, out, err);
+    let outcome = run_in(&mut interp, &mut world, script, budget);
+    Report { outcome, interp: Some(interp) }
+}
+
+// The report of a run with more than one argument.
+fn refused(alloc: Global, budget: u64) -> Report
+    ensures { (out err : Option (List ℕ)) → Reports result (Gives args_error (first_state map.empty out err budget)) out err }
+{
+    let Ok(interp) = Interp::new(alloc, Config { dialect: Dialect::Tcl86 }) else {
+        return Report { outcome: Outcome::Memory, interp: None };
+    };
+    match refused_args(alloc, budget) {
+        Outcome::Memory => Report { outcome: Outcome::Memory, interp: None },
+        outcome => Report { outcome, interp: Some(interp) },
+    }
+}
