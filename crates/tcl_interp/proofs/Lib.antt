@@ -4,4 +4,5 @@ pub mod Leaving
 pub mod Messages
 pub mod NameEnds
 pub mod Says
+pub mod Wholes
 pub mod Writes

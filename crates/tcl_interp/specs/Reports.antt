@@ -12,8 +12,8 @@ use Rattle.tcl_interp.specs.declared.whole.Report.{Report}
 -- without an interpreter, memory was refused, and the outputs are beginnings of the run's
 pub record IsRefused (o : Outcome) (got : Got meaning.Completion) (out err : Option (List ℕ)) : Type 0 where
   pub memory : o ≡ outcome.Memory
-  pub out : OutBegins out (state_of got).out
-  pub err : OutBegins err (state_of got).err
+  pub out_begins : OutBegins out (state_of got).out
+  pub err_begins : OutBegins err (state_of got).err
 
 -- with one, the outcome, its variables and the outputs are the run's
 pub record IsReported (o : Outcome) (interp : Shows) (got : Got meaning.Completion) (out err : Option (List ℕ)) : Type 0 where

@@ -6,6 +6,7 @@ ghost use Rattle.tcl_chan.specs.Worlds.{stdout, stderr};
 ghost use Rattle.tcl_meaning.specs.Run.{run_script, first_state};
 ghost use Rattle.tcl_interp.specs.Outcomes.{Ends, outcome_fails, outcome_is_io};
 ghost use Rattle.tcl_interp.specs.Shown.{Leaves};
+ghost use Rattle.tcl_meaning.specs.State.{text};
 ghost use Rattle.tcl_meaning.specs.Variables.{get, put};
 ghost use Rattle.tcl_names.specs.Named.{text_of};
 ghost use Rattle.tcl_interp.specs.Faults.{IsRefusal, RefusesPut};
@@ -19,7 +20,7 @@ use crate::host::{Config, HostFault, HostVar, Outcome, VarFault};
 use crate::outcome::{outcome_fails, outcome_of};
 use crate::value::Value;
 use crate::variables::{PutFault, Variables};
-use std::alloc::Global;
+use std::alloc::{AllocError, Global};
 use std::marker::Model;
 use std::rc::RcStr;
 use tcl_chan::device::{Input, Output};
@@ -107,7 +108,7 @@ impl Interp {
     /// `Failed` where the interpreter has failed, `Memory` where a growth was refused.
     pub fn var(&mut self, name: &str) -> Result<Option<RcStr>, HostFault>
         ensures failed { IsErrOf result host.Failed ↔ IsTrue self.old.failed }
-        ensures text { IfOk result (λ text. option_map text_of text ≡ host_text (get self.old.globals (chars name.now))) }
+        ensures value { IfOk result (λ value. option_map text_of value ≡ host_text (get self.old.globals (chars name.now))) }
         ensures fault { IfErr result IsRefusal }
         ensures same { self.new ≡ self.old }
     {
@@ -125,10 +126,10 @@ impl Interp {
     /// # Errors
     /// `Failed` where the interpreter has failed, `Memory` where a growth was refused, `Var` where the variable can't be
     /// written. The interpreter is then as it was.
-    pub fn set_var(&mut self, name: &str, text: &str) -> Result<(), HostFault>
+    pub fn set_var(&mut self, name: &str, value: &str) -> Result<(), HostFault>
         ensures failed { IsErrOf result host.Failed ↔ IsTrue self.old.failed }
-        ensures done { OnOk result (put self.old.globals (chars name.now) (chars text.now) ≡ Ok self.new.globals) }
-        ensures refused { IfErr result (RefusesPut (put self.old.globals (chars name.now) (chars text.now))) }
+        ensures done { OnOk result (put self.old.globals (chars name.now) (chars value.now) ≡ Ok self.new.globals) }
+        ensures refused { IfErr result (RefusesPut (put self.old.globals (chars name.now) (chars value.now))) }
         ensures same { OnErr result (self.new ≡ self.old) }
         ensures dialect { self.new.dialect ≡ self.old.dialect }
         ensures sound { self.new.failed ≡ self.old.failed }
@@ -136,7 +137,7 @@ impl Interp {
         if self.failed {
             return Err(HostFault::Failed);
         }
-        let value = Value::from_str(self.alloc, text)?;
+        let value = Value::from_str(self.alloc, value)?;
         match self.evaluation.variables.put(self.alloc, name, value) {
             Ok(()) => Ok(()),
             Err(PutFault::Refused(refusal)) => Err(HostFault::Var(VarFault::from(refusal))),
@@ -158,6 +159,15 @@ impl Interp {
             return Err(HostFault::Failed);
         }
         Ok(self.evaluation.variables.host_vars(self.alloc)?)
+    }
+
+    // Puts a text into a global variable, whatever it was.
+    pub(crate) fn define(&mut self, name: &str, value: &str) -> Result<(), AllocError>
+        ensures done { OnOk result (self.new.globals ≡ map.insert self.old.globals (chars name.now) (text (chars value.now))) }
+        ensures sound { self.new.failed ≡ self.old.failed }
+    {
+        let value = Value::from_str(self.alloc, value)?;
+        self.evaluation.variables.define(self.alloc, name, value)
     }
 
     // Marks the interpreter as failed.

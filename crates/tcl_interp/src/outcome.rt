@@ -1,8 +1,8 @@
 //! How an evaluation ended, as a host sees it.
-ghost use Rattle.std.specs.Prelude.{◌≡◌, IfOk};
+ghost use Rattle.std.specs.Prelude.{◌≡◌, false, IfOk};
 ghost use Rattle.std.specs.Str.{chars};
 ghost use Rattle.tcl_meaning.specs.Run.{code_number, options_text, args_error};
-ghost use Rattle.tcl_interp.specs.Outcomes.{Tells, IsOutcomeOf, IsOutcome, outcome_fails};
+ghost use Rattle.tcl_interp.specs.Outcomes.{Tells, IsOutcomeOf, IsOutcome, outcome_fails, outcome_is_io};
 
 use crate::completion::Completion;
 use crate::fault::Fault;
@@ -74,7 +74,8 @@ pub(crate) fn outcome_fails(outcome: &Outcome) -> bool
 
 /// The outcome of a run with more arguments than there are lists for.
 pub(crate) fn refused_args(alloc: Global, left: u64) -> Outcome
-    ensures { IsOutcome result args_error left }
+    ensures quiet { outcome_is_io result ≡ false }
+    ensures outcome { IsOutcome result args_error left }
 {
     match Completion::failure(alloc, "script arguments come with lists") {
         Ok(completion) => outcome_of(alloc, Ok(completion), left),

@@ -159,6 +159,14 @@ impl Variables {
         }
     }
 
+    /// Puts a variable with this text under a name as it is, whatever was there.
+    pub(crate) fn define(&mut self, alloc: Global, name: &str, value: Value) -> Result<(), AllocError>
+        ensures done { OnOk result (self.new ≡ map.insert self.old (chars name.now) (text value)) }
+        ensures same { OnErr result (self.new ≡ self.old) }
+    {
+        self.map.insert(alloc, name, Variable::of_text(value))
+    }
+
     /// Puts a value under the name of a variable or an element, which is made where it is missing: set(n).
     #[tactic(auto, unfolding(tcl_meaning::specs::Variables::put))]
     pub(crate) fn put(&mut self, alloc: Global, name: &str, value: Value) -> Result<(), PutFault>

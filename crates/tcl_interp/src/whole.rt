@@ -9,14 +9,14 @@ ghost use Rattle.tcl_interp.specs.Outcomes.{Ends, outcome_is_io, outcome_fails};
 ghost use Rattle.tcl_interp.specs.Reports.{Reports};
 ghost use Rattle.tcl_interp.specs.Shown.{Leaves, Counted};
 
-use crate::host::{Config, HostFault, Outcome};
+use crate::host::{Config, Outcome};
 use crate::interp::Interp;
 use crate::outcome::{outcome_fails, refused_args};
 use std::alloc::Global;
 use tcl_chan::device::{Input, Output};
 use tcl_chan::fault::{ChanFault, Out};
 use tcl_chan::world::World;
-use tcl_chars::Dialect;
+use tcl_chars::{Dialect, Fault};
 
 /// How a run ended, and the interpreter that it leaves.
 #[derive(Drop)]
@@ -63,17 +63,58 @@ fn run_in<R: Input, W: Output, E: Output>(
 }
 
 // An interpreter whose variables hold the arguments.
-fn prepared(alloc: Global, name: &str) -> Result<Interp, HostFault>
+fn prepared(alloc: Global, name: &str) -> Result<Interp, Fault>
     ensures globals { IfOk result (λ interp. interp.globals ≡ args_put (chars name.now)) }
     ensures sound { IfOk result (λ interp. interp.failed ≡ false) }
 {
     let Ok(mut interp) = Interp::new(alloc, Config { dialect: Dialect::Tcl86 }) else {
-        return Err(HostFault::Memory);
+        return Err(Fault::Memory);
     };
-    interp.set_var("argv0", name)?;
-    interp.set_var("argv", "")?;
-    interp.set_var("argc", "0")?;
+    interp.define("argv0", name)?;
+    interp.define("argv", "")?;
+    interp.define("argc", "0")?;
     Ok(interp)
+}
+
+// Runs a script by a name.
+fn run_named<R: Input, W: Output, E: Output>(
+    alloc: Global,
+    script: &str,
+    name: &str,
+    reader: &mut R,
+    out: &mut W,
+    err: &mut E,
+    budget: u64,
+) -> Report
+    ensures report { Reports result (run_script (chars script.now) (first_state (args_put (chars name.now)) (W.written out.old) (E.written err.old) budget)) (W.written out.new) (E.written err.new) }
+    ensures failures { Counted W.failed_calls E.failed_calls (outcome_is_io result.outcome) out.old err.old out.new err.new }
+{
+    let Ok(mut interp) = prepared(alloc, name) else {
+        return Report {
+            outcome: Outcome::Memory,
+            interp: None,
+        };
+    };
+    let mut world = World::new(alloc, reader, out, err);
+    let outcome = run_in(&mut interp, &mut world, script, budget);
+    Report {
+        outcome,
+        interp: Some(interp),
+    }
+}
+
+// The report of a run with more than one argument.
+fn refused(alloc: Global, budget: u64) -> Report
+    ensures quiet { outcome_is_io result.outcome ≡ false }
+    ensures report { (out err : Option (List ℕ)) → Reports result (Gives args_error (first_state map.empty out err budget)) out err }
+{
+    let Ok(interp) = Interp::new(alloc, Config { dialect: Dialect::Tcl86 }) else {
+        return Report { outcome: Outcome::Memory, interp: None };
+    };
+    match refused_args(alloc, budget) {
+        Outcome::Memory => Report { outcome: Outcome::Memory, interp: None },
+        outcome => Report { outcome, interp: Some(interp) },
+    }
 }
 
 /// Runs a script: `argv0` holds the first of the arguments, `argv` the list of the others and `argc` their count. Unless
@@ -92,27 +133,9 @@ pub fn run<R: Input, W: Output, E: Output>(
     ensures report { Reports result (run_with_args (chars script.now) (each (λ a. chars a.now) args.now) (W.written out.old) (E.written err.old) budget) (W.written out.new) (E.written err.new) }
     ensures failures { Counted W.failed_calls E.failed_calls (outcome_is_io result.outcome) out.old err.old out.new err.new }
 {
-    if args.len() > 1 {
-        return refused(alloc, budget);
-    }
-    let name = args.first().copied().unwrap_or("");
-    let Ok(mut interp) = prepared(alloc, name) else {
-        return Report { outcome: Outcome::Memory, interp: None };
-    };
-    let mut world = World::new(alloc, reader, out, err);
-    let outcome = run_in(&mut interp, &mut world, script, budget);
-    Report { outcome, interp: Some(interp) }
-}
-
-// The report of a run with more than one argument.
-fn refused(alloc: Global, budget: u64) -> Report
-    ensures { (out err : Option (List ℕ)) → Reports result (Gives args_error (first_state map.empty out err budget)) out err }
-{
-    let Ok(interp) = Interp::new(alloc, Config { dialect: Dialect::Tcl86 }) else {
-        return Report { outcome: Outcome::Memory, interp: None };
-    };
-    match refused_args(alloc, budget) {
-        Outcome::Memory => Report { outcome: Outcome::Memory, interp: None },
-        outcome => Report { outcome, interp: Some(interp) },
+    match args {
+        [] => run_named(alloc, script, "", reader, out, err, budget),
+        [name] => run_named(alloc, script, name, reader, out, err, budget),
+        _ => refused(alloc, budget),
     }
 }
