@@ -1,6 +1,6 @@
 -- What a whole run's steps are, over plain variables.
-use Rattle.std.proofs.Common.{◌≡◌, ℕ, ℤ, Bool, true, false, List, [], Option, refl, sym, ap, ◌∙◌, subst}
-use Rattle.std.specs.FinMap as map
+use Rattle.std.proofs.Common.{◌≡◌, ◌<◌, ◌≤◌, ℕ, ℤ, Bool, true, false, List, [], ◌∷◌, length, map, Option, refl, sym, ap, ◌∙◌, subst, arith}
+use Rattle.std.specs.FinMap as finmap
 use Rattle.std.specs.Str.{chars}
 use Rattle.std.specs.Prelude.{codes}
 use Rattle.tcl_names.specs.Named.{Named}
@@ -8,11 +8,13 @@ use Rattle.tcl_meaning.specs.State.{Variable, Variables, State, text}
 use Rattle.tcl_meaning.specs.Completions as meaning
 use Rattle.tcl_meaning.specs.Effects.{Got, Gives, Broke}
 use Rattle.tcl_meaning.specs.Beginnings.{state_of, OutputsBegin}
-use Rattle.tcl_meaning.specs.Run.{code_number, options_text, args_put}
+use Rattle.tcl_meaning.specs.Run.{code_number, options_text, args_put, args_error, first_state, run_script, run_with_args}
 use Rattle.tcl_meaning.proofs.Runs.{out_same, outputs_same}
 use Rattle.tcl_interp.specs.Endings.{completion_of}
 use Rattle.tcl_interp.specs.Shown.{set_state}
 use Rattle.tcl_interp.specs.Outcomes.{outcome_fails, outcome_is_io, Tells, IsOutcome, Ends}
+use Rattle.tcl_interp.specs.Reports.{Reports}
+use Rattle.tcl_interp.specs.declared.whole.Report.{Report}
 use Rattle.tcl_interp.specs.declared.completion.Completion.{Completion}
 use Rattle.tcl_interp.specs.declared.host.Outcome.{Outcome}
 use Rattle.tcl_interp.specs.declared.host.Outcome.TheVariants as outcome
@@ -50,11 +52,25 @@ ends_begins outcome.Io got vs ws out err f h = absurd cc
 ends_begins outcome.Failed got vs ws out err f h = absurd h
 
 -- the variables of the arguments, put one after another
-pub args_are : (vs₀ vs₁ vs₂ vs₃ : Variables) (name : List ℕ) → vs₀ ≡ map.empty → vs₁ ≡ map.insert vs₀ (chars (codes "argv0")) (text name) → vs₂ ≡ map.insert vs₁ (chars (codes "argv")) (text (chars (codes "")))
-    → vs₃ ≡ map.insert vs₂ (chars (codes "argc")) (text (chars (codes "0"))) → vs₃ ≡ args_put name
+pub args_are : (vs₀ vs₁ vs₂ vs₃ : Variables) (name : List ℕ) → vs₀ ≡ finmap.empty → vs₁ ≡ finmap.insert vs₀ (chars (codes "argv0")) (text name) → vs₂ ≡ finmap.insert vs₁ (chars (codes "argv")) (text (chars (codes "")))
+    → vs₃ ≡ finmap.insert vs₂ (chars (codes "argc")) (text (chars (codes "0"))) → vs₃ ≡ args_put name
 args_are vs₀ vs₁ vs₂ vs₃ name z p q r =
-    let p' : vs₁ ≡ map.insert map.empty (codes "argv0") (text name) = p ∙ ap (λ (m : Variables). map.insert m (chars (codes "argv0")) (text name)) z ∙ ap (λ k. map.insert map.empty k (text name)) argv0_text in
-    let q' = q ∙ ap (λ (m : Variables). map.insert m (chars (codes "argv")) (text (chars (codes "")))) p' ∙ ap (λ k. map.insert (map.insert map.empty (codes "argv0") (text name)) k (text (chars (codes "")))) argv_text
-        ∙ ap (λ t. map.insert (map.insert map.empty (codes "argv0") (text name)) (codes "argv") (text t)) no_text in
-    let two : Variables = map.insert (map.insert map.empty (codes "argv0") (text name)) (codes "argv") (text []) in
-    r ∙ ap (λ (m : Variables). map.insert m (chars (codes "argc")) (text (chars (codes "0")))) q' ∙ ap (λ k. map.insert two k (text (chars (codes "0")))) argc_text ∙ ap (λ t. map.insert two (codes "argc") (text t)) zero_text
+    let p' : vs₁ ≡ finmap.insert finmap.empty (codes "argv0") (text name) = p ∙ ap (λ (m : Variables). finmap.insert m (chars (codes "argv0")) (text name)) z ∙ ap (λ k. finmap.insert finmap.empty k (text name)) argv0_text in
+    let q' = q ∙ ap (λ (m : Variables). finmap.insert m (chars (codes "argv")) (text (chars (codes "")))) p' ∙ ap (λ k. finmap.insert (finmap.insert finmap.empty (codes "argv0") (text name)) k (text (chars (codes "")))) argv_text
+        ∙ ap (λ t. finmap.insert (finmap.insert finmap.empty (codes "argv0") (text name)) (codes "argv") (text t)) no_text in
+    let two : Variables = finmap.insert (finmap.insert finmap.empty (codes "argv0") (text name)) (codes "argv") (text []) in
+    r ∙ ap (λ (m : Variables). finmap.insert m (chars (codes "argc")) (text (chars (codes "0")))) q' ∙ ap (λ k. finmap.insert two k (text (chars (codes "0")))) argc_text ∙ ap (λ t. finmap.insert two (codes "argc") (text t)) zero_text
+
+-- ---- arguments
+
+pub run_none : {A : Type 0} (f : A → List ℕ) (xs : List A) (script : List ℕ) (out err : Option (List ℕ)) (budget : ℕ) → length xs < 1 → run_script script (first_state (args_put (chars (codes ""))) out err budget) ≡ run_with_args script (map f xs) out err budget
+run_none f [] script out err budget h = ap (λ n. run_script script (first_state (args_put n) out err budget)) no_text
+run_none f (x ∷ xs) script out err budget h = absurd (omega arith)
+
+pub run_many : {A : Type 0} (f : A → List ℕ) (xs : List A) (script : List ℕ) (out err : Option (List ℕ)) (budget : ℕ) → 2 ≤ length xs → Gives args_error (first_state finmap.empty out err budget) ≡ run_with_args script (map f xs) out err budget
+run_many f [] script out err budget h = absurd (omega arith)
+run_many f (x ∷ []) script out err budget h = absurd (omega arith)
+run_many f (x ∷ y ∷ xs) script out err budget h = refl
+
+pub reports_as : (r : Report) (got got' : Got meaning.Completion) (out err : Option (List ℕ)) → Reports r got out err → got ≡ got' → Reports r got' out err
+reports_as r got got' out err h e = subst (λ g. Reports r g out err) e h
