@@ -36,6 +36,8 @@ fn one_byte_a_call(rt: HostRuntime) -> Result<(), Fail> {
     assert_eq!(rt; output.flush(), Ok(()));
     assert_eq!(rt; output.failures(), 1);
     assert_eq!(rt; output.inner().bytes(), b"xy".as_slice());
+    let mut failing = OneByte::new(FaultyOutput::new(output, 0, 1));
+    assert_eq!(rt; failing.flush(), Err(Broken));
     Ok(())
 }
 
