@@ -16,6 +16,6 @@ pub use arithmetic::{Arith, Op, UnOp, binary, unary};
 pub use classes::{is_blank, is_list_space, is_name_char, is_word_space};
 pub use escapes::backslash;
 pub use fault::{Fault, ReadFault};
-pub use numbers::{Dialect, Whole, read_whole};
+pub use numbers::{Dialect, Whole, read_whole, skip_space};
 pub use texts::{before, begins, place, push, push_text, split_first, tail};
 pub use truths::{Truth, read_truth};

@@ -22,7 +22,7 @@ pub enum Whole {
 }
 
 /// A text without the list space in front of it.
-fn skip_space(text: &str) -> &str
+pub fn skip_space(text: &str) -> &str
     ensures { chars result.now ≡ skip_space (chars text.now) }
 {
     let mut rest = text;

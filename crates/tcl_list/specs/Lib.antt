@@ -1,0 +1,5 @@
+pub mod Braces
+pub mod Elements
+pub mod Faults
+pub mod Texts
+pub mod Written
