@@ -3,6 +3,7 @@
 
 mod braces;
 mod faults;
+pub mod laws;
 mod reading;
 #[cfg(test)]
 mod tests;
