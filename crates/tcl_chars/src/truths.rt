@@ -53,7 +53,7 @@ fn begins_no(text: &str) -> bool
 
 /// What a text says as a truth value: a number, or the beginning of a truth word.
 pub fn read_truth(text: &str, dialect: Dialect) -> Truth
-    ensures { result ≡ truth_of (chars text.now) }
+    ensures { result ≡ truth_of dialect (chars text.now) }
 {
     match read_whole(text, dialect) {
         Whole::Number(number) => { if number == 0 { Truth::No } else { Truth::Yes } }
