@@ -1,5 +1,5 @@
 -- Where the sign of a sum stands.
-use Rattle.std.proofs.Common.{◌≡◌, ℕ, ◌==◌, ◌||◌, Bool, List, [], ◌∷◌, ◌++◌, sym, ap, ◌∙◌, subst, refl, nat_eq, rules}
+use Rattle.std.proofs.Common.{◌≡◌, ℕ, ◌==◌, ◌||◌, Bool, List, [], ◌∷◌, ap, ◌∙◌, refl, nat_eq, rules}
 use Rattle.std.specs.Cmp.Lexicographic.{pointwise}
 use Rattle.std.specs.Prelude.{codes}
 use Rattle.std.specs.Str.{chars, IsUtf8, IsAscii}

@@ -21,7 +21,7 @@ pub enum Whole {
     Not,
 }
 
-/// A text without the list space in front of it.
+/// The text without the list space in front of it.
 pub fn skip_space(text: &str) -> &str
     ensures { chars result.now ≡ skip_space (chars text.now) }
 {
@@ -147,7 +147,7 @@ fn with_sign(negative: bool, size: u64) -> Whole
     }
 }
 
-/// What a text says as a whole number: list space around it is passed over.
+/// What a text says as a whole number of 64 bits (expr(n), Operands), with list space round it passed over.
 pub fn read_whole(text: &str, dialect: Dialect) -> Whole
     ensures { result ≡ whole_of dialect (chars text.now) }
 {

@@ -71,7 +71,8 @@ pub(crate) fn is_balanced(text: &str) -> bool
 
 /// What a text behind an opening brace has left at the brace that matches.
 pub(crate) fn to_close(text: &str) -> Option<&str>
-    ensures { MatchOption result (to_close false 0 (chars text.now) ≡ None) (λ t. to_close false 0 (chars text.now) ≡ Some (chars t.now)) }
+    ensures { MatchOption result (to_close false 0 (chars text.now) ≡ None)
+        (λ t. to_close false 0 (chars text.now) ≡ Some (chars t.now)) }
 {
     let mut rest = text;
     let mut hidden = false;

@@ -41,7 +41,8 @@ fn beginning(closed: Closed) -> &'static str
 
 /// Writes the characters of a text up to list space.
 fn push_to_space(message: &mut String, text: &str) -> Result<(), AllocError>
-    ensures { OnOk result (chars (string_bytes message.new) ≡ chars (string_bytes message.old) ++ up_to_space (chars text.now)) }
+    ensures { OnOk result (chars (string_bytes message.new)
+        ≡ chars (string_bytes message.old) ++ up_to_space (chars text.now)) }
 {
     let mut rest = text;
     while let Some((c, after)) = split_first(rest) {

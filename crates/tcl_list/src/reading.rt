@@ -77,7 +77,8 @@ fn followed(
     element: RcStr,
     text: &str,
 ) -> Result<(RcStr, &str), Fault>
-    ensures { Answers (λ x. (text_of x.0, chars x.1.now)) result (followed closed (text_of element) (chars text.now)) }
+    ensures { Answers (λ x. (text_of x.0, chars x.1.now)) result
+        (followed closed (text_of element) (chars text.now)) }
 {
     let Some((c, _)) = split_first(text) else {
         return Ok((element, text));

@@ -100,7 +100,8 @@ fn behind_backslash(c: char) -> Option<char>
 
 /// Writes the characters of an element, behind backslashes where they need them.
 fn push_escaped(text: &mut String, element: &str) -> Result<(), AllocError>
-    ensures { Writes (chars (string_bytes text.old)) (chars (string_bytes text.new)) (all_escaped (chars element.now)) result }
+    ensures { Writes (chars (string_bytes text.old)) (chars (string_bytes text.new))
+        (all_escaped (chars element.now)) result }
 {
     let mut rest = element;
     while let Some((c, after)) = split_first(rest) {
@@ -119,7 +120,8 @@ fn push_escaped(text: &mut String, element: &str) -> Result<(), AllocError>
 /// Writes an element in its form.
 #[tactic(auto, using(crate::proofs::Messages::chars_empty_braces))]
 fn push_form(text: &mut String, element: &str, form: Form, first: bool) -> Result<(), AllocError>
-    ensures { Writes (chars (string_bytes text.old)) (chars (string_bytes text.new)) (spelled form first (chars element.now)) result }
+    ensures { Writes (chars (string_bytes text.old)) (chars (string_bytes text.new))
+        (spelled form first (chars element.now)) result }
 {
     match form {
         Form::Empty => push_text(text, "{}"),
@@ -140,7 +142,8 @@ fn push_form(text: &mut String, element: &str, form: Form, first: bool) -> Resul
 
 /// Writes an element, behind a space unless it is the first.
 fn push_element(text: &mut String, element: &str, first: bool) -> Result<(), AllocError>
-    ensures { Writes (chars (string_bytes text.old)) (chars (string_bytes text.new)) (appended first (chars element.now)) result }
+    ensures { Writes (chars (string_bytes text.old)) (chars (string_bytes text.new))
+        (appended first (chars element.now)) result }
 {
     if first {
         return push_form(text, element, form_of(element, true), true);
@@ -157,7 +160,8 @@ fn push_element(text: &mut String, element: &str, first: bool) -> Result<(), All
 ///
 /// `Fault::Memory` where a growth was refused; the text is then as it was.
 pub fn append_element(text: &mut String, element: &str, first: bool) -> Result<(), Fault>
-    ensures written { OnOk result (chars (string_bytes text.new) ≡ chars (string_bytes text.old) ++ appended first (chars element.now)) }
+    ensures written { OnOk result (chars (string_bytes text.new)
+        ≡ chars (string_bytes text.old) ++ appended first (chars element.now)) }
     ensures refused { IfErr result (λ e. e ≡ fault.Memory) }
     ensures same { OnErr result (string_bytes text.new ≡ string_bytes text.old) }
 {

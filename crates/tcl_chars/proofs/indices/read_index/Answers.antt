@@ -1,6 +1,6 @@
 use Rattle.std.proofs.Common.{ap, sym, ◌∙◌}
 use Rattle.std.specs.Str.{chars}
-use Rattle.tcl_chars.specs.Index.{number_or_sum, of_whole, index_of}
+use Rattle.tcl_chars.specs.Index.{number_or_sum, index_of}
 use Rattle.tcl_chars.proofs.Signs.{alone}
 use Rattle.tcl_chars.proofs.indices.read_index.Goals as goal
 

@@ -1,4 +1,4 @@
-use Rattle.std.proofs.Common.{◌≡◌, ap, subst, sym, ◌∙◌}
+use Rattle.std.proofs.Common.{ap, subst, sym, ◌∙◌}
 use Rattle.std.specs.Str.{chars}
 use Rattle.tcl_chars.specs.Index.{to_sign}
 use Rattle.tcl_chars.specs.Place.{EndsWith}
