@@ -1,7 +1,7 @@
 -- What the search for a closing brace found.
-use Rattle.std.proofs.Common.{◌≡◌, ◌≢◌, ℕ, zero, suc, ◌==◌, Bool, true, false, not, ◌&&◌, List, [], ◌∷◌, ◌++◌, Option, Some, None, sym, ap, ◌∙◌, subst, refl, arith}
+use Rattle.std.proofs.Common.{◌≡◌, ◌≢◌, ℕ, zero, suc, ◌==◌, Bool, true, false, not, ◌&&◌, List, [], ◌∷◌, ◌++◌, Option, Some, None, sym, ap, ◌∙◌, refl, arith}
 use Rattle.std.specs.Option.{option_map_or}
-use Rattle.std.proofs.lemmas.Bool.{cond-true, cond-false, cond_both, eq-eqb, eqb-true, ne_eqb, false≢true, true≢false}
+use Rattle.std.proofs.lemmas.Bool.{cond_both, eqb-true, ne_eqb, false≢true}
 use Rattle.tcl_chars.specs.Characters.{backslash, open_brace, close_brace}
 use Rattle.tcl_list.specs.Braces.{mark_of, hides, counted, balances, to_close}
 use Rattle.tcl_list.specs.declared.braces.Mark.{Mark}

@@ -1,5 +1,5 @@
 -- Where a brace closes.
-use Rattle.std.proofs.Common.{◌≡◌, ℕ, Bool, List, [], ◌∷◌, Option, Some, None, ap, refl}
+use Rattle.std.proofs.Common.{◌≡◌, ℕ, Bool, List, [], ◌∷◌, Option, Some, None, ap}
 use Rattle.std.specs.Option.{option_map_or}
 use Rattle.tcl_chars.specs.Place.{EndsWith}
 use Rattle.tcl_list.specs.Braces.{mark_of, hides, counted, to_close}

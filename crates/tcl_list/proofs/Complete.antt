@@ -1,18 +1,17 @@
 -- What is spelled is read.
-use Rattle.std.proofs.Common.{◌≡◌, ◌≢◌, ℕ, zero, suc, ◌+◌, ◌-◌, ◌<◌, ◌==◌, Bool, true, false, not, ◌&&◌, List, [], ◌∷◌, ◌++◌, length, drop, take, cond, Option, Some, None, Result, Ok, Err, sym, ap, ◌∙◌, subst, refl, arith, length-append}
+use Rattle.std.proofs.Common.{◌≡◌, ◌≢◌, ℕ, zero, suc, ◌-◌, ◌==◌, Bool, true, false, List, [], ◌∷◌, ◌++◌, length, drop, Option, Some, None, Ok, Err, sym, ap, ◌∙◌, refl, arith, length-append}
 use Rattle.std.specs.Option.{option_map_or}
-use Rattle.std.proofs.lemmas.Bool.{cond-true, cond-false, eq-eqb, ne_eqb, and_parts, false≢true, true≢false}
+use Rattle.std.proofs.lemmas.Bool.{cond-true, cond-false, eq-eqb, ne_eqb, false≢true}
 use Rattle.std.proofs.lemmas.List.{take_at}
 use Rattle.tcl_chars.specs.Characters.{backslash, quote, open_brace, close_brace}
 use Rattle.tcl_chars.specs.Classes.{is_list_space}
 use Rattle.tcl_chars.specs.Escape.{escape}
-use Rattle.tcl_chars.specs.Place.{before, tail}
-use Rattle.tcl_chars.specs.Reading.{◌>>=◌, Reading, with_front, all_turns}
-use Rattle.tcl_chars.specs.Whole.{skip_space}
-use Rattle.tcl_chars.proofs.Turns.{Shrinks, last_turn, bad_turn, one_turn}
+use Rattle.tcl_chars.specs.Place.{before}
+use Rattle.tcl_chars.specs.Reading.{◌>>=◌, with_front}
+use Rattle.tcl_chars.proofs.Turns.{last_turn, one_turn}
 use Rattle.tcl_list.specs.Braces.{mark_of, hides, counted, balances, is_balanced, to_close}
-use Rattle.tcl_list.specs.Elements.{ends, letter, letters, up_to_space, followed, unquoted, quoted, braced, element, element_in, next_element, elements_of}
-use Rattle.tcl_list.specs.Faults.{unmatched_brace, unmatched_quote, followed_by}
+use Rattle.tcl_list.specs.Elements.{ends, letter, letters, up_to_space, followed, quoted, braced, element, element_in, next_element}
+use Rattle.tcl_list.specs.Faults.{followed_by}
 use Rattle.tcl_list.specs.Spelling.{Letters, none, plain, escaped, EndsAt, Spells}
 use Rattle.tcl_list.specs.FirstFault.{HasNoSpace}
 use Rattle.tcl_list.specs.Spelling as spelling
@@ -20,8 +19,8 @@ use Rattle.tcl_list.specs.declared.reading.Closed.{Closed}
 use Rattle.tcl_list.specs.declared.reading.Closed.TheVariants as closed
 use Rattle.tcl_list.specs.declared.reading.End.{End}
 use Rattle.tcl_list.specs.declared.reading.End.TheVariants.{Space, Quote}
-use Rattle.tcl_list.proofs.Forward.{letter_shrinks, next_shrinks}
-use Rattle.tcl_list.proofs.Parts.{quote_open, quote_closed, brace_open, brace_closed}
+use Rattle.tcl_list.proofs.Forward.{letter_shrinks}
+use Rattle.tcl_list.proofs.Parts.{quote_closed, brace_closed}
 
 -- ---- letters
 

@@ -1,11 +1,11 @@
 -- What a writer puts behind a backslash says the character again.
-use Rattle.std.proofs.Common.{◌≡◌, ◌≢◌, ℕ, ◌+◌, ◌<◌, ◌≤◌, ◌==◌, ◌||◌, true, false, List, [], ◌∷◌, Bool, cond, Option, Some, None, sym, ap, ◌∙◌, subst, refl, arith}
+use Rattle.std.proofs.Common.{◌≡◌, ℕ, ◌<◌, ◌==◌, true, false, List, ◌∷◌, Option, Some, None, sym, ap, ◌∙◌, refl, arith}
 use Rattle.std.specs.Char.{digit_value}
-use Rattle.std.proofs.lemmas.Bool.{cond-true, cond-false, cond_both, eqb-true, eqb-false, eq-eqb, ne_eqb}
+use Rattle.std.proofs.lemmas.Bool.{cond-true, cond-false, cond_both, eqb-true, eq-eqb}
 use Rattle.std.proofs.lemmas.Bool.Decides.{nat_tests}
 use Rattle.tcl_chars.specs.Characters.{backslash, space, newline, number_sign}
 use Rattle.tcl_chars.specs.Classes.{is_list_space}
-use Rattle.tcl_chars.specs.Escape.{escape, escape_of, by_control, by_code_form, octal_or_self, control_of, code_form, longest_run}
+use Rattle.tcl_chars.specs.Escape.{escape, escape_of, by_control, by_code_form, control_of, code_form, longest_run}
 use Rattle.tcl_chars.proofs.Runs.{longest_is, run_ends_at_other}
 use Rattle.tcl_list.specs.Written.{is_special, behind_backslash}
 

@@ -3,7 +3,6 @@ use Rattle.std.proofs.Common.{◌≡◌, ℕ, true, List, [], ◌∷◌, Option,
 use Rattle.std.proofs.lemmas.Bool.{cond-true}
 use Rattle.tcl_chars.specs.Classes.{is_list_space}
 use Rattle.tcl_chars.specs.Reading.{◌>>=◌, Reading, with_front, all_turns}
-use Rattle.tcl_chars.specs.Whole.{skip_space}
 use Rattle.tcl_chars.proofs.Turns.{Shrinks, last_turn, bad_turn, one_turn}
 use Rattle.tcl_list.specs.Elements.{element_in, next_element, elements_of}
 use Rattle.tcl_list.proofs.Forward.{next_shrinks}

@@ -1,7 +1,7 @@
 -- A text reads as the elements that it spells, or has the fault that stands in it.
-use Rattle.std.proofs.Common.{◌≡◌, ℕ, false, List, [], ◌∷◌, ◌++◌, Option, Some, None, Result, Ok, Err, sym, ap, ◌∙◌, subst, refl, inl, inr, ◌⊎◌}
-use Rattle.tcl_chars.specs.Characters.{quote, close_brace}
-use Rattle.tcl_list.specs.Braces.{is_balanced, to_close}
+use Rattle.std.proofs.Common.{◌≡◌, ℕ, false, List, [], ◌∷◌, ◌++◌, Option, Some, None, Result, Ok, Err, ◌∙◌, subst, refl, inl, inr, ◌⊎◌}
+use Rattle.tcl_chars.specs.Characters.{quote}
+use Rattle.tcl_list.specs.Braces.{to_close}
 use Rattle.tcl_list.specs.Elements.{braced, elements_of}
 use Rattle.tcl_list.specs.Faults.{unmatched_brace}
 use Rattle.tcl_list.specs.FirstFault.{ListFault}

@@ -1,5 +1,5 @@
 -- The readings of elements, a case at a time.
-use Rattle.std.proofs.Common.{◌≡◌, ℕ, false, List, [], ◌∷◌, Option, Some, None, Result, Ok, Err, sym, ap, ◌∙◌, subst}
+use Rattle.std.proofs.Common.{◌≡◌, ℕ, false, List, [], ◌∷◌, Some, None, Ok, Err, sym, ap, ◌∙◌, subst}
 use Rattle.tcl_chars.specs.Place.{before, tail}
 use Rattle.tcl_chars.specs.Reading.{◌>>=◌, all_turns, with_front}
 use Rattle.tcl_chars.specs.Whole.{skip_space}

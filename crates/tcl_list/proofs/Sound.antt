@@ -1,11 +1,11 @@
 -- What is read is spelled.
-use Rattle.std.proofs.Common.{◌≡◌, ◌≢◌, ℕ, zero, suc, ◌<◌, ◌≤◌, ◌==◌, Bool, true, false, List, [], ◌∷◌, ◌++◌, length, drop, cond, Option, Some, None, Result, Ok, Err, IfOk, sym, ap, ◌∙◌, subst, refl, arith}
-use Rattle.std.proofs.lemmas.Bool.{cond-true, cond-false, cond_both, eqb-true, eqb-false, eq-eqb, ne_eqb}
+use Rattle.std.proofs.Common.{◌≡◌, ◌≢◌, ℕ, zero, suc, ◌<◌, ◌≤◌, ◌==◌, Bool, true, false, List, [], ◌∷◌, ◌++◌, length, drop, Option, Some, None, Result, Ok, Err, IfOk, sym, ap, ◌∙◌, subst, refl, arith}
+use Rattle.std.proofs.lemmas.Bool.{cond-true, cond-false, cond_both, eqb-true, eqb-false}
 use Rattle.tcl_chars.specs.Characters.{backslash, quote, open_brace, close_brace}
 use Rattle.tcl_chars.specs.Classes.{is_list_space}
 use Rattle.tcl_chars.specs.Escape.{escape}
 use Rattle.tcl_chars.specs.Place.{before, tail}
-use Rattle.tcl_chars.specs.Reading.{◌>>=◌, with_front, all_turns}
+use Rattle.tcl_chars.specs.Reading.{◌>>=◌, with_front}
 use Rattle.tcl_chars.proofs.Turns.{last_turn, one_turn}
 use Rattle.tcl_list.specs.Braces.{is_balanced, to_close}
 use Rattle.tcl_list.specs.Elements.{ends, letter, letters, up_to_space, followed, unquoted, quoted, unbraced, braced, element, elements_of}

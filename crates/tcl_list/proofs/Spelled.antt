@@ -1,19 +1,16 @@
 -- What is written spells the elements that were written.
-use Rattle.std.proofs.Common.{arith, ◌≡◌, ◌≢◌, ℕ, ◌==◌, ◌||◌, ◌&&◌, not, Bool, true, false, List, [], ◌∷◌, ◌++◌, drop, Option, Some, None, sym, ap, ◌∙◌, subst, refl, append_assoc}
-use Rattle.std.proofs.lemmas.Bool.{cond_both, cond-true, and_parts, eqb-true, false≢true, true≢false}
+use Rattle.std.proofs.Common.{arith, ◌≡◌, ◌≢◌, ℕ, ◌||◌, ◌&&◌, not, Bool, true, false, List, [], ◌∷◌, ◌++◌, drop, Option, Some, None, sym, ap, ◌∙◌, subst, refl, append_assoc}
+use Rattle.std.proofs.lemmas.Bool.{cond_both, and_parts, eqb-true, false≢true, true≢false}
 use Rattle.tcl_chars.specs.Characters.{backslash, space, quote, open_brace, close_brace, number_sign}
 use Rattle.tcl_chars.specs.Classes.{is_list_space}
 use Rattle.tcl_chars.specs.Escape.{escape}
-use Rattle.tcl_chars.specs.Place.{begins}
 use Rattle.tcl_list.specs.Braces.{is_balanced}
-use Rattle.tcl_list.specs.Elements.{ends}
 use Rattle.tcl_list.specs.Laws.{WrittenIsSpelled}
 use Rattle.tcl_list.specs.Spelling.{Letters, none, plain, escaped, EndsAt, Spells, bare, braced, Reads, nothing, element}
 use Rattle.tcl_list.specs.Spelling as spelling
-use Rattle.tcl_list.specs.Written.{is_special, is_plain, is_continued, is_comment, form_of, behind_backslash, backslashed, all_escaped, spelled, written_element, appended, written_behind, written}
+use Rattle.tcl_list.specs.Written.{is_special, is_plain, is_continued, is_comment, form_of, behind_backslash, backslashed, all_escaped, spelled, written_element, appended, written_behind}
 use Rattle.tcl_list.specs.declared.reading.End.TheVariants.{Space}
-use Rattle.tcl_list.specs.declared.writing.Form.{Form}
-use Rattle.tcl_list.specs.declared.writing.Form.TheVariants.{Empty, Bare, Braces, Backslashes}
+use Rattle.tcl_list.specs.declared.writing.Form.TheVariants.{Backslashes}
 use Rattle.tcl_list.proofs.Escapes.{sign_escape, says_again, SaysAgain, IsBare, bare_alone}
 
 no_backslash : (c : ℕ) → is_special c ≡ false → c ≢ backslash

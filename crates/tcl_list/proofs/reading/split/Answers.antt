@@ -1,10 +1,10 @@
-use Rattle.std.proofs.Common.{◌≡◌, ◌∷◌, ◌++◌, [], map, ap, ◌∙◌, rules}
+use Rattle.std.proofs.Common.{◌≡◌, ◌∷◌, ◌++◌, [], map, rules}
 use Rattle.std.proofs.lemmas.List.{map_push}
 use Rattle.std.proofs.lemmas.Result.{err_from_is_err_and}
 use Rattle.std.specs.Str.{chars}
-use Rattle.tcl_chars.specs.Reading.{◌>>=◌, all_turns}
-use Rattle.tcl_chars.proofs.Turns.{goes_on, is_done, shorter}
-use Rattle.tcl_list.specs.Elements.{next_element, elements_of}
+use Rattle.tcl_chars.specs.Reading.{all_turns}
+use Rattle.tcl_chars.proofs.Turns.{goes_on, shorter}
+use Rattle.tcl_list.specs.Elements.{next_element}
 use Rattle.tcl_list.specs.Texts.{text_of}
 use Rattle.tcl_list.proofs.Forward.{next_shrinks}
 use Rattle.tcl_list.proofs.Parts.{list_stops, list_done}

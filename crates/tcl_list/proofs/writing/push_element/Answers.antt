@@ -1,9 +1,7 @@
-use Rattle.std.proofs.Common.{◌≡◌, List, ◌∷◌, [], ℕ, true, false, ap, subst, sym}
+use Rattle.std.proofs.Common.{◌∷◌, []}
 use Rattle.std.specs.Str.{chars}
 use Rattle.std.specs.String.{string_bytes}
 use Rattle.tcl_chars.specs.Characters.{space}
-use Rattle.tcl_list.specs.Texts.{Writes}
-use Rattle.tcl_list.specs.Written.{appended, written_element, spelled}
 use Rattle.tcl_list.proofs.Calls.{wrote_behind}
 use Rattle.tcl_list.proofs.Joining.{appended_first, appended_other}
 use Rattle.tcl_list.proofs.writing.push_element.Goals as goal

@@ -1,8 +1,3 @@
-use Rattle.std.proofs.Common.{◌≡◌, ◌++◌, Result, Ok, Err, refl}
-use Rattle.std.specs.Str.{chars}
-use Rattle.std.specs.String.{string_bytes}
-use Rattle.std.specs.Prelude.{codes, OnOk, OnErr}
-use Rattle.tcl_list.specs.Texts.{Writes}
 use Rattle.tcl_list.proofs.Calls.{wrote}
 use Rattle.tcl_list.proofs.Messages.{chars_empty_braces}
 use Rattle.tcl_list.proofs.writing.push_form.Goals as goal

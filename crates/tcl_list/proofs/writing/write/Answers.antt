@@ -1,4 +1,4 @@
-use Rattle.std.proofs.Common.{◌==◌, ◌++◌, false, sym, ap, ◌∙◌, refl, ◌+◌, arith, rules}
+use Rattle.std.proofs.Common.{◌++◌, sym, ap, ◌∙◌, refl, ◌+◌, arith}
 use Rattle.std.proofs.lemmas.Bool.{ne_eqb}
 use Rattle.std.proofs.lemmas.Str.{chars-nil}
 use Rattle.std.specs.Str.{chars}
