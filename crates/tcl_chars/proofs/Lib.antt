@@ -1,9 +1,11 @@
 pub mod Cuts
+pub mod Division
 pub mod Figures
 pub mod Forms
 pub mod Powers
 pub mod Runs
 pub mod Same
+pub mod Signs
 pub mod Text
 pub mod Turns
 pub mod Words

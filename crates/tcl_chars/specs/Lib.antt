@@ -2,6 +2,8 @@ pub mod Arith
 pub mod Characters
 pub mod Classes
 pub mod Escape
+pub mod Index
+pub mod Laws
 pub mod Place
 pub mod Reading
 pub mod Truth

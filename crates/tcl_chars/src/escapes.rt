@@ -95,7 +95,10 @@ fn digits_behind(letter: char) -> Option<(usize, u32)>
     }
 }
 
-/// What a backslash and the characters behind it stand for, and how many bytes they take.
+/// The character that a backslash and the characters behind it stand for, and how many bytes they take (Tcl(n), rule 9).
+///
+/// The form is the longest that the text allows. A surrogate's code gives U+FFFD, and a backslash at the end of a text
+/// stands for itself: both are the profile's.
 pub fn backslash(text: &str) -> (char, usize)
     requires { slice_index (chars text.now) 0 ≡ 92 }
     ensures stands_for { result.0 ≡ (escape (chars text.now)).0 }

@@ -6,6 +6,8 @@ mod arithmetic;
 mod classes;
 mod escapes;
 mod fault;
+mod indices;
+pub mod laws;
 mod numbers;
 #[cfg(test)]
 mod tests;
@@ -16,6 +18,7 @@ pub use arithmetic::{Arith, Op, UnOp, binary, unary};
 pub use classes::{is_blank, is_list_space, is_name_char, is_word_space};
 pub use escapes::backslash;
 pub use fault::{Fault, ReadFault};
-pub use numbers::{Dialect, Whole, read_whole};
+pub use indices::{Index, Position, place_of, read_index};
+pub use numbers::{Dialect, Whole, read_whole, skip_space};
 pub use texts::{before, begins, place, push, push_text, split_first, tail};
 pub use truths::{Truth, read_truth};

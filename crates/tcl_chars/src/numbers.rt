@@ -2,7 +2,7 @@
 ghost use Rattle.std.specs.Prelude.{◌≡◌, ◌+◌, ◌-◌, ◌*◌, ◌≤◌, ◌<◌, ◌^◌, [], length, take, drop, min, option_map};
 ghost use Rattle.std.specs.Str.{chars};
 ghost use Rattle.std.specs.Str.Parse.{digits_value};
-ghost use Rattle.tcl_chars.specs.Whole.{skip_space, sign_of, radix_of, digits_len, numeral, signed, magnitude, whole_of};
+ghost use Rattle.tcl_chars.specs.Whole.{skip_space, sign_of, zero_radix, radix_of, digits_len, numeral, signed, magnitude, whole_of};
 
 use crate::classes::is_list_space;
 use crate::texts::split_first;
@@ -21,8 +21,8 @@ pub enum Whole {
     Not,
 }
 
-/// A text without the list space in front of it.
-fn skip_space(text: &str) -> &str
+/// The text without the list space in front of it.
+pub fn skip_space(text: &str) -> &str
     ensures { chars result.now ≡ skip_space (chars text.now) }
 {
     let mut rest = text;
@@ -52,10 +52,21 @@ fn split_sign(text: &str) -> (bool, &str)
     (false, text)
 }
 
+/// The radix of digits behind a leading zero.
+fn zero_radix(dialect: Dialect) -> u32
+    ensures radix { result ≡ zero_radix dialect }
+    ensures low { 2 ≤ result }
+    ensures high { result ≤ 16 }
+{
+    match dialect {
+        Dialect::Tcl86 => 8,
+    }
+}
+
 /// The radix of a number text without its sign, and where the digits begin.
-fn split_radix(text: &str) -> (u32, &str)
-    ensures radix { result.0 ≡ (radix_of (chars text.now)).0 }
-    ensures rest { chars result.1.now ≡ (radix_of (chars text.now)).1 }
+fn split_radix(text: &str, dialect: Dialect) -> (u32, &str)
+    ensures radix { result.0 ≡ (radix_of dialect (chars text.now)).0 }
+    ensures rest { chars result.1.now ≡ (radix_of dialect (chars text.now)).1 }
     ensures low { 2 ≤ result.0 }
     ensures high { result.0 ≤ 16 }
 {
@@ -72,7 +83,7 @@ fn split_radix(text: &str) -> (u32, &str)
         'x' | 'X' => (16, rest),
         'o' | 'O' => (8, rest),
         'b' | 'B' => (2, rest),
-        '0'..='9' => (8, behind),
+        '0'..='9' => (zero_radix(dialect), behind),
         _ => (10, text),
     }
 }
@@ -103,10 +114,10 @@ fn split_digits(text: &str, radix: u32) -> (u64, usize, &str)
 }
 
 /// The number that a text without its sign writes, or the greatest one where that is greater.
-fn read_magnitude(text: &str) -> Option<u64>
-    ensures { result ≡ option_map (λ n. min n (2 ^ 64 - 1)) (magnitude (chars text.now)) }
+pub(crate) fn read_magnitude(text: &str, dialect: Dialect) -> Option<u64>
+    ensures { result ≡ option_map (λ n. min n (2 ^ 64 - 1)) (magnitude dialect (chars text.now)) }
 {
-    let (radix, digits) = split_radix(text);
+    let (radix, digits) = split_radix(text, dialect);
     let (value, taken, rest) = split_digits(digits, radix);
     if taken == 0 {
         return None;
@@ -136,13 +147,12 @@ fn with_sign(negative: bool, size: u64) -> Whole
     }
 }
 
-/// What a text says as a whole number: list space around it is passed over.
+/// What a text says as a whole number of 64 bits (expr(n), Operands), with list space round it passed over.
 pub fn read_whole(text: &str, dialect: Dialect) -> Whole
-    ensures { result ≡ whole_of (chars text.now) }
+    ensures { result ≡ whole_of dialect (chars text.now) }
 {
-    let Dialect::Tcl86 = dialect;
     let (negative, digits) = split_sign(skip_space(text));
-    let Some(size) = read_magnitude(digits) else {
+    let Some(size) = read_magnitude(digits, dialect) else {
         return Whole::Not;
     };
     with_sign(negative, size)

@@ -51,9 +51,10 @@ fn begins_no(text: &str) -> bool
     begins(text, "false") || begins(text, "no") || begins(text, "off")
 }
 
-/// What a text says as a truth value: a number, or the beginning of a truth word.
+/// What a text says as a truth value (expr(n), Operands; string(n), `is boolean`): a number, yes unless it is 0, or an
+/// unambiguous beginning of `true`, `yes`, `on`, `false`, `no` or `off` in any ASCII case.
 pub fn read_truth(text: &str, dialect: Dialect) -> Truth
-    ensures { result ≡ truth_of (chars text.now) }
+    ensures { result ≡ truth_of dialect (chars text.now) }
 {
     match read_whole(text, dialect) {
         Whole::Number(number) => { if number == 0 { Truth::No } else { Truth::Yes } }

@@ -1,0 +1,14 @@
+pub mod Calls
+pub mod Closer
+pub mod Closing
+pub mod Complete
+pub mod Cutting
+pub mod Escapes
+pub mod Forward
+pub mod Joining
+pub mod Lists
+pub mod Messages
+pub mod OneList
+pub mod Parts
+pub mod Sound
+pub mod Spelled

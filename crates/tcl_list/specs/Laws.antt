@@ -1,0 +1,26 @@
+-- Laws of reading and writing lists.
+use Rattle.std.specs.Prelude.{◌≡◌, ℕ, List, Ok, Err, ◌⊎◌, ◌↔◌}
+use Rattle.tcl_list.specs.Elements.{elements_of}
+use Rattle.tcl_list.specs.FirstFault.{ListFault}
+use Rattle.tcl_list.specs.Spelling.{Reads}
+use Rattle.tcl_list.specs.Written.{written}
+
+-- A text reads as the elements that it spells, and as no other.
+abbrev pub ReadingIsSpelling : Type 0
+ReadingIsSpelling = (cs : List ℕ) (es : List (List ℕ)) → (elements_of cs ≡ Ok es) ↔ Reads cs es
+
+-- It has the fault that stands in it, and no other.
+abbrev pub FaultIsFirst : Type 0
+FaultIsFirst = (cs m : List ℕ) → (elements_of cs ≡ Err m) ↔ ListFault cs m
+
+-- A text spells one list at most.
+abbrev pub OneReading : Type 0
+OneReading = (cs : List ℕ) (es fs : List (List ℕ)) → Reads cs es → Reads cs fs → es ≡ fs
+
+-- Each text spells a list or has a fault, and none does both.
+abbrev pub ReadingOrFault : Type 0
+ReadingOrFault = (cs : List ℕ) → (((es : List (List ℕ)) × Reads cs es) ⊎ ((m : List ℕ) × ListFault cs m)) × ((es : List (List ℕ)) (m : List ℕ) → Reads cs es → ListFault cs m → ⊥)
+
+-- What is written spells the elements that were written.
+abbrev pub WrittenIsSpelled : Type 0
+WrittenIsSpelled = (es : List (List ℕ)) → Reads (written es) es
