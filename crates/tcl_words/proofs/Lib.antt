@@ -1,3 +1,6 @@
+pub mod Alone
+pub mod Bracketed
+pub mod BracketedTurns
 pub mod Forward
 pub mod Levels
 pub mod Placed

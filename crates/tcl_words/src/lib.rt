@@ -7,6 +7,7 @@ mod command;
 mod complete;
 mod fault;
 mod front;
+pub mod laws;
 mod nesting;
 mod operand;
 mod stretch;

@@ -1,0 +1,15 @@
+//! Laws of the definitions: functions that do nothing, whose contracts speak of the definitions alone.
+
+ghost use Rattle.tcl_words.specs.Laws.{BracketAlone, PiecesTile};
+
+/// The text in a bracket, read alone, has the same commands as inside, with the same places.
+pub fn bracket_alone()
+    ensures { BracketAlone }
+{
+}
+
+/// The pieces of a word stand one behind another, from where they begin to what is left.
+pub fn pieces_tile()
+    ensures { PiecesTile }
+{
+}
