@@ -75,7 +75,7 @@ pub if_weak : {A : Type 0} (P Q : A → Type 0) (r : Result A Syntax) → IfOk r
 if_weak P Q (Ok x) h k = k x h
 if_weak P Q (Err m) h k = tt
 
-if_both : {A : Type 0} (P Q R : A → Type 0) (r : Result A Syntax) → IfOk r P → IfOk r Q → ((x : A) → P x → Q x → R x) → IfOk r R
+pub if_both : {A : Type 0} (P Q R : A → Type 0) (r : Result A Syntax) → IfOk r P → IfOk r Q → ((x : A) → P x → Q x → R x) → IfOk r R
 if_both P Q R (Ok x) h k f = f x h k
 if_both P Q R (Err m) h k f = tt
 

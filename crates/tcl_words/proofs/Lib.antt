@@ -5,5 +5,7 @@ pub mod Forward
 pub mod Levels
 pub mod Placed
 pub mod Spelled
+pub mod Tiles
 pub mod Verbatim
 pub mod Whole
+pub mod Written

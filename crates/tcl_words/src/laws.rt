@@ -1,6 +1,6 @@
 //! Laws of the definitions: functions that do nothing, whose contracts speak of the definitions alone.
 
-ghost use Rattle.tcl_words.specs.Laws.{BracketAlone, PiecesTile};
+ghost use Rattle.tcl_words.specs.Laws.{BracketAlone, PiecesTile, WordsSpelled};
 
 /// The text in a bracket, read alone, has the same commands as inside, with the same places.
 pub fn bracket_alone()
@@ -11,5 +11,11 @@ pub fn bracket_alone()
 /// The pieces of a word stand one behind another, from where they begin to what is left.
 pub fn pieces_tile()
     ensures { PiecesTile }
+{
+}
+
+/// The words of a command, as they are written, with the blanks between them and what is left, are the text.
+pub fn words_spelled()
+    ensures { WordsSpelled }
 {
 }
