@@ -4,6 +4,7 @@ pub mod BracketedTurns
 pub mod Forward
 pub mod Levels
 pub mod Placed
+pub mod Scans
 pub mod Spelled
 pub mod Tiles
 pub mod Verbatim

@@ -49,7 +49,7 @@ stops P step cs h each = stops_n P step (suc (length cs)) cs h each (omega arith
 
 -- ---- characters at the front
 
-headed : (c : ℕ) (cs : List ℕ) → begins c cs ≡ true → cs ≡ c ∷ tail cs
+pub headed : (c : ℕ) (cs : List ℕ) → begins c cs ≡ true → cs ≡ c ∷ tail cs
 headed c [] h = absurd cc
 headed c (d ∷ cs) h = ap (λ x. x ∷ cs) (eqb-true d c h)
 
