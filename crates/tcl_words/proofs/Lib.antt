@@ -5,6 +5,7 @@ pub mod Forward
 pub mod Levels
 pub mod Placed
 pub mod Scans
+pub mod Single
 pub mod Spelled
 pub mod Tiles
 pub mod Verbatim

@@ -1,13 +1,17 @@
 -- Laws of the definitions.
-use Rattle.std.specs.Prelude.{◌≡◌, ◌⊎◌, ℕ, ◌+◌, ◌≤◌, ◌<◌, Bool, not, ◌&&◌, ◌==◌, List, [], ◌∷◌, ◌++◌, length, take, true, false, Option, Some, None, Ok, if◌then◌else◌}
+use Rattle.std.specs.Prelude.{◌≡◌, ◌⊎◌, ℕ, ◌+◌, ◌≤◌, ◌<◌, Bool, not, ◌&&◌, ◌==◌, List, [], ◌∷◌, ◌++◌, length, take, map, true, false, Option, Some, None, Ok, if◌then◌else◌}
 use Rattle.tcl_chars.specs.Characters.{newline, backslash, star, colon, quote, open_brace, close_brace, close_bracket}
 use Rattle.tcl_chars.specs.Classes.{is_word_space, is_name_char}
 use Rattle.tcl_chars.specs.Place.{begins, bytes, place}
 use Rattle.tcl_words.specs.declared.blanks.Gap.TheVariants as gap
+use Rattle.tcl_words.specs.declared.fault.Syntax.{Syntax}
 use Rattle.tcl_words.specs.declared.front.Mode.{Mode}
 use Rattle.tcl_words.specs.declared.word.Form.{Form}
 use Rattle.tcl_words.specs.declared.word.Form.TheVariants as form
-use Rattle.tcl_words.specs.Parts.{Stretch, Part, text, escape, var, elem_, bracket, Shape}
+use Rattle.tcl_words.specs.declared.word.Parsed.{Parsed}
+use Rattle.tcl_words.specs.declared.word.Parsed.TheVariants as parsed
+use Rattle.tcl_words.specs.First.{First, IsParsed}
+use Rattle.tcl_words.specs.Parts.{Stretch, Part, text, escape, var, elem_, bracket, Shape, shape_of}
 use Rattle.tcl_words.specs.Words.{after_gaps, after_name, at_brace, ends_word, after_command, commands_at, first_at, inner_at, pieces_at, words_at}
 
 -- The text in a bracket, read alone, has the same commands as inside, with the same places: before the bracket's end
@@ -118,3 +122,18 @@ is_name colons (c ∷ cs) = if c == colon then is_name (colons + 1) cs else not 
 -- The name of a variable is the longest front of the text that is one.
 abbrev pub NameLongest : Type 0
 NameLongest = (cs : List ℕ) → (name : List ℕ) × (cs ≡ name ++ after_name false cs) × (is_name 0 name ≡ true) × ((n : ℕ) → length name < n → n ≤ length cs → is_name 0 (take n cs) ≡ false)
+
+-- a parse, without where it lies in memory
+pub data Seen : Type 0 where
+  ended : (at : ℕ) → Seen
+  faulty : Syntax → Seen
+  commanded : (words : List Shape) → (at : ℕ) → Seen
+
+abbrev pub seen : Parsed → Seen
+seen (parsed.End at) = ended at
+seen (parsed.Bad m) = faulty m
+seen (parsed.Command words at) = commanded (map shape_of words.items) at
+
+-- A text has one reading: two parses of it are the same.
+abbrev pub OneReading : Type 0
+OneReading = (text : List ℕ) (p q : Parsed) (f : First) → IsParsed text p f → IsParsed text q f → seen p ≡ seen q

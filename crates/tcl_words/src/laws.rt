@@ -1,6 +1,6 @@
 //! Laws of the definitions: functions that do nothing, whose contracts speak of the definitions alone.
 
-ghost use Rattle.tcl_words.specs.Laws.{BraceMatches, BracketAlone, CommentEnds, FirstSpelled, NameLongest, PiecesTile, WordsSpelled};
+ghost use Rattle.tcl_words.specs.Laws.{BraceMatches, BracketAlone, CommentEnds, FirstSpelled, NameLongest, OneReading, PiecesTile, WordsSpelled};
 
 /// The text in a bracket, read alone, has the same commands as inside, with the same places.
 pub fn bracket_alone()
@@ -41,5 +41,11 @@ pub fn comment_ends()
 /// The name of a variable is the longest front of the text that is one.
 pub fn name_longest()
     ensures { NameLongest }
+{
+}
+
+/// A text has one reading: two parses of it are the same.
+pub fn one_reading()
+    ensures { OneReading }
 {
 }

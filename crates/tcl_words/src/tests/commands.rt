@@ -151,9 +151,9 @@ fn variables_and_brackets(rt: HostRuntime) -> Result<(), Fail> {
     Ok(())
 }
 
-/// Places count bytes.
+/// Places count bytes, and no character is special beside those that the rules name.
 #[test]
-fn wide_characters(rt: HostRuntime) -> Result<(), Fail> {
+fn odd_characters(rt: HostRuntime) -> Result<(), Fail> {
     for (text, want) in [
         ("😀 $😀 😀", "<0:😀> <5:$😀> <11:😀> 15"),
         (
@@ -165,6 +165,14 @@ fn wide_characters(rt: HostRuntime) -> Result<(), Fail> {
         ("puts \\😀😀", "<0:puts> <5:\\😀=1f600|10:😀> 14"),
         ("puts ${😀}", "<0:puts> <5:${😀}=7:😀> 12"),
         ("# 😀\n;😀", "<8:😀> 12"),
+        (
+            "p {\0} \"\0\" ${\0} $a(\0) [\0] \0 # \0",
+            "<0:p> {3:\0} \"7:\0\" <10:${\0}=12:\0> <15:$a(\0)=16:a[Text(Span { start: 18, text: \"\\0\" })]> <21:[\0]=22:\0> <25:\0> <27:#> <29:\0> 30",
+        ),
+        (
+            "p {\r} \"\r\" ${\r} $a(\r) [\r]\r\rq",
+            "<0:p> {3:\r} \"7:\r\" <10:${\r}=12:\r> <15:$a(\r)=16:a[Text(Span { start: 18, text: \"\\r\" })]> <21:[\r]=22:\r> <26:q> 27",
+        ),
     ] {
         assert_eq!(rt; first(&rt, text)?.as_str(), want, "{text}");
     }
@@ -210,6 +218,9 @@ fn faults(rt: HostRuntime) -> Result<(), Fail> {
         ("puts \"${a\"", "missing close-brace for variable name"),
         ("puts [a ${b]", "missing close-brace for variable name"),
         ("${", "missing close-brace for variable name"),
+        ("puts [a\\", "missing close-bracket"),
+        ("puts $a(\\", "missing )"),
+        ("puts ${a\\", "missing close-brace for variable name"),
     ] {
         assert_eq!(rt; first(&rt, text)?.as_str(), want, "{text}");
     }
