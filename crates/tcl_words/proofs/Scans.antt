@@ -61,17 +61,17 @@ gaps_front (gap.Comment false) (c ∷ cs) = elim (cases_Bool (c == newline)) [
 gaps_front gap.Between (c ∷ cs) = elim (cases_Bool (is_word_space c || c == newline || c == semicolon)) [
   | inl h ↦ space_gap c cs h (gaps_front gap.Between cs)
   | inr h ↦ elim (cases_Bool (c == backslash && begins newline cs)) [
-      | inl b ↦
-          let both = and_parts (c == backslash) (begins newline cs) b in
-          let e : cs ≡ newline ∷ tail cs = headed newline cs both.1 in
-          let P : List ℕ → Type 0 = λ ds. Gapped gap.Between (c ∷ ds) (after_gaps gap.Between (c ∷ ds)) in
-          let Q : List ℕ → Type 0 = λ ds. Gapped gap.Between ds (after_gaps gap.Between ds) in
-          subst P (sym e) (hidden_gap c (tail cs) h both.0 (subst Q e (gaps_front gap.Between cs)))
-      | inr b ↦ elim (cases_Bool (c == number_sign)) [
-          | inl n ↦ comment_gap c cs (eqb-true c number_sign n) (gaps_front (gap.Comment false) cs)
-          | inr n ↦ no_gap c cs h b n
-        ]
+    | inl b ↦
+        let both = and_parts (c == backslash) (begins newline cs) b in
+        let e : cs ≡ newline ∷ tail cs = headed newline cs both.1 in
+        let P : List ℕ → Type 0 = λ ds. Gapped gap.Between (c ∷ ds) (after_gaps gap.Between (c ∷ ds)) in
+        let Q : List ℕ → Type 0 = λ ds. Gapped gap.Between ds (after_gaps gap.Between ds) in
+        subst P (sym e) (hidden_gap c (tail cs) h both.0 (subst Q e (gaps_front gap.Between cs)))
+    | inr b ↦ elim (cases_Bool (c == number_sign)) [
+      | inl n ↦ comment_gap c cs (eqb-true c number_sign n) (gaps_front (gap.Comment false) cs)
+      | inr n ↦ no_gap c cs h b n
     ]
+  ]
 ]
 
 first_written : (size levels : ℕ) (nested : Bool) (cs : List ℕ) → IfOk (first_at size (inner_at size levels) nested cs) (λ t. IsFirst nested cs t.0 t.1)
@@ -94,7 +94,7 @@ abbrev CommentFrom : Bool → List ℕ → Type 0
 CommentFrom h cs =
     ((count newline (unhidden h cs) ≡ 0) × (after_gaps (gap.Comment h) cs ≡ []))
     ⊎ ((body : List ℕ) × (after : List ℕ) × (cs ≡ body ++ newline ∷ after) × (count newline (unhidden h body) ≡ 0) × (count newline (unhidden h (body ++ newline ∷ [])) ≡ 1)
-        × (after_gaps (gap.Comment h) cs ≡ after_gaps gap.Between after))
+    × (after_gaps (gap.Comment h) cs ≡ after_gaps gap.Between after))
 
 -- one more character, which is no end
 comment_more : (h h' : Bool) (c : ℕ) (cs : List ℕ) → ((ds : List ℕ) → count newline (unhidden h (c ∷ ds)) ≡ count newline (unhidden h' ds)) → after_gaps (gap.Comment h) (c ∷ cs) ≡ after_gaps (gap.Comment h') cs
@@ -163,14 +163,14 @@ brace_from false d (c ∷ cs) = elim (cases_Bool (c == close_brace)) [
       let P : ℕ → Type 0 = λ x. IfOk (at_brace false d (x ∷ cs)) (Matches false d (x ∷ cs)) in
       subst P (sym (eqb-true c close_brace e)) (brace_shut d cs (brace_from false (d - 1) cs))
   | inr e ↦ elim (cases_Bool (c == open_brace)) [
-      | inl f ↦
-          let P : ℕ → Type 0 = λ x. IfOk (at_brace false d (x ∷ cs)) (Matches false d (x ∷ cs)) in
-          let at : P open_brace = if_weak (Matches false (d + 1) cs) (Matches false d (open_brace ∷ cs)) (at_brace false (d + 1) cs) (brace_from false (d + 1) cs)
-              (λ close m. brace_more false false d (d + 1) 1 0 open_brace cs close (λ ds. omega arith) (λ ds. omega arith) (omega arith) m) in
-          subst P (sym (eqb-true c open_brace f)) at
-      | inr f ↦ rw (e, f) (if_weak (Matches (c == backslash) d cs) (Matches false d (c ∷ cs)) (at_brace (c == backslash) d cs) (brace_from (c == backslash) d cs)
-          (λ close m. brace_more false (c == backslash) d d 0 0 c cs close (λ ds. rw f (omega arith)) (λ ds. rw e (omega arith)) refl m))
-    ]
+    | inl f ↦
+        let P : ℕ → Type 0 = λ x. IfOk (at_brace false d (x ∷ cs)) (Matches false d (x ∷ cs)) in
+        let at : P open_brace = if_weak (Matches false (d + 1) cs) (Matches false d (open_brace ∷ cs)) (at_brace false (d + 1) cs) (brace_from false (d + 1) cs)
+        (λ close m. brace_more false false d (d + 1) 1 0 open_brace cs close (λ ds. omega arith) (λ ds. omega arith) (omega arith) m) in
+        subst P (sym (eqb-true c open_brace f)) at
+    | inr f ↦ rw (e, f) (if_weak (Matches (c == backslash) d cs) (Matches false d (c ∷ cs)) (at_brace (c == backslash) d cs) (brace_from (c == backslash) d cs)
+        (λ close m. brace_more false (c == backslash) d d 0 0 c cs close (λ ds. rw f (omega arith)) (λ ds. rw e (omega arith)) refl m))
+  ]
 ]
 
 pub brace_matches : BraceMatches
@@ -241,9 +241,9 @@ longest f run (c ∷ cs) fits = elim (cases_Bool (c == colon)) [
       let at : P colon = λ h. colon_longest f run cs h (longest true (run + 1) cs) in
       (subst P (sym (eqb-true c colon e)) at) fits
   | inr e ↦ elim (cases_Bool (is_name_char c)) [
-      | inl n ↦ let l = longest false 0 cs refl in rw n (c ∷ l.0, ap (λ t. c ∷ t) l.1, rw (e, not_one f run (c ∷ cs) fits e, n, l.2) refl, longer_char run c cs l.0 e l.3)
-      | inr n ↦ rw (n, e) ([], refl, rw (not_one f run (c ∷ cs) fits e) refl, longer_other run c cs e n)
-    ]
+    | inl n ↦ let l = longest false 0 cs refl in rw n (c ∷ l.0, ap (λ t. c ∷ t) l.1, rw (e, not_one f run (c ∷ cs) fits e, n, l.2) refl, longer_char run c cs l.0 e l.3)
+    | inr n ↦ rw (n, e) ([], refl, rw (not_one f run (c ∷ cs) fits e) refl, longer_other run c cs e n)
+  ]
 ]
 
 pub name_longest : NameLongest

@@ -224,9 +224,9 @@ blanks_front (c ∷ []) = elim (cases_Bool (is_word_space c)) [
 blanks_front (c ∷ d ∷ cs) = elim (cases_Bool (is_word_space c)) [
   | inl s ↦ rw s (let f = blanks_front (d ∷ cs) in (c ∷ f.0, only_space c f.0 s f.1, ap (λ t. c ∷ t) f.2))
   | inr s ↦ rw s (elim (cases_Bool (c == backslash && d == newline)) [
-      | inl h ↦ rw h (let f = blanks_front cs in (c ∷ d ∷ f.0, only_hidden c d f.0 s h f.1, ap (λ t. c ∷ d ∷ t) f.2))
-      | inr h ↦ rw h ([], refl, refl)
-    ])
+    | inl h ↦ rw h (let f = blanks_front cs in (c ∷ d ∷ f.0, only_hidden c d f.0 s h f.1, ap (λ t. c ∷ d ∷ t) f.2))
+    | inr h ↦ rw h ([], refl, refl)
+  ])
 ]
 
 -- what a turn's word is written as

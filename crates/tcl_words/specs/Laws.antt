@@ -112,7 +112,7 @@ abbrev pub CommentEnds : Type 0
 CommentEnds = (cs : List ℕ) →
     ((count newline (unhidden false cs) ≡ 0) × (after_gaps (gap.Comment false) cs ≡ []))
     ⊎ ((body : List ℕ) × (after : List ℕ) × (cs ≡ body ++ newline ∷ after) × (count newline (unhidden false body) ≡ 0) × (count newline (unhidden false (body ++ newline ∷ [])) ≡ 1)
-        × (after_gaps (gap.Comment false) cs ≡ after_gaps gap.Between after))
+    × (after_gaps (gap.Comment false) cs ≡ after_gaps gap.Between after))
 
 -- letters, digits, underscores, and colons in runs of two or more; so many colons stand before the text
 abbrev pub is_name : ℕ → List ℕ → Bool
