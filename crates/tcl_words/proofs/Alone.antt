@@ -1,15 +1,12 @@
 -- The text in a bracket, read alone, has the same commands as inside.
-use Rattle.std.proofs.Common.{◌≡◌, ℕ, zero, suc, ◌+◌, ◌-◌, ◌<◌, ◌≤◌, Bool, true, false, cond, not, ◌&&◌, ◌||◌, ◌==◌, List, [], ◌∷◌, ◌++◌, length, drop, Option, Some, None, Result, Ok, Err, refl, sym, ap, subst, ◌∙◌, arith, inl, inr, ◌⊎◌, length-append}
+use Rattle.std.proofs.Common.{◌≡◌, ℕ, zero, suc, ◌+◌, ◌<◌, ◌≤◌, Bool, true, false, cond, ◌&&◌, ◌||◌, ◌==◌, List, [], ◌∷◌, length, drop, Option, Some, None, Result, Ok, Err, refl, sym, ap, subst, ◌∙◌, arith, inl, inr, ◌⊎◌}
 use Rattle.std.specs.Prelude.{IfOk, if◌then◌else◌}
 use Rattle.std.proofs.lemmas.Bool.{cases_Bool, true≢false, eqb-true}
 use Rattle.std.proofs.lemmas.List.{nil_from_length}
-use Rattle.tcl_chars.specs.Characters.{newline, backslash, semicolon, number_sign, star, dollar, quote, open_bracket, close_bracket, close_brace, open_brace, open_paren}
-use Rattle.tcl_chars.specs.Classes.{is_word_space, is_name_char}
+use Rattle.tcl_chars.specs.Characters.{star, close_bracket, close_brace, open_brace, open_paren}
 use Rattle.tcl_chars.specs.Escape.{escape as escape_of}
 use Rattle.tcl_chars.specs.Place.{EndsWith, begins, tail, before, place, bytes}
-use Rattle.tcl_chars.specs.Reading.{◌>>=◌, Reading, with_front, after_turn, turns, all_turns}
-use Rattle.tcl_chars.proofs.Turns.{Shrinks}
-use Rattle.tcl_words.specs.declared.blanks.Gap.{Gap}
+use Rattle.tcl_chars.specs.Reading.{◌>>=◌, all_turns}
 use Rattle.tcl_words.specs.declared.blanks.Gap.TheVariants as gap
 use Rattle.tcl_words.specs.declared.fault.Syntax.{Syntax}
 use Rattle.tcl_words.specs.declared.fault.Syntax.TheVariants.{AfterBrace, AfterQuote}
@@ -21,10 +18,10 @@ use Rattle.tcl_words.specs.declared.word.Form.{Form}
 use Rattle.tcl_words.specs.declared.word.Form.TheVariants as form
 use Rattle.tcl_words.specs.Laws.{BracketAlone}
 use Rattle.tcl_words.specs.Parts.{Part, Shape, parts_of, var, bracket}
-use Rattle.tcl_words.specs.Words.{after_blanks, after_gaps, ends_word, after_name, begins_variable, kind_of, is_plain, after_plain, at_variable_brace, at_brace, verbatim_at, braced_at, stretch, marked, form_of, closed, after_command, Inner, named, variable_at, bracket_at, piece_of, piece_at, pieces_at, quoted_at, word_of, word_at, next_word, words_at, first_at, commands_at, after_commands, closing, index_of, inner_at}
-use Rattle.tcl_words.proofs.Bracketed.{closed_by, behind, length_closed, place_alone, before_alone, stretch_alone, same_cond, and_false, begins_alone, variable_alone, ends_word_alone, Stays, name_alone, blanks_alone, gaps_alone, CutScan, variable_brace_alone, brace_alone, escape_alone}
-use Rattle.tcl_words.proofs.BracketedTurns.{Rest, Cut, cut_of, of_cut, Local, turns_alone}
-use Rattle.tcl_words.proofs.Forward.{Inside, always, ends_le, plain_end, plain_past, if_bind, if_cond, if_weak, forward_shrinks, piece_forward, word_forward, first_forward, words_end, command_end, inner_inside}
+use Rattle.tcl_words.specs.Words.{after_blanks, after_gaps, ends_word, after_name, kind_of, is_plain, after_plain, at_variable_brace, at_brace, verbatim_at, braced_at, stretch, marked, form_of, closed, after_command, Inner, named, variable_at, bracket_at, piece_of, piece_at, pieces_at, quoted_at, word_of, word_at, next_word, words_at, first_at, commands_at, after_commands, closing, index_of, inner_at}
+use Rattle.tcl_words.proofs.Bracketed.{closed_by, behind, length_closed, place_alone, before_alone, stretch_alone, same_cond, and_false, variable_alone, ends_word_alone, Stays, name_alone, blanks_alone, gaps_alone, CutScan, variable_brace_alone, brace_alone, escape_alone}
+use Rattle.tcl_words.proofs.BracketedTurns.{Cut, cut_of, of_cut, turns_alone}
+use Rattle.tcl_words.proofs.Forward.{Inside, always, ends_le, plain_end, plain_past, if_bind, if_cond, forward_shrinks, piece_forward, word_forward, first_forward, words_end, command_end, inner_inside}
 
 tail_le : (cs : List ℕ) → length (tail cs) ≤ length cs
 tail_le [] = omega arith

@@ -1,23 +1,20 @@
 -- What is scanned before a `]` is scanned so where the text ends there.
-use Rattle.std.proofs.Common.{◌≡◌, ℕ, zero, suc, ◌+◌, ◌-◌, ◌<◌, ◌≤◌, Bool, true, false, cond, not, ◌&&◌, ◌||◌, ◌==◌, List, [], ◌∷◌, ◌++◌, length, take, drop, Option, Some, None, Result, Ok, Err, refl, sym, ap, subst, ◌∙◌, arith, inl, inr, length-append}
-use Rattle.std.specs.Prelude.{IfOk, if◌then◌else◌, nat_le, nat_lt, encode_utf8_all}
+use Rattle.std.proofs.Common.{◌≡◌, ℕ, zero, suc, ◌+◌, ◌-◌, ◌<◌, ◌≤◌, Bool, true, false, cond, ◌&&◌, ◌||◌, ◌==◌, List, [], ◌∷◌, ◌++◌, length, take, drop, Option, Some, None, Result, Ok, Err, refl, sym, ap, ◌∙◌, arith, inl, inr, length-append}
+use Rattle.std.specs.Prelude.{IfOk, nat_le, nat_lt, encode_utf8_all}
 use Rattle.std.specs.Char.{digit_value}
 use Rattle.std.specs.Str.Parse.{digits_value}
 use Rattle.std.proofs.lemmas.Bool.{cases_Bool, and_parts, leb-true, le-leb, true≢false, cases_lt}
 use Rattle.std.proofs.lemmas.List.{take-append-le, drop-append-le}
 use Rattle.std.proofs.lemmas.Str.{encodes-append}
-use Rattle.tcl_chars.specs.Characters.{newline, backslash, semicolon, number_sign, colon, open_bracket, close_bracket, close_brace, open_brace}
+use Rattle.tcl_chars.specs.Characters.{newline, backslash, semicolon, number_sign, colon, close_bracket, close_brace, open_brace}
 use Rattle.tcl_chars.specs.Classes.{is_word_space, is_name_char, is_blank}
-use Rattle.tcl_chars.specs.Escape.{escape, escape_of, by_control, by_code_form, control_of, code_form, coded, as_scalar, octal_or_self, is_run, all_digits, longest_run, blanks}
-use Rattle.tcl_chars.specs.Place.{begins, tail, before, place, bytes}
+use Rattle.tcl_chars.specs.Escape.{escape, escape_of, by_control, by_code_form, control_of, code_form, coded, octal_or_self, is_run, all_digits, longest_run, blanks}
+use Rattle.tcl_chars.specs.Place.{begins, before, place, bytes}
 use Rattle.tcl_words.specs.declared.blanks.Gap.{Gap}
 use Rattle.tcl_words.specs.declared.blanks.Gap.TheVariants as gap
 use Rattle.tcl_words.specs.declared.fault.Syntax.{Syntax}
-use Rattle.tcl_words.specs.declared.front.Kind.TheVariants as kind
-use Rattle.tcl_words.specs.declared.front.Mode.{Mode}
-use Rattle.tcl_words.specs.declared.front.Mode.TheVariants as mode
-use Rattle.tcl_words.specs.Words.{after_blanks, after_gaps, ends_word, after_name, begins_variable, kind_of, is_plain, after_plain, at_variable_brace, at_brace, stretch}
-use Rattle.tcl_words.proofs.Forward.{ends_le, gaps_end, plain_end, variable_brace_end, brace_end, if_weak, if_cond}
+use Rattle.tcl_words.specs.Words.{after_blanks, after_gaps, ends_word, after_name, begins_variable, at_variable_brace, at_brace, stretch}
+use Rattle.tcl_words.proofs.Forward.{ends_le, gaps_end, variable_brace_end, brace_end, if_weak, if_cond}
 
 -- the text with a bracket behind it
 abbrev pub closed_by : List ℕ → List ℕ → List ℕ

@@ -4,7 +4,7 @@ use Rattle.std.specs.Prelude.{IfOk}
 use Rattle.tcl_chars.specs.Reading.{◌>>=◌, Reading, with_front, after_turn, turns, all_turns}
 use Rattle.tcl_chars.proofs.Turns.{Shrinks, turns_le_n, shorter}
 use Rattle.tcl_words.specs.declared.fault.Syntax.{Syntax}
-use Rattle.tcl_words.proofs.Bracketed.{closed_by, behind, length_closed}
+use Rattle.tcl_words.proofs.Bracketed.{closed_by, behind}
 
 abbrev pub Rest : {A : Type 0} → List ℕ → A × List ℕ → Result (A × List ℕ) Syntax → Type 0
 Rest y p alone = (s : List ℕ) × (p.1 ≡ closed_by s y) × (alone ≡ Ok (p.0, s))

@@ -1,17 +1,15 @@
 -- What the scans do, in plain words: gaps, comments, braces, names.
-use Rattle.std.proofs.Common.{◌≡◌, ℕ, zero, suc, ◌+◌, ◌-◌, ◌<◌, ◌≤◌, Bool, true, false, cond, not, ◌&&◌, ◌||◌, ◌==◌, List, [], ◌∷◌, ◌++◌, length, take, Option, Some, None, Result, Ok, Err, refl, sym, ap, ◌∙◌, subst, arith, inl, inr, ◌⊎◌}
-use Rattle.std.specs.Prelude.{IfOk, if◌then◌else◌}
+use Rattle.std.proofs.Common.{◌≡◌, ℕ, zero, suc, ◌+◌, ◌-◌, ◌<◌, ◌≤◌, Bool, true, false, not, ◌&&◌, ◌||◌, ◌==◌, List, [], ◌∷◌, ◌++◌, length, take, refl, sym, ap, ◌∙◌, subst, arith, inl, inr, ◌⊎◌}
+use Rattle.std.specs.Prelude.{IfOk}
 use Rattle.std.proofs.lemmas.Bool.{cases_Bool, and_parts, eqb-true, eq-eqb, ne_eqb, true≢false}
 use Rattle.tcl_chars.specs.Characters.{newline, backslash, semicolon, number_sign, colon, open_brace, close_brace}
 use Rattle.tcl_chars.specs.Classes.{is_word_space, is_name_char}
-use Rattle.tcl_chars.specs.Place.{EndsWith, begins, tail}
+use Rattle.tcl_chars.specs.Place.{begins, tail}
 use Rattle.tcl_words.specs.declared.blanks.Gap.{Gap}
 use Rattle.tcl_words.specs.declared.blanks.Gap.TheVariants as gap
-use Rattle.tcl_words.specs.declared.fault.Syntax.{Syntax}
 use Rattle.tcl_words.specs.Laws.{IsFirst, FirstSpelled, Words, unhidden, count, Matches, BraceMatches, CommentEnds, is_name, NameLongest}
-use Rattle.tcl_words.specs.Parts.{Shape}
-use Rattle.tcl_words.specs.Words.{after_gaps, after_name, at_brace, ends_word, after_command, words_at, first_at, inner_at}
-use Rattle.tcl_words.proofs.Forward.{ends_le, gaps_end, if_bind, if_cond, if_ok, if_weak}
+use Rattle.tcl_words.specs.Words.{after_gaps, after_name, at_brace, ends_word, words_at, first_at, inner_at}
+use Rattle.tcl_words.proofs.Forward.{ends_le, gaps_end, if_bind, if_ok, if_weak}
 use Rattle.tcl_words.proofs.Bracketed.{and_false}
 use Rattle.tcl_words.proofs.Written.{headed, words_written}
 

@@ -1,10 +1,9 @@
 -- A text has one reading.
-use Rattle.std.proofs.Common.{◌≡◌, ℕ, List, map, refl, sym, ap, ◌∙◌}
-use Rattle.tcl_words.specs.declared.word.Parsed.{Parsed}
+use Rattle.std.proofs.Common.{map, sym, ap, ◌∙◌}
 use Rattle.tcl_words.specs.declared.word.Parsed.TheVariants as parsed
-use Rattle.tcl_words.specs.First.{First, none, malformed, command, IsParsed}
+use Rattle.tcl_words.specs.First.{none, malformed, command}
 use Rattle.tcl_words.specs.Parts.{shape_of}
-use Rattle.tcl_words.specs.Laws.{OneReading, seen, ended, faulty, commanded}
+use Rattle.tcl_words.specs.Laws.{OneReading, ended, faulty, commanded}
 
 pub one_reading : OneReading
 one_reading text (parsed.End a) (parsed.End b) (none rest) h k = ap ended (h.in_bytes ∙ sym k.in_bytes)

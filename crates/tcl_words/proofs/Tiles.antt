@@ -1,13 +1,11 @@
 -- The pieces of a word stand one behind another, from where it begins up to where it ends.
-use Rattle.std.proofs.Common.{◌≡◌, ℕ, zero, suc, ◌-◌, ◌<◌, Bool, true, false, cond, ◌&&◌, ◌==◌, List, [], ◌∷◌, ◌++◌, length, take, drop, Option, Some, None, Result, Ok, Err, refl, sym, ap, ◌∙◌, subst, arith, inl, inr, append_assoc, length-append}
+use Rattle.std.proofs.Common.{◌≡◌, ℕ, zero, suc, ◌-◌, false, List, [], ◌∷◌, ◌++◌, length, take, Option, Some, None, Result, Ok, Err, refl, sym, ap, ◌∙◌, arith, inl, inr, append_assoc, length-append}
 use Rattle.std.specs.Prelude.{IfOk}
 use Rattle.std.proofs.lemmas.Bool.{cases_Bool}
 use Rattle.std.proofs.lemmas.List.{take_at}
-use Rattle.tcl_chars.specs.Characters.{open_brace, open_paren, open_bracket}
-use Rattle.tcl_chars.specs.Escape.{escape as escape_of}
-use Rattle.tcl_chars.specs.Place.{EndsWith, begins, tail, before, place}
+use Rattle.tcl_chars.specs.Characters.{open_brace, open_paren}
+use Rattle.tcl_chars.specs.Place.{EndsWith, begins, tail, before}
 use Rattle.tcl_chars.specs.Reading.{◌>>=◌, Reading, with_front, after_turn, turns, all_turns}
-use Rattle.tcl_chars.proofs.Turns.{Shrinks, shorter}
 use Rattle.tcl_words.specs.declared.fault.Syntax.{Syntax}
 use Rattle.tcl_words.specs.declared.front.Kind.{Kind}
 use Rattle.tcl_words.specs.declared.front.Kind.TheVariants as kind
@@ -15,7 +13,7 @@ use Rattle.tcl_words.specs.declared.front.Mode.{Mode}
 use Rattle.tcl_words.specs.Parts.{Stretch, Part}
 use Rattle.tcl_words.specs.Laws.{taken, Tiles, PiecesTile, texts}
 use Rattle.tcl_words.specs.Words.{after_name, at_variable_brace, begins_hidden_newline, verbatim_at, stretch, Inner, inner_at, named, variable_at, bracket_at, kind_of, piece_of, piece_at, pieces_at}
-use Rattle.tcl_words.proofs.Forward.{Forward, Moves, forward_shrinks, verbatim_forward, piece_forward, inner_inside, if_cond, if_bind, if_ok, always}
+use Rattle.tcl_words.proofs.Forward.{Forward, Moves, verbatim_forward, piece_forward, inner_inside, if_cond, if_bind, if_ok, always}
 
 -- a text is what stands before its end, and the end
 pub cut_at : (cs rest : List ℕ) → EndsWith cs rest → cs ≡ before cs rest ++ rest
