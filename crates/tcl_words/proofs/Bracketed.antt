@@ -14,7 +14,8 @@ use Rattle.tcl_words.specs.declared.blanks.Gap.{Gap}
 use Rattle.tcl_words.specs.declared.blanks.Gap.TheVariants as gap
 use Rattle.tcl_words.specs.declared.fault.Syntax.{Syntax}
 use Rattle.tcl_words.specs.Words.{after_blanks, after_gaps, ends_word, after_name, begins_variable, at_variable_brace, at_brace, stretch}
-use Rattle.tcl_words.proofs.Forward.{ends_le, gaps_end, variable_brace_end, brace_end, if_weak, if_cond}
+use Rattle.tcl_words.proofs.Ends.{ends_le, if_weak, if_cond}
+use Rattle.tcl_words.proofs.Forward.{gaps_end, variable_brace_end, brace_end}
 
 -- the text with a bracket behind it
 abbrev pub closed_by : List ℕ → List ℕ → List ℕ

@@ -1,6 +1,8 @@
 pub mod Alone
 pub mod Bracketed
+pub mod BracketedKinds
 pub mod BracketedTurns
+pub mod Ends
 pub mod Forward
 pub mod Levels
 pub mod Placed

@@ -9,7 +9,8 @@ use Rattle.tcl_words.specs.declared.blanks.Gap.{Gap}
 use Rattle.tcl_words.specs.declared.blanks.Gap.TheVariants as gap
 use Rattle.tcl_words.specs.Laws.{IsFirst, FirstSpelled, Words, unhidden, count, Matches, BraceMatches, CommentEnds, is_name, NameLongest}
 use Rattle.tcl_words.specs.Words.{after_gaps, after_name, at_brace, ends_word, words_at, first_at, inner_at}
-use Rattle.tcl_words.proofs.Forward.{ends_le, gaps_end, if_bind, if_ok, if_weak}
+use Rattle.tcl_words.proofs.Ends.{ends_le, if_bind, if_ok, if_weak}
+use Rattle.tcl_words.proofs.Forward.{gaps_end}
 use Rattle.tcl_words.proofs.Bracketed.{and_false}
 use Rattle.tcl_words.proofs.Written.{headed, words_written}
 

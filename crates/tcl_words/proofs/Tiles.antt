@@ -13,7 +13,8 @@ use Rattle.tcl_words.specs.declared.front.Mode.{Mode}
 use Rattle.tcl_words.specs.Parts.{Stretch, Part}
 use Rattle.tcl_words.specs.Laws.{taken, Tiles, PiecesTile, texts}
 use Rattle.tcl_words.specs.Words.{after_name, at_variable_brace, begins_hidden_newline, verbatim_at, stretch, Inner, inner_at, named, variable_at, bracket_at, kind_of, piece_of, piece_at, pieces_at}
-use Rattle.tcl_words.proofs.Forward.{Forward, Moves, verbatim_forward, piece_forward, inner_inside, if_cond, if_bind, if_ok, always}
+use Rattle.tcl_words.proofs.Ends.{Forward, Moves, if_cond, if_bind, if_ok, always}
+use Rattle.tcl_words.proofs.Forward.{verbatim_forward, piece_forward, inner_inside}
 
 -- a text is what stands before its end, and the end
 pub cut_at : (cs rest : List ℕ) → EndsWith cs rest → cs ≡ before cs rest ++ rest

@@ -19,7 +19,8 @@ use Rattle.tcl_words.specs.declared.word.Form.TheVariants as form
 use Rattle.tcl_words.specs.Laws.{texts, delimited, mark, word_text, only_blanks, Words, WordsSpelled, Tiles}
 use Rattle.tcl_words.specs.Parts.{Part, Shape}
 use Rattle.tcl_words.specs.Words.{after_blanks, ends_word, ends_pieces, begins_variable, kind_of, at_brace, begins_hidden_newline, verbatim_at, braced_at, marked, form_of, closed, Inner, inner_at, variable_at, bracket_at, piece_of, piece_at, pieces_at, quoted_at, word_of, word_at, next_word, words_at}
-use Rattle.tcl_words.proofs.Forward.{forward_shrinks, verbatim_forward, piece_forward, word_forward, inner_inside, brace_end, if_cond, if_bind, if_weak, if_both, if_ok, always}
+use Rattle.tcl_words.proofs.Ends.{forward_shrinks, if_cond, if_bind, if_weak, if_both, if_ok, always}
+use Rattle.tcl_words.proofs.Forward.{verbatim_forward, piece_forward, word_forward, inner_inside, brace_end}
 use Rattle.tcl_words.proofs.Tiles.{cut_at, turns_tile, tiles_text, verbatim_tiled, piece_tiled}
 
 -- ---- where turns stop
