@@ -1,11 +1,11 @@
 -- The text in a bracket, read alone, has the same commands as inside.
-use Rattle.std.proofs.Common.{◌≡◌, ℕ, zero, suc, ◌+◌, ◌<◌, ◌≤◌, Bool, true, false, cond, ◌&&◌, ◌||◌, ◌==◌, List, [], ◌∷◌, length, drop, Option, Some, None, Result, Ok, Err, refl, sym, ap, subst, ◌∙◌, arith, inl, inr, ◌⊎◌}
-use Rattle.std.specs.Prelude.{IfOk, if◌then◌else◌}
+use Rattle.std.proofs.Common.{◌≡◌, ℕ, zero, suc, ◌+◌, ◌≤◌, Bool, true, false, ◌&&◌, ◌==◌, List, [], ◌∷◌, length, drop, Option, None, Result, Ok, Err, refl, sym, ap, subst, ◌∙◌, arith, inl, inr, ◌⊎◌}
+use Rattle.std.specs.Prelude.{IfOk}
 use Rattle.std.proofs.lemmas.Bool.{cases_Bool, true≢false, eqb-true}
 use Rattle.std.proofs.lemmas.List.{nil_from_length}
 use Rattle.tcl_chars.specs.Characters.{star, close_bracket, close_brace, open_brace, open_paren}
 use Rattle.tcl_chars.specs.Escape.{escape as escape_of}
-use Rattle.tcl_chars.specs.Place.{EndsWith, begins, tail, before, place, bytes}
+use Rattle.tcl_chars.specs.Place.{EndsWith, tail, before, place, bytes}
 use Rattle.tcl_chars.specs.Reading.{◌>>=◌, all_turns}
 use Rattle.tcl_words.specs.declared.blanks.Gap.TheVariants as gap
 use Rattle.tcl_words.specs.declared.fault.Syntax.{Syntax}
@@ -18,11 +18,11 @@ use Rattle.tcl_words.specs.declared.word.Form.{Form}
 use Rattle.tcl_words.specs.declared.word.Form.TheVariants as form
 use Rattle.tcl_words.specs.Laws.{BracketAlone}
 use Rattle.tcl_words.specs.Parts.{Part, Shape, parts_of, var, bracket}
-use Rattle.tcl_words.specs.Words.{after_blanks, after_gaps, ends_word, after_name, kind_of, is_plain, after_plain, at_variable_brace, at_brace, verbatim_at, braced_at, stretch, marked, form_of, closed, after_command, Inner, named, variable_at, bracket_at, piece_of, piece_at, pieces_at, quoted_at, word_of, word_at, next_word, words_at, first_at, commands_at, after_commands, closing, index_of, inner_at}
-use Rattle.tcl_words.proofs.Bracketed.{closed_by, behind, length_closed, place_alone, before_alone, stretch_alone, same_cond, and_false, variable_alone, ends_word_alone, Stays, name_alone, blanks_alone, gaps_alone, CutScan, variable_brace_alone, brace_alone, escape_alone}
+use Rattle.tcl_words.specs.Words.{after_blanks, after_gaps, ends_word, after_name, kind_of, after_plain, at_variable_brace, at_brace, verbatim_at, braced_at, stretch, marked, form_of, closed, after_command, Inner, named, variable_at, bracket_at, piece_of, piece_at, pieces_at, quoted_at, word_of, word_at, next_word, words_at, first_at, commands_at, after_commands, closing, index_of, inner_at}
+use Rattle.tcl_words.proofs.Bracketed.{closed_by, behind, length_closed, place_alone, before_alone, stretch_alone, same_cond, and_false, ends_word_alone, Stays, name_alone, blanks_alone, gaps_alone, CutScan, variable_brace_alone, brace_alone, escape_alone}
 use Rattle.tcl_words.proofs.BracketedTurns.{Cut, cut_of, of_cut, turns_alone}
 use Rattle.tcl_words.proofs.Ends.{always, ends_le, if_bind, if_cond, forward_shrinks}
-use Rattle.tcl_words.proofs.Forward.{Inside, plain_end, plain_past, piece_forward, word_forward, first_forward, words_end, command_end, inner_inside}
+use Rattle.tcl_words.proofs.Forward.{Inside, plain_past, piece_forward, word_forward, first_forward, words_end, command_end, inner_inside}
 use Rattle.tcl_words.proofs.BracketedKinds.{tail_le, tail_lt, Clear, no_bracket, kind_bare, kind_quoted, kind_index, kind_at_bracket, plain_bare, plain_same, was_closed, closed_is_le, shape_rest, word_rest, and_true, ends_at_bracket, word_from, bracket_or_clear, no_blanks_at, command_from, command_rest, command_clear, command_alone, scan_of}
 
 -- ---- pieces and words, where the same is known of what nests

@@ -1,27 +1,20 @@
 -- What stands at the front before a `]`, and what is put together of it, where the text ends there.
-use Rattle.std.proofs.Common.{◌≡◌, ℕ, zero, suc, ◌+◌, ◌<◌, ◌≤◌, Bool, true, false, cond, ◌&&◌, ◌||◌, ◌==◌, List, [], ◌∷◌, length, drop, Option, Some, None, Result, Ok, Err, refl, sym, ap, subst, ◌∙◌, arith, inl, inr, ◌⊎◌}
+use Rattle.std.proofs.Common.{◌≡◌, ℕ, suc, ◌<◌, ◌≤◌, Bool, true, false, cond, ◌&&◌, ◌||◌, ◌==◌, List, [], ◌∷◌, length, Option, Some, None, Result, Ok, Err, refl, sym, ap, subst, ◌∙◌, arith, inl, inr, ◌⊎◌}
 use Rattle.std.specs.Prelude.{IfOk, if◌then◌else◌}
 use Rattle.std.proofs.lemmas.Bool.{cases_Bool, true≢false, eqb-true}
-use Rattle.std.proofs.lemmas.List.{nil_from_length}
-use Rattle.tcl_chars.specs.Characters.{star, close_bracket, close_brace, open_brace, open_paren}
-use Rattle.tcl_chars.specs.Escape.{escape as escape_of}
-use Rattle.tcl_chars.specs.Place.{EndsWith, begins, tail, before, place, bytes}
-use Rattle.tcl_chars.specs.Reading.{◌>>=◌, all_turns}
-use Rattle.tcl_words.specs.declared.blanks.Gap.TheVariants as gap
+use Rattle.tcl_chars.specs.Characters.{close_bracket}
+use Rattle.tcl_chars.specs.Place.{begins, tail}
+use Rattle.tcl_chars.specs.Reading.{◌>>=◌}
 use Rattle.tcl_words.specs.declared.fault.Syntax.{Syntax}
-use Rattle.tcl_words.specs.declared.fault.Syntax.TheVariants.{AfterBrace, AfterQuote}
-use Rattle.tcl_words.specs.declared.front.Kind.{Kind}
 use Rattle.tcl_words.specs.declared.front.Kind.TheVariants as kind
 use Rattle.tcl_words.specs.declared.front.Mode.{Mode}
 use Rattle.tcl_words.specs.declared.front.Mode.TheVariants as mode
-use Rattle.tcl_words.specs.declared.word.Form.{Form}
-use Rattle.tcl_words.specs.declared.word.Form.TheVariants as form
-use Rattle.tcl_words.specs.Parts.{Part, Shape, parts_of, var, bracket}
-use Rattle.tcl_words.specs.Words.{after_blanks, after_gaps, ends_word, after_name, kind_of, is_plain, after_plain, at_variable_brace, at_brace, verbatim_at, braced_at, stretch, marked, form_of, closed, after_command, Inner, named, variable_at, bracket_at, piece_of, piece_at, pieces_at, quoted_at, word_of, word_at, next_word, words_at, first_at, commands_at, after_commands, closing, index_of, inner_at}
-use Rattle.tcl_words.proofs.Bracketed.{closed_by, behind, length_closed, place_alone, before_alone, stretch_alone, same_cond, and_false, variable_alone, ends_word_alone, Stays, name_alone, blanks_alone, gaps_alone, CutScan, variable_brace_alone, brace_alone, escape_alone}
-use Rattle.tcl_words.proofs.BracketedTurns.{Cut, cut_of, of_cut, turns_alone}
-use Rattle.tcl_words.proofs.Ends.{always, ends_le, if_bind, if_cond, forward_shrinks}
-use Rattle.tcl_words.proofs.Forward.{Inside, plain_end, plain_past, piece_forward, word_forward, first_forward, words_end, command_end, inner_inside}
+use Rattle.tcl_words.specs.Parts.{Shape}
+use Rattle.tcl_words.specs.Words.{after_blanks, ends_word, kind_of, is_plain, after_plain, closed, after_command, Inner, word_at, words_at}
+use Rattle.tcl_words.proofs.Bracketed.{closed_by, behind, length_closed, same_cond, variable_alone, ends_word_alone, Stays, CutScan}
+use Rattle.tcl_words.proofs.BracketedTurns.{Cut}
+use Rattle.tcl_words.proofs.Ends.{ends_le, if_cond}
+use Rattle.tcl_words.proofs.Forward.{plain_end}
 
 pub tail_le : (cs : List ℕ) → length (tail cs) ≤ length cs
 tail_le [] = omega arith

@@ -1,14 +1,12 @@
 -- What each reading leaves ends its text, and is shorter where the reading gives something.
-use Rattle.std.proofs.Common.{◌≡◌, ℕ, zero, suc, ◌+◌, ◌-◌, ◌<◌, ◌≤◌, Bool, true, false, cond, ◌&&◌, ◌||◌, ◌==◌, List, [], ◌∷◌, ◌++◌, length, take, drop, Option, Some, None, Result, Ok, Err, refl, sym, ap, ◌∙◌, subst, arith, inl, inr, append_assoc, length-append}
+use Rattle.std.proofs.Common.{◌≡◌, ℕ, zero, suc, ◌+◌, ◌-◌, ◌≤◌, Bool, true, false, cond, ◌&&◌, ◌||◌, ◌==◌, List, [], ◌∷◌, drop, Option, Some, None, Result, Ok, Err, refl, arith, inl, inr}
 use Rattle.std.specs.Prelude.{IfOk, IsSome, if◌then◌else◌}
 use Rattle.std.proofs.lemmas.Bool.{cases_Bool}
-use Rattle.std.proofs.lemmas.List.{take-append-drop}
 use Rattle.tcl_chars.specs.Characters.{newline, backslash, semicolon, quote, number_sign, dollar, colon, open_bracket, close_bracket, open_paren, open_brace, close_brace}
 use Rattle.tcl_chars.specs.Classes.{is_word_space, is_name_char}
 use Rattle.tcl_chars.specs.Escape.{escape, escape_of, by_control, by_code_form, control_of, code_form, octal_or_self, longest_run}
 use Rattle.tcl_chars.specs.Place.{EndsWith, begins, tail, before, place}
-use Rattle.tcl_chars.specs.Reading.{◌>>=◌, Reading, with_front, after_turn, turns, all_turns}
-use Rattle.tcl_chars.proofs.Turns.{Turned, Shrinks, turns_lt}
+use Rattle.tcl_chars.specs.Reading.{all_turns}
 use Rattle.tcl_words.specs.declared.blanks.Gap.{Gap}
 use Rattle.tcl_words.specs.declared.blanks.Gap.TheVariants as gap
 use Rattle.tcl_words.specs.declared.fault.Syntax.{Syntax}
@@ -21,7 +19,7 @@ use Rattle.tcl_words.specs.declared.word.Form.{Form}
 use Rattle.tcl_words.specs.declared.word.Form.TheVariants as form
 use Rattle.tcl_words.specs.Parts.{Shape}
 use Rattle.tcl_words.specs.Words.{lone_at, operand_at, after_blanks, after_gaps, ends_word, after_name, begins_variable, kind_of, is_plain, after_plain, at_variable_brace, at_brace, after_verbatim, begins_hidden_newline, marked, form_of, closed, after_command, verbatim_at, braced_at, Inner, named, variable_at, bracket_at, piece_of, piece_at, pieces_at, quoted_at, word_of, word_at, next_word, words_at, first_at, commands_at, after_commands, closing, inner_at}
-use Rattle.tcl_words.proofs.Ends.{IsPast, ends_self, ends_more, ends_trans, ends_le, ends_tail, ends_drop, past_more, past_then, then_past, past_drop, if_cond, if_bind, if_weak, if_both, if_ok, always, Ends, Past, Moves, Forward, turned, forward_shrinks, front_ends, ends_after, turns_end_n, turns_end, turns_past}
+use Rattle.tcl_words.proofs.Ends.{IsPast, ends_self, ends_more, ends_trans, ends_tail, past_more, past_then, then_past, past_drop, if_cond, if_bind, if_weak, always, Ends, Past, Moves, Forward, turns_end, turns_past}
 
 -- ---- scans
 
