@@ -1,6 +1,15 @@
+pub mod Alone
+pub mod Bracketed
+pub mod BracketedKinds
+pub mod BracketedTurns
+pub mod Ends
 pub mod Forward
 pub mod Levels
 pub mod Placed
+pub mod Scans
+pub mod Single
 pub mod Spelled
+pub mod Tiles
 pub mod Verbatim
 pub mod Whole
+pub mod Written

@@ -1,5 +1,5 @@
 -- Whether a text is complete.
-use Rattle.std.proofs.Common.{◌≡◌, ℕ, false, not, ◌&&◌, List, Result, refl, sym, ap, ◌∙◌}
+use Rattle.std.proofs.Common.{◌≡◌, ℕ, false, not, ◌&&◌, List, Result, sym, ap, ◌∙◌}
 use Rattle.tcl_chars.specs.Place.{bytes}
 use Rattle.tcl_words.specs.declared.fault.Syntax.{Syntax}
 use Rattle.tcl_words.specs.Complete.{ends_hidden, ends_open, after_all, is_complete}

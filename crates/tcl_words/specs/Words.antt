@@ -20,7 +20,7 @@ use Rattle.tcl_words.specs.Parts.{Stretch, Part, text, escape, var, elem_, brack
 
 -- ---- between words and commands
 
--- what follows the word space and the backslash-newlines at the front (rule 2)
+-- what follows the word space and the backslash-newlines at the front (rule 3)
 unfoldable pub after_blanks : List ℕ → List ℕ
 after_blanks [] = []
 after_blanks (c ∷ []) = if is_word_space c then [] else c ∷ []
@@ -271,7 +271,7 @@ module _ (size : ℕ) (inner : Inner) where
   unfoldable pub words_at : Bool → Reading Syntax (List Shape)
   words_at nested cs = all_turns (next_word nested) cs
 
-  -- The first command, or none where only separators and comments are left (rules 1 and 2).
+  -- The first command, or none where only separators and comments are left (rules 1 and 3).
   unfoldable pub first_at : Bool → Reading Syntax (Option (List Shape))
   first_at nested cs =
       let rest = after_gaps gap.Between cs in

@@ -7,13 +7,16 @@ mod command;
 mod complete;
 mod fault;
 mod front;
+pub mod laws;
 mod nesting;
 mod operand;
 mod stretch;
+#[cfg(test)]
+mod tests;
 mod word;
 
 pub use command::{parse_command, parse_first};
 pub use complete::is_complete;
 pub use fault::Syntax;
-pub use operand::parse_operand;
+pub use operand::{begins_operand, parse_operand};
 pub use word::{Form, Operand, Parsed, Piece, Span, Word};

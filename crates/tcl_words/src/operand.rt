@@ -11,10 +11,23 @@ ghost use Rattle.tcl_words.specs.Words as spec;
 
 use crate::braces::braced;
 use crate::fault::Syntax;
+use crate::front::begins_variable;
 use crate::nesting::{Reader, bracket, quoted, variable};
 use crate::word::{Form, Operand, Word};
 use std::alloc::Global;
-use tcl_chars::{Fault, ReadFault, begins, place};
+use tcl_chars::{Fault, ReadFault, begins, place, split_first};
+
+/// Does a braced or a quoted word, a bracket or a variable begin the text?
+pub fn begins_operand(text: &str) -> bool
+    ensures { result ≡ begins_operand (chars text.now) }
+{
+    match split_first(text) {
+        None => false,
+        Some((c, rest)) => {
+            c == '{' || c == '"' || c == '[' || (c == '$' && begins_variable(rest))
+        }
+    }
+}
 
 /// The bracket or the variable that begins here, as the one piece of a word.
 fn lone_piece(reader: Reader, text: &str) -> Result<(Word<'_>, &str), ReadFault<Syntax>>

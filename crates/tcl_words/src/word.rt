@@ -10,7 +10,7 @@ pub struct Span<'a> {
     pub text: &'a str,
 }
 
-/// A piece of a word, with the stretch that it takes. Tcl(n), rules 5 to 8.
+/// A piece of a word, with the stretch that it takes. Tcl(n), rules 6 to 9.
 #[derive(Debug, Drop)]
 pub enum Piece<'a> {
     /// Characters that stand for themselves.

@@ -1,4 +1,4 @@
-use Rattle.std.proofs.Common.{ap, length, ◌∙◌, sym, not}
+use Rattle.std.proofs.Common.{ap, length, ◌∙◌, not}
 use Rattle.std.specs.Str.{chars}
 use Rattle.std.proofs.lemmas.Str.{encodes-chars}
 use Rattle.tcl_words.proofs.Whole.{complete_is}

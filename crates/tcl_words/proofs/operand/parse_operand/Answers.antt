@@ -1,8 +1,7 @@
-use Rattle.std.proofs.Common.{rules, ◌≡◌, drop, length, refl, sym, subst, ap}
+use Rattle.std.proofs.Common.{rules, drop, length, refl, sym, subst}
 use Rattle.std.specs.Str.{chars}
-use Rattle.tcl_chars.specs.Place.{EndsWith}
 use Rattle.tcl_words.specs.declared.word.Operand.TheVariants as found
-use Rattle.tcl_words.specs.First.{IsOperand, operand}
+use Rattle.tcl_words.specs.First.{IsOperand}
 use Rattle.tcl_words.proofs.Placed.{rest_ends, rest_at, after_operand, operand_is}
 use Rattle.tcl_words.proofs.operand.parse_operand.Goals as goal
 

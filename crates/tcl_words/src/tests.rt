@@ -1,0 +1,5 @@
+//! What the rules say of given texts.
+mod commands;
+mod depth;
+mod places;
+mod shown;
