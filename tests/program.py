@@ -111,9 +111,10 @@ def usage_check(name, words):
         expect(tested.run(words, room), 5, b"", USAGE)
 
 
+# (these two until there is a prompt)
 usage_check("no-word", [])
-usage_check("budget-alone", ["-budget"])
 usage_check("budget-without-file", ["-budget", "5"])
+usage_check("budget-alone", ["-budget"])
 usage_check("budget-word", ["-budget", "x", "script.tcl"])
 usage_check("budget-empty", ["-budget", "", "script.tcl"])
 usage_check("budget-negative", ["-budget", "-1", "script.tcl"])
