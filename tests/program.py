@@ -1,0 +1,357 @@
+"""Checks of the built program that no case file can say: devices that fail, files that can't be read, great sizes."""
+import os
+import subprocess
+import tempfile
+
+USAGE = b"usage: tclint ?-budget N? ?file arg ...?\n"
+IO_FAULT = b"read or write failed\n"
+SECONDS = 60
+TOP = os.path.dirname(os.path.dirname(os.path.realpath(__file__)))
+
+
+class Wrong(Exception):
+    """What a test found wrong."""
+
+
+class Result:
+    """How a run ended. A status below 0 is a signal's number."""
+
+    def __init__(self, status, stdout, stderr):
+        self.status, self.stdout, self.stderr = status, stdout or b"", stderr or b""
+
+
+class Program:
+    """A program under test."""
+
+    def __init__(self, path):
+        self.path = os.path.abspath(path) if os.path.exists(path) else path
+
+    def is_there(self):
+        return subprocess.run(["sh", "-c", 'command -v "$0"', self.path], stdout=subprocess.DEVNULL).returncode == 0
+
+    def run(self, words, cwd, stdin=b"", stdout=subprocess.PIPE, stderr=subprocess.PIPE, by=()):
+        """Runs it on words; `by` are the words of a command that starts it."""
+        started = subprocess.Popen(
+            [*by, self.path, *words],
+            cwd=cwd,
+            env=dict(os.environ, LC_ALL="C.UTF-8"),
+            stdin=subprocess.PIPE,
+            stdout=stdout,
+            stderr=stderr,
+        )
+        try:
+            out, err = started.communicate(stdin, timeout=SECONDS)
+        except subprocess.TimeoutExpired:
+            started.kill()
+            started.communicate()
+            raise Wrong(f"no end after {SECONDS} seconds") from None
+        return Result(started.returncode, out, err)
+
+
+def shown(text):
+    return repr(text) if len(text) <= 300 else f"{text[:120]!r} .. {text[-120:]!r} ({len(text)} bytes)"
+
+
+def expect(got, status, stdout=b"", stderr=b""):
+    """Raises Wrong where a run ended otherwise."""
+    pairs = [("status", status, got.status), ("stdout", stdout, got.stdout), ("stderr", stderr, got.stderr)]
+    show = lambda it: shown(it) if isinstance(it, bytes) else it
+    wrong = [f"{name}: expected {show(wanted)}, got {show(it)}" for name, wanted, it in pairs if wanted != it]
+    if wrong:
+        raise Wrong("\n    ".join(wrong))
+
+
+CHECKS = []
+
+
+def check(name):
+    """Lists a check: a function of the program and a folder of its own."""
+
+    def listed(function):
+        def in_room(tested):
+            with tempfile.TemporaryDirectory(prefix="tclint-check-") as room:
+                return function(tested, room)
+
+        CHECKS.append((name, in_room))
+        return function
+
+    return listed
+
+
+def checks():
+    return list(CHECKS)
+
+
+def write(room, text, name="script.tcl"):
+    with open(os.path.join(room, name), "wb") as file:
+        file.write(text.encode() if isinstance(text, str) else text)
+    return name
+
+
+def run_text(tested, room, text, **how):
+    """Runs a script's text from a file."""
+    return tested.run([write(room, text)], room, **how)
+
+
+def by_shell(before):
+    """The command that starts the program after a line of the shell, or with a redirection behind it."""
+    return ["sh", "-c", before]
+
+
+CLOSED_OUT = by_shell('exec "$0" "$@" >&-')
+CLOSED_ERR = by_shell('exec "$0" "$@" 2>&-')
+
+# ---- usage and files
+
+
+def usage_check(name, words):
+    @check(f"usage/{name}")
+    def _(tested, room):
+        write(room, "puts no\n")
+        expect(tested.run(words, room), 5, b"", USAGE)
+
+
+# (these two until there is a prompt)
+usage_check("no-word", [])
+usage_check("budget-without-file", ["-budget", "5"])
+usage_check("budget-alone", ["-budget"])
+usage_check("budget-word", ["-budget", "x", "script.tcl"])
+usage_check("budget-empty", ["-budget", "", "script.tcl"])
+usage_check("budget-negative", ["-budget", "-1", "script.tcl"])
+usage_check("budget-signed", ["-budget", "+1", "script.tcl"])
+usage_check("budget-space", ["-budget", " 1", "script.tcl"])
+usage_check("budget-hexadecimal", ["-budget", "0x10", "script.tcl"])
+usage_check("budget-fraction", ["-budget", "1.0", "script.tcl"])
+usage_check("budget-one-too-many", ["-budget", "9223372036854775808", "script.tcl"])
+usage_check("budget-very-large", ["-budget", "9" * 1000, "script.tcl"])
+usage_check("budget-other-digits", ["-budget", "\u0663", "script.tcl"])
+usage_check("budget-file-forgotten", ["-budget", "script.tcl"])
+usage_check("before-file", ["-budget", "x", "nosuch.tcl"])
+
+
+def unreadable_check(name, path, message=None):
+    @check(f"file/{name}")
+    def _(tested, room):
+        os.mkdir(os.path.join(room, "folder"))
+        write(room, "puts no\n")
+        wanted = f'couldn\'t read file "{path}"\n'.encode()
+        expect(tested.run([path], room), 5, b"", wanted)
+
+
+unreadable_check("missing", "nosuch.tcl")
+unreadable_check("empty-name", "")
+unreadable_check("folder", "folder")
+unreadable_check("below-a-file", "script.tcl/x")
+unreadable_check("name-like-an-option", "-x")
+unreadable_check("name-too-long", "x" * 5000)
+unreadable_check("name-past-ascii", "é €.tcl")
+
+
+@check("file/missing-after-budget")
+def _(tested, room):
+    expect(tested.run(["-budget", "1", "nosuch.tcl"], room), 5, b"", b'couldn\'t read file "nosuch.tcl"\n')
+
+
+def not_utf8_check(name, text):
+    @check(f"file/not-utf8-{name}")
+    def _(tested, room):
+        expect(run_text(tested, room, text), 5, b"", b'file "script.tcl" is not UTF-8\n')
+
+
+not_utf8_check("byte", b"puts a\xff\n")
+not_utf8_check("cut", b"puts a\n# \xe2\x82")
+not_utf8_check("surrogate", b"puts \xed\xa0\x80\n")
+not_utf8_check("overlong", b"puts \xc0\x80\n")
+not_utf8_check("past-the-last", b"puts \xf4\x90\x80\x80\n")
+
+
+@check("file/name-not-utf8")
+def _(tested, room):
+    with open(os.path.join(os.fsencode(room), b"\xff.tcl"), "wb") as file:
+        file.write(b"puts a\n")
+    got = tested.run([b"\xff.tcl"], room)
+    if (got.status, got.stdout) != (0, b"a\n") and not (got.status == 5 and got.stderr):
+        raise Wrong(f"neither the script's end nor a refusal: {got.status} {got.stdout} {got.stderr}")
+
+
+@check("file/in-another-folder")
+def _(tested, room):
+    os.mkdir(f"{room}/a folder")
+    write(room, "puts $argv0\n", "a folder/a script.tcl")
+    expect(tested.run(["a folder/a script.tcl"], room), 0, b"a folder/a script.tcl\n")
+
+
+@check("file/whole-path")
+def _(tested, room):
+    path = os.path.join(room, write(room, "puts $argv0\n"))
+    expect(tested.run([path], "/"), 0, path.encode() + b"\n")
+
+
+@check("file/from-a-pipe")
+def _(tested, room):
+    expect(tested.run(["/dev/stdin"], room, stdin=b"puts a\n"), 0, b"a\n")
+
+
+@check("file/launcher")
+def _(tested, room):
+    if tested.path != os.path.join(TOP, "crates/tclint/out/tclint"):
+        return False
+    write(room, "puts $argv0\n")
+    expect(Program(f"{TOP}/tclint").run(["script.tcl"], room), 0, b"script.tcl\n")
+    expect(Program(f"{TOP}/tclint").run(["-budget", "0", "script.tcl"], room), 2, b"", b"budget spent\n")
+
+
+# ---- texts at the edge
+
+
+def text_check(name, text, stdout, status=0, stderr=b""):
+    @check(f"text/{name}")
+    def _(tested, room):
+        made = text() if callable(text) else text
+        expect(run_text(tested, room, made), status, stdout() if callable(stdout) else stdout, stderr)
+
+
+MANY = 100_000
+LONG = 10_000_000
+A_LONG_WORD = b"a" * LONG
+WRONG_SET = b'wrong # args: should be "set varName ?newValue?"\n'
+
+text_check("empty", b"", b"")
+text_check("newline-alone", b"\n", b"")
+text_check("comment-alone", b"# puts no", b"")
+text_check("no-last-newline", b"puts a", b"a\n")
+text_check("nul", b"puts a\0b\n\0\n", b"a\0b\n", 1, b'invalid command name "\0"\n')
+text_check("many-words", lambda: b"set" + b" x" * MANY + b"\n", b"", 1, WRONG_SET)
+text_check("many-words-put", lambda: b"puts a\nputs" + b" x" * MANY, b"a\n", 1, b'wrong # args: should be "puts ?-nonewline? ?channelId? string"\n')
+text_check("many-commands", lambda: b"set x 1;" * MANY + b"puts $x", b"1\n")
+text_check("many-separators", lambda: b";\n" * MANY + b"puts a", b"a\n")
+text_check("many-comments", lambda: b"# [ { \"\n" * MANY + b"puts a", b"a\n")
+text_check("many-variables", lambda: b"".join(b"set v%d %d\n" % (i, i) for i in range(MANY)) + b"puts $v7$v99999", b"799999\n")
+text_check("many-elements", lambda: b"".join(b"set v(%d) %d\n" % (i, i) for i in range(MANY)) + b"puts ${v(7)}${v(99999)}", b"799999\n")
+text_check("many-pieces", lambda: b"set x a\nputs " + b"$x\\x62" * MANY, lambda: b"ab" * MANY + b"\n")
+text_check("many-lines-put", lambda: b"puts abc\n" * MANY, lambda: b"abc\n" * MANY)
+text_check("long-word", lambda: b"puts " + A_LONG_WORD, lambda: A_LONG_WORD + b"\n")
+text_check("long-quoted-word", lambda: b'set x "' + A_LONG_WORD + b'"\nputs "<$x>"', lambda: b"<" + A_LONG_WORD + b">\n")
+text_check("long-braced-word", lambda: b"puts {" + A_LONG_WORD + b"}", lambda: A_LONG_WORD + b"\n")
+text_check("long-name", lambda: b"set " + A_LONG_WORD + b" 1\nputs $" + A_LONG_WORD, b"1\n")
+text_check("long-unknown-name", lambda: A_LONG_WORD, b"", 1, b'invalid command name "' + A_LONG_WORD + b'"\n')
+text_check("long-comment", lambda: b"# " + A_LONG_WORD + b"\nputs a", b"a\n")
+text_check("braces-in-one-another", lambda: b"puts " + b"{" * MANY + b"}" * MANY, lambda: b"{" * (MANY - 1) + b"}" * (MANY - 1) + b"\n")
+text_check("braces-left-open", lambda: b"puts a\nputs " + b"{" * LONG, b"a\n", 1, b"missing close-brace\n")
+text_check("backslashes", lambda: b"puts " + b"\\\\" * MANY, lambda: b"\\" * MANY + b"\n")
+text_check("brackets-left-open", lambda: b"puts a\nputs " + b"[" * MANY, b"a\n", 1, b"nesting too deep\n")
+
+# ---- devices that fail
+
+
+def full():
+    return open("/dev/full", "wb", buffering=0)
+
+
+@check("output/full")
+def _(tested, room):
+    with full() as device:
+        expect(run_text(tested, room, "set x 1\nputs $x\nputs b\n", stdout=device), 4, b"", IO_FAULT)
+
+
+@check("output/full-and-nothing-to-write")
+def _(tested, room):
+    with full() as device:
+        expect(run_text(tested, room, "set x 1\n", stdout=device), 0)
+
+
+@check("output/closed")
+def _(tested, room):
+    expect(run_text(tested, room, "puts a\n", by=CLOSED_OUT), 4, b"", IO_FAULT)
+
+
+@check("output/reader-gone")
+def _(tested, room):
+    reading, writing = os.pipe()
+    os.close(reading)
+    try:
+        expect(run_text(tested, room, "puts a\nputs b\n", stdout=writing), 4, b"", IO_FAULT)
+    finally:
+        os.close(writing)
+
+
+@check("output/full-in-mid-run")
+def _(tested, room):
+    # a file that may hold one block of 512 bytes (some shells: 1,024)
+    small = by_shell("trap '' XFSZ; ulimit -f 1; exec \"$0\" \"$@\"")
+    whole = b"".join(b"%04d\n" % i for i in range(1000))
+    script = "".join("puts %04d\n" % i for i in range(1000))
+    with open(f"{room}/out", "wb") as file:
+        got = run_text(tested, room, script, stdout=file, by=small)
+    with open(f"{room}/out", "rb") as file:
+        written = file.read()
+    expect(got, 4, b"", IO_FAULT)
+    if not whole.startswith(written) or len(written) not in (512, 1024):
+        raise Wrong(f"what was written before the fault: {shown(written)}")
+
+
+@check("output/to-a-file")
+def _(tested, room):
+    with open(f"{room}/out", "wb") as file:
+        expect(run_text(tested, room, "puts a\nputs -nonewline b\n", stdout=file), 0)
+    with open(f"{room}/out", "rb") as file:
+        if file.read() != b"a\nb":
+            raise Wrong("the file holds something else")
+
+
+@check("errors/full")
+def _(tested, room):
+    with full() as device:
+        expect(run_text(tested, room, "puts a\nputs stderr b\nputs c\n", stderr=device), 4, b"a\n")
+
+
+@check("errors/closed")
+def _(tested, room):
+    expect(run_text(tested, room, "puts a\nputs stderr b\nputs c\n", by=CLOSED_ERR), 4, b"a\n")
+
+
+def status_stays_check(name, words, status, stdout):
+    @check(f"errors/line-unwritten-{name}")
+    def _(tested, room):
+        write(room, "puts a\nnosuch\n")
+        write(room, b"\xff", "bytes.tcl")
+        with full() as device:
+            expect(tested.run(words, room, stderr=device), status, stdout)
+        expect(tested.run(words, room, by=CLOSED_ERR), status, stdout)
+
+
+status_stays_check("message", ["script.tcl"], 1, b"a\n")
+status_stays_check("budget", ["-budget", "0", "script.tcl"], 2, b"")
+status_stays_check("usage", ["-budget"], 5, b"")
+status_stays_check("file", ["nosuch.tcl"], 5, b"")
+status_stays_check("not-utf8", ["bytes.tcl"], 5, b"")
+
+
+@check("errors/both-full")
+def _(tested, room):
+    with full() as device:
+        expect(run_text(tested, room, "puts a\n", stdout=device, stderr=device), 4)
+
+
+@check("input/closed")
+def _(tested, room):
+    closed = by_shell('exec "$0" "$@" <&-')
+    expect(run_text(tested, room, "puts a\n", by=closed), 0, b"a\n")
+
+
+# ---- memory
+
+
+@check("memory/text-too-large")
+def _(tested, room):
+    # a script of 64 MB in 40 MB of memory
+    scarce = by_shell('ulimit -v 40000; exec "$0" "$@"')
+    expect(run_text(tested, room, b"puts a\n# " + b"a" * 64_000_000, by=scarce), 3, b"", b"out of memory\n")
+
+
+@check("memory/values-too-large")
+def _(tested, room):
+    # a text that doubles until nothing holds it
+    scarce = by_shell('ulimit -v 200000; exec "$0" "$@"')
+    script = "set x abcdefghij\nputs a\n" + "set x $x$x\n" * 40 + "puts b\n"
+    expect(run_text(tested, room, script, by=scarce), 3, b"a\n", b"out of memory\n")
