@@ -14,32 +14,28 @@ abbrev pub host_text : Result (List ℕ) Refusal → Option (List ℕ)
 host_text (Ok t) = Some t
 host_text (Err refusal) = None
 
--- the characters of a name and of an element's text
-abbrev pub element_shown : RcStr Global × RcStr Global → List ℕ × Option (List ℕ)
-element_shown e = (text_of e.0, Some (text_of e.1))
+-- the characters of each element's name and of its text
+abbrev pub elements_shown : List (RcStr Global × RcStr Global) → List (List ℕ × List ℕ)
+elements_shown shown = each (λ (e : RcStr Global × RcStr Global). (text_of e.0, text_of e.1)) shown
 
--- each name in order, with what it has
-abbrev pub all_of : {V : Type 0} → Named V → List (List ℕ × Option V)
-all_of m = each (λ name. (name, map.get m name)) (map.keys m)
-
--- the elements are an array's, all of them and in the order of their names
+-- the elements that a host sees are an array's, all of them and in the order of their names
 abbrev pub AreElements : Named (List ℕ) → List (RcStr Global × RcStr Global) → Type 0
-AreElements m es = each element_shown es ≡ all_of m
+AreElements m shown = elements_shown shown ≡ map.entries m
 
 -- a variable is what a host sees of it
-abbrev pub IsVar : Option Variable → HostVar → Type 0
-IsVar None v = ⊥
-IsVar (Some (text t)) (host.Text s) = text_of s ≡ t
-IsVar (Some (text t)) (host.Array es) = ⊥
-IsVar (Some (array m)) (host.Text s) = ⊥
-IsVar (Some (array m)) (host.Array es) = AreElements m es.items
+abbrev pub IsVar : Variable → HostVar → Type 0
+IsVar (text t) (host.Text shown) = text_of shown ≡ t
+IsVar (text t) (host.Array shown) = ⊥
+IsVar (array m) (host.Text shown) = ⊥
+IsVar (array m) (host.Array shown) = AreElements m shown.items
 
--- each variable stands there by its name, with what it is
-abbrev pub EachIs : Variables → List (RcStr Global × HostVar) → Type 0
-EachIs vs [] = Unit {0}
-EachIs vs (v ∷ more) = IsVar (map.get vs (text_of v.0)) v.1 × EachIs vs more
+-- each entry is there in its place, by its name and with what it is
+abbrev pub EachIs : List (List ℕ × Variable) → List (RcStr Global × HostVar) → Type 0
+EachIs [] [] = Unit {0}
+EachIs [] (v ∷ shown) = ⊥
+EachIs (e ∷ entries) [] = ⊥
+EachIs (e ∷ entries) (v ∷ shown) = ((text_of v.0 ≡ e.0) × IsVar e.1 v.1) × EachIs entries shown
 
--- the variables are all there, in the order of their names
-pub record AreAll (vs : Variables) (shown : List (RcStr Global × HostVar)) : Type 0 where
-  pub names : each (λ v. text_of v.0) shown ≡ map.keys vs
-  pub each_is : EachIs vs shown
+-- the variables that a host sees are all of them, in the order of their names
+abbrev pub AreAll : Variables → List (RcStr Global × HostVar) → Type 0
+AreAll vs shown = EachIs (map.entries vs) shown

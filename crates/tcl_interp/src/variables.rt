@@ -1,5 +1,5 @@
 //! The variables of a script.
-ghost use Rattle.std.specs.Prelude.{◌≡◌, ◌∷◌, ◌++◌, [], Some, None, Ok, Err, IfOk, IfErr, OnOk, OnErr, IsSome, option_map};
+ghost use Rattle.std.specs.Prelude.{◌≡◌, Some, None, Ok, Err, IfOk, IfErr, OnOk, OnErr, IsSome, option_map};
 ghost use Rattle.std.specs.FinMap as map;
 ghost use Rattle.std.specs.Str.{chars};
 ghost use Rattle.std.specs.Option.{option_copied};
@@ -92,7 +92,7 @@ impl Variable {
 
     // What a host sees of the variable.
     fn host_var(&self, alloc: Global) -> Result<HostVar, AllocError>
-        ensures { IfOk result (λ var. IsVar (Some self.now) var) }
+        ensures { IfOk result (λ var. IsVar self.now var) }
     {
         match &self.held {
             Held::Text(value) => Ok(HostVar::Text(value.copy()?.into_text(alloc)?)),
@@ -219,22 +219,11 @@ impl Variables {
         ensures { IfOk result (λ vars. AreAll self.now vars.items) }
     {
         let mut vars = Vec::new(alloc);
-        let names = self.map.names(alloc)?;
-        'names: for name in names {
-            if let Some(variable) = self.map.get(name.as_str()) {
-                let var = variable.host_var(alloc)?;
-                push_pair(&mut vars, name, var)?;
-            }
+        for (name, variable) in self.map.entries(alloc)? {
+            vars.push((name, variable.host_var(alloc)?))?;
         }
         Ok(vars)
     }
-}
-
-fn push_pair<V: Drop>(pairs: &mut Vec<(RcStr, V)>, name: RcStr, value: V) -> Result<(), AllocError>
-    ensures { OnOk result (pairs.new.items ≡ pairs.old.items ++ (name, value) ∷ []) }
-{
-    pairs.push((name, value))?;
-    Ok(())
 }
 
 // The elements of an array, by name in the order of code points.
@@ -245,12 +234,8 @@ fn host_elements(
     ensures { IfOk result (λ es. AreElements elements.now es.items) }
 {
     let mut texts = Vec::new(alloc);
-    let names = elements.names(alloc)?;
-    'names: for name in names {
-        if let Some(value) = elements.get(name.as_str()) {
-            let text = value.copy()?.into_text(alloc)?;
-            push_pair(&mut texts, name, text)?;
-        }
+    for (name, value) in elements.entries(alloc)? {
+        texts.push((name, value.copy()?.into_text(alloc)?))?;
     }
     Ok(texts)
 }
