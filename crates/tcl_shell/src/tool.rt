@@ -1,7 +1,7 @@
 //! The program over devices.
 
 use crate::lines::say;
-use crate::words::request;
+use crate::words::read_request;
 use std::alloc::{AllocError, Global};
 use tcl_chan::device::{Input, Output};
 use tcl_chars::{push, split_first};
@@ -40,7 +40,7 @@ pub fn tool<R: Input, W: Output, E: Output>(
     out: &mut W,
     err: &mut E,
 ) -> u8 {
-    let Some(request) = request(words) else {
+    let Some(request) = read_request(words) else {
         say(alloc, reader, out, err, &["usage: tclint ?-budget N? ?file arg ...?"]);
         return 5;
     };

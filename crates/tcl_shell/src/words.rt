@@ -37,7 +37,7 @@ fn read_budget(word: &str) -> Option<u64>
 }
 
 /// What the program's words ask, its own name not among them, or `None` where they are not its usage.
-pub(crate) fn request(words: &[&str]) -> Option<Request>
+pub(crate) fn read_request(words: &[&str]) -> Option<Request>
     ensures file { IfSome result (λ request. request.file < length words.now) }
     ensures budget { IfSome result (λ request. request.budget < 2 ^ 63) }
 {
@@ -66,7 +66,7 @@ pub(crate) fn request(words: &[&str]) -> Option<Request>
 pub fn file_word(words: &[&str]) -> Option<usize>
     ensures { IfSome result (λ place. place < length words.now) }
 {
-    match request(words) {
+    match read_request(words) {
         Some(request) => Some(request.file),
         None => None,
     }

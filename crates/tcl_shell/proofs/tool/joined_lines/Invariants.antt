@@ -1,0 +1,10 @@
+use Rattle.std.proofs.Common.{length}
+use denote.Text.{Utf8}
+use denote.Shadow.{shadow}
+use Rattle.tcl_shell.proofs.tool.joined_lines.Given as goal
+
+abbrev pub invariant-characters : goal.invariant-characters
+invariant-characters l = shadow (Utf8 l.rest)
+
+abbrev pub decreases-characters : goal.decreases-characters
+decreases-characters l = length l.rest
