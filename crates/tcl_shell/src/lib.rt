@@ -2,11 +2,11 @@
 #![tactic(auto)]
 
 mod lines;
-mod tool;
+mod program;
 mod words;
 
 #[cfg(test)]
 mod tests;
 
-pub use tool::tool;
+pub use program::tool;
 pub use words::file_word;

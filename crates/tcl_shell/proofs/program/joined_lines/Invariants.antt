@@ -1,7 +1,7 @@
 use Rattle.std.proofs.Common.{length}
 use denote.Text.{Utf8}
 use denote.Shadow.{shadow}
-use Rattle.tcl_shell.proofs.tool.joined_lines.Given as goal
+use Rattle.tcl_shell.proofs.program.joined_lines.Given as goal
 
 abbrev pub invariant-characters : goal.invariant-characters
 invariant-characters l = shadow (Utf8 l.rest)

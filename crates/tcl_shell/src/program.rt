@@ -5,7 +5,7 @@ use crate::words::read_request;
 use std::alloc::{AllocError, Global};
 use tcl_chan::device::{Input, Output};
 use tcl_chars::{push, split_first};
-use tcl_interp::{Outcome, run};
+use tcl_interp::{Outcome, Report, run};
 
 // A script whose CR LF are LF.
 fn joined_lines(alloc: Global, text: &str) -> Result<String, AllocError> {
@@ -26,6 +26,36 @@ fn joined_lines(alloc: Global, text: &str) -> Result<String, AllocError> {
         push(&mut script, '\r')?;
     }
     Ok(script)
+}
+
+// The status of a run, and its line where it is neither 0 nor the script's own.
+fn status<R: Input, W: Output, E: Output>(
+    alloc: Global,
+    reader: &mut R,
+    out: &mut W,
+    err: &mut E,
+    outcome: Outcome,
+) -> u8 {
+    match outcome {
+        Outcome::Done { code: 0, .. } => 0,
+        Outcome::Done { result, .. } => {
+            say(alloc, reader, out, err, &[result.as_str()]);
+            1
+        }
+        Outcome::Budget => {
+            say(alloc, reader, out, err, &["budget spent"]);
+            2
+        }
+        Outcome::Exit(status) => status,
+        Outcome::Memory => {
+            say(alloc, reader, out, err, &["out of memory"]);
+            3
+        }
+        Outcome::Io | Outcome::Failed => {
+            say(alloc, reader, out, err, &["read or write failed"]);
+            4
+        }
+    }
 }
 
 /// Runs the program for its words, its own name not among them, over the bytes of its file, or `None` where the file
@@ -58,25 +88,6 @@ pub fn tool<R: Input, W: Output, E: Output>(
         say(alloc, reader, out, err, &["out of memory"]);
         return 3;
     };
-    let report = run(alloc, script.as_str(), args, reader, out, err, request.budget);
-    match report.outcome {
-        Outcome::Done { code: 0, .. } => 0,
-        Outcome::Done { result, .. } => {
-            say(alloc, reader, out, err, &[result.as_str()]);
-            1
-        }
-        Outcome::Budget => {
-            say(alloc, reader, out, err, &["budget spent"]);
-            2
-        }
-        Outcome::Exit(status) => status,
-        Outcome::Memory => {
-            say(alloc, reader, out, err, &["out of memory"]);
-            3
-        }
-        Outcome::Io | Outcome::Failed => {
-            say(alloc, reader, out, err, &["read or write failed"]);
-            4
-        }
-    }
+    let Report { outcome, interp: _ } = run(alloc, script.as_str(), args, reader, out, err, request.budget);
+    status(alloc, reader, out, err, outcome)
 }
