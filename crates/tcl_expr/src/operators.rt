@@ -1,0 +1,1 @@
+//! Operators that are no runs of letters and digits.
