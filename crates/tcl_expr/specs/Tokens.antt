@@ -186,16 +186,17 @@ abbrev pub or_symbol : Option UnaryOp → ℕ → ℕ → List ℕ → Token × 
 or_symbol (Some u) size c cs = (Unary u, cs)
 or_symbol None size c cs = or_bareword (symbol_at (c ∷ cs)) (stretch size (c ∷ cs) cs) cs
 
--- Where an operand is wanted: the token at the front of what is left of a text of `size` bytes. In an operand brackets
--- and indices may stand in one another `levels` deep.
-unfoldable pub operand_token : ℕ → ℕ → ℕ → List ℕ → Token × List ℕ
-operand_token size levels c cs =
+-- Where an operand is wanted: the token at the front of what is left of a text of `size` bytes, and what follows it. In
+-- an operand brackets and indices may stand in one another `levels` deep.
+unfoldable pub operand_token : ℕ → ℕ → List ℕ → Option (Token × List ℕ)
+operand_token size levels [] = None
+operand_token size levels (c ∷ cs) =
     let here = c ∷ cs in
-    if begins_signed here then run_token size here (after_run cs)
-    else if is_run_char c then run_token size here (after_run here)
-    else if begins_operand here then word_token (operand size levels here)
-    else if c == open_paren then (Open, cs)
-    else or_symbol (prefix c cs) size c cs
+    if begins_signed here then Some (run_token size here (after_run cs))
+    else if begins_run here then Some (run_token size here (after_run here))
+    else if begins_operand here then Some (word_token (operand size levels here))
+    else if c == open_paren then Some (Open, cs)
+    else Some (or_symbol (prefix c cs) size c cs)
 
 abbrev pub or_stray : Option (Symbol × List ℕ) → List ℕ → Token × List ℕ
 or_stray (Some x) rest = (symbol_token x.0, x.1)
@@ -206,20 +207,16 @@ operator_or_stray (Some op) = Binary op
 operator_or_stray None = Stray
 
 -- where an operator is wanted
-unfoldable pub operator_token : ℕ → List ℕ → Token × List ℕ
-operator_token c cs =
+unfoldable pub operator_token : List ℕ → Option (Token × List ℕ)
+operator_token [] = None
+operator_token (c ∷ cs) =
     let here = c ∷ cs in
-    if is_run_char c then (operator_or_stray (word_operator (before here (after_run here))), after_run here)
-    else or_stray (symbol_at here) cs
-
-abbrev pub token_at : ℕ → Bool → ℕ → List ℕ → Option (Token × List ℕ)
-token_at size wants levels [] = None
-token_at size true levels (c ∷ cs) = Some (operand_token size levels c cs)
-token_at size false levels (c ∷ cs) = Some (operator_token c cs)
+    if begins_run here then Some (operator_or_stray (word_operator (before here (after_run here))), after_run here)
+    else Some (or_stray (symbol_at here) cs)
 
 -- the next token and what follows it, or none where only white space is left
 unfoldable pub next_token : ℕ → Bool → ℕ → List ℕ → Option (Token × List ℕ)
-next_token size wants levels cs = token_at size wants levels (skip_space cs)
+next_token size wants levels cs = if wants then operand_token size levels (skip_space cs) else operator_token (skip_space cs)
 
 -- ---- the tokens of a text
 
