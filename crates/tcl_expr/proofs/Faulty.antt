@@ -45,7 +45,7 @@ abbrev pub fault_in : {A : Type 0} → Result A ExprFault → Option ExprFault
 fault_in (Ok e) = None
 fault_in (Err m) = Some m
 
-shape_length : (s : List Held) → length (shape s) ≡ open_levels s
+pub shape_length : (s : List Held) → length (shape s) ≡ open_levels s
 unfolding shape open_levels
 shape_length [] = refl
 shape_length (in_unary u ∷ s) = ap suc (shape_length s)

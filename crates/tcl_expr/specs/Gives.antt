@@ -37,3 +37,7 @@ Finishes (Err e) r = StopsFor e r
 abbrev pub place_of : State → Place
 place_of (state.Wants p) = p
 place_of (state.Has x) = place.Operator
+
+abbrev pub result_view : Result Tree ExprSyntax → Result Expr ExprFault
+result_view (Ok t) = Ok (view t)
+result_view (Err m) = Err (fault_view m)

@@ -14,6 +14,7 @@ use Rattle.tcl_expr.specs.declared.state.Place.TheVariants as place
 use Rattle.tcl_expr.specs.Expr.{Expr, operand, group, call, unary, power, chain, choice, Rest, last, next, Args, no_args, arg, level_of}
 use Rattle.tcl_expr.specs.Grammar.{miscount, most_levels}
 use Rattle.tcl_expr.specs.Faults.{reach}
+use Rattle.tcl_expr.specs.Tokens.{tokens}
 
 abbrev pub Step : Type 0
 Step = BinaryOp × Expr
@@ -166,3 +167,7 @@ run st (t ∷ ts) = and_then (step st t) (λ st'. run st' ts)
 
 abbrev pub parsed : List Token → Result Expr ExprFault
 parsed ts = run (wants place.Start []) ts
+
+-- the expression that a text is, or its fault
+unfoldable pub expression_of : List ℕ → Result Expr ExprFault
+expression_of text = parsed (tokens text)

@@ -18,6 +18,6 @@ mod tokens;
 mod tree;
 
 pub use fault::ExprSyntax;
-// pub use parse::parse_expr;
+pub use parse::parse_expr;
 pub use token::{BinaryOp, Function, Leaf, UnaryOp};
 pub use tree::Tree;
