@@ -12,16 +12,16 @@ use Rattle.tcl_expr.specs.declared.state.State.TheVariants as code
 use Rattle.tcl_expr.specs.declared.tree.Tree.{Tree}
 use Rattle.tcl_expr.specs.Expr.{Expr}
 use Rattle.tcl_expr.specs.ExprFault.{ExprFault}
-use Rattle.tcl_expr.specs.Faults.{Opened, reach, there, row, after, wanted}
+use Rattle.tcl_expr.specs.Faults.{Opened, reach, there, row, after, wanted, fault_of}
 use Rattle.tcl_expr.specs.Gives.{StopsFor, Finishes, state_of}
 use Rattle.tcl_expr.specs.Gives as gives
-use Rattle.tcl_expr.specs.Grammar.{most_levels}
+use Rattle.tcl_expr.specs.Grammar.{most_levels, IsTree}
 use Rattle.tcl_expr.specs.Machine.{Held, State, wants, step, finish, run, and_then, parsed, open_levels, expression_of}
 use Rattle.tcl_expr.specs.Token.{Token}
 use Rattle.tcl_expr.specs.Tokens.{next_token, wants_operand, with_token, unless_faulty, tokens_from, tokens_at, tokens}
 use Rattle.tcl_expr.proofs.Sound.{IsState, Sensible}
-use Rattle.tcl_expr.proofs.Steps.{After, stepped}
-use Rattle.tcl_expr.proofs.Faulty.{shape, shape_length, held, place_of, Agrees, agrees}
+use Rattle.tcl_expr.proofs.Steps.{After, stepped, is_tree}
+use Rattle.tcl_expr.proofs.Faulty.{shape, shape_length, held, place_of, Agrees, agrees, fault_is, fault_in}
 use Rattle.tcl_expr.proofs.Suffix.{shorter_next}
 
 -- ---- the bound never shows
@@ -144,3 +144,13 @@ nothing_open = (tt, tt)
 
 pub state_begins : (s : List Held) → s ≡ [] → IsState (wants place.Start s)
 state_begins s e = let P : List Held → Type 0 = λ z. IsState (wants place.Start z) in subst P (sym e) nothing_open
+
+-- ---- what was read is the grammar's
+
+pub tree_read : (text : List ℕ) (e : Expr) → expression_of text ≡ Ok e → IsTree (tokens text) e
+unfolding expression_of
+tree_read text e is = is_tree (tokens text) e is
+
+pub fault_read : (text : List ℕ) (m : ExprFault) → expression_of text ≡ Err m → fault_of (tokens text) ≡ Some m
+unfolding expression_of
+fault_read text m is = fault_is (tokens text) ∙ ap fault_in is
