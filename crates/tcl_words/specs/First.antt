@@ -4,6 +4,8 @@ use Rattle.std.specs.Str.{chars, IsCharBoundary}
 use Rattle.tcl_chars.specs.Characters.{open_brace, quote, open_bracket, dollar}
 use Rattle.tcl_chars.specs.Place.{bytes, place}
 use Rattle.tcl_words.specs.declared.fault.Syntax.{Syntax}
+use Rattle.tcl_words.specs.declared.word.Operand.{Operand}
+use Rattle.tcl_words.specs.declared.word.Operand.TheVariants as found
 use Rattle.tcl_words.specs.declared.word.Parsed.{Parsed}
 use Rattle.tcl_words.specs.declared.word.Parsed.TheVariants as parsed
 use Rattle.tcl_words.specs.Parts.{Shape, shape_of}
@@ -61,3 +63,9 @@ IsParsed text (parsed.Bad m) (none rest) = ⊥
 IsParsed text (parsed.Bad m) (command shapes rest) = ⊥
 IsParsed text (parsed.Command words at) (none rest) = ⊥
 IsParsed text (parsed.Command words at) (malformed n) = ⊥
+
+abbrev pub IsOperand : List ℕ → Operand → Result (Shape × List ℕ) Syntax → Type 0
+IsOperand text (found.Found word at) (Ok x) = (shape_of word ≡ x.0) × IsRestAt text at x.1
+IsOperand text (found.Bad m) (Err n) = m ≡ n
+IsOperand text (found.Found word at) (Err n) = ⊥
+IsOperand text (found.Bad m) (Ok x) = ⊥

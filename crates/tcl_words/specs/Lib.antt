@@ -1,3 +1,4 @@
+pub mod Complete
 pub mod First
 pub mod Parts
 pub mod Syntax

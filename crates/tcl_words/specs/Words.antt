@@ -1,6 +1,6 @@
 -- The rules of Tcl(n): blanks, comments, pieces, words, the first command. Each reading takes the text that is left,
 -- and gives what it read and the text behind it.
-use Rattle.std.specs.Prelude.{ℕ, zero, suc, ◌+◌, ◌-◌, Bool, true, false, not, ◌&&◌, ◌||◌, ◌==◌, List, [], ◌∷◌, drop, map, Option, Some, None, Result, Ok, Err, if◌then◌else◌}
+use Rattle.std.specs.Prelude.{ℕ, zero, suc, ◌+◌, ◌-◌, Bool, true, false, not, ◌&&◌, ◌||◌, ◌==◌, List, [], ◌∷◌, drop, Option, Some, None, Result, Ok, Err, if◌then◌else◌}
 use Rattle.tcl_chars.specs.Characters.{newline, backslash, semicolon, dollar, quote, open_brace, close_brace, open_paren, close_paren, open_bracket, close_bracket, number_sign, colon, star}
 use Rattle.tcl_chars.specs.Classes.{is_word_space, is_name_char}
 use Rattle.tcl_chars.specs.Escape.{escape as escape_of}
@@ -10,6 +10,12 @@ use Rattle.tcl_words.specs.declared.fault.Syntax.{Syntax}
 use Rattle.tcl_words.specs.declared.fault.Syntax.TheVariants.{AfterBrace, AfterQuote, MissingBrace, MissingBracket, MissingQuote, MissingParen, MissingVariableBrace, TooDeep}
 use Rattle.tcl_words.specs.declared.word.Form.{Form}
 use Rattle.tcl_words.specs.declared.word.Form.TheVariants as form
+use Rattle.tcl_words.specs.declared.blanks.Gap.{Gap}
+use Rattle.tcl_words.specs.declared.blanks.Gap.TheVariants as gap
+use Rattle.tcl_words.specs.declared.front.Kind.{Kind}
+use Rattle.tcl_words.specs.declared.front.Kind.TheVariants as kind
+use Rattle.tcl_words.specs.declared.front.Mode.{Mode}
+use Rattle.tcl_words.specs.declared.front.Mode.TheVariants as mode
 use Rattle.tcl_words.specs.Parts.{Stretch, Part, text, escape, var, elem_, bracket, Parts, parts_of, Shape}
 
 -- ---- between words and commands
@@ -23,24 +29,18 @@ after_blanks (c ∷ d ∷ cs) =
     else if c == backslash && d == newline then after_blanks cs
     else c ∷ d ∷ cs
 
--- where a reader of separators stands
-pub data Gap : Type 0 where
-  between : Gap
-  -- in a comment; does a backslash hide the next character
-  comment : Bool → Gap
-
 -- What follows the separators and the comments at the front (rules 1 and 10). In a comment a backslash and the
 -- character after it are passed together, and the first newline not so passed ends it.
 unfoldable pub after_gaps : Gap → List ℕ → List ℕ
 after_gaps g [] = []
-after_gaps between (c ∷ cs) =
-    if is_word_space c || c == newline || c == semicolon || (c == backslash && begins newline cs) then after_gaps between cs
-    else if c == number_sign then after_gaps (comment false) cs
+after_gaps gap.Between (c ∷ cs) =
+    if is_word_space c || c == newline || c == semicolon || (c == backslash && begins newline cs) then after_gaps gap.Between cs
+    else if c == number_sign then after_gaps (gap.Comment false) cs
     else c ∷ cs
-after_gaps (comment hidden) (c ∷ cs) =
-    if hidden then after_gaps (comment false) cs
-    else if c == newline then after_gaps between cs
-    else after_gaps (comment (c == backslash)) cs
+after_gaps (gap.Comment hidden) (c ∷ cs) =
+    if hidden then after_gaps (gap.Comment false) cs
+    else if c == newline then after_gaps gap.Between cs
+    else after_gaps (gap.Comment (c == backslash)) cs
 
 -- the word ends here: at the end of the text, a separator, the command's end, or inside brackets `]`
 abbrev pub ends_word : Bool → List ℕ → Bool
@@ -63,55 +63,38 @@ abbrev pub begins_variable : List ℕ → Bool
 begins_variable [] = false
 begins_variable (c ∷ cs) = is_name_char c || (c == colon && begins colon cs) || c == open_brace || c == open_paren
 
--- the word round a piece
-pub data Mode : Type 0 where
-  -- bare; is it inside brackets
-  bare : Bool → Mode
-  quoted : Mode
-  index : Mode
-
--- what stands at the front of a word's text
-pub data Kind : Type 0 where
-  ends : Kind
-  -- the text ends, and the word is open
-  open_ : Kind
-  backslashed : Kind
-  opening : Kind
-  variable : Kind
-  plain : Kind
-
 -- the end of the text ends a bare word, and leaves the others open
 abbrev pub kind_at_end : Mode → Kind
-kind_at_end (bare nested) = ends
-kind_at_end quoted = open_
-kind_at_end index = open_
+kind_at_end (mode.Bare nested) = kind.Ends
+kind_at_end mode.Quoted = kind.Open
+kind_at_end mode.Index = kind.Open
 
 abbrev pub fault_at_end : Mode → Syntax
-fault_at_end quoted = MissingQuote
-fault_at_end index = MissingParen
-fault_at_end (bare nested) = MissingQuote
+fault_at_end mode.Quoted = MissingQuote
+fault_at_end mode.Index = MissingParen
+fault_at_end (mode.Bare nested) = MissingQuote
 
 abbrev pub ends_pieces : Mode → List ℕ → Bool
-ends_pieces (bare nested) cs = ends_word nested cs
-ends_pieces quoted cs = begins quote cs
-ends_pieces index cs = begins close_paren cs
+ends_pieces (mode.Bare nested) cs = ends_word nested cs
+ends_pieces mode.Quoted cs = begins quote cs
+ends_pieces mode.Index cs = begins close_paren cs
 
 unfoldable pub kind_of : Mode → List ℕ → Kind
 kind_of m [] = kind_at_end m
 kind_of m (c ∷ cs) =
-    if ends_pieces m (c ∷ cs) then ends
-    else if c == backslash then backslashed
-    else if c == open_bracket then opening
-    else if c == dollar && begins_variable cs then variable
-    else plain
+    if ends_pieces m (c ∷ cs) then kind.Ends
+    else if c == backslash then kind.Backslashed
+    else if c == open_bracket then kind.Opening
+    else if c == dollar && begins_variable cs then kind.Variable
+    else kind.Plain
 
 abbrev pub is_plain : Kind → Bool
-is_plain plain = true
-is_plain ends = false
-is_plain open_ = false
-is_plain backslashed = false
-is_plain opening = false
-is_plain variable = false
+is_plain kind.Plain = true
+is_plain kind.Ends = false
+is_plain kind.Open = false
+is_plain kind.Backslashed = false
+is_plain kind.Opening = false
+is_plain kind.Variable = false
 
 -- what follows the plain characters at the front
 unfoldable pub after_plain : Mode → List ℕ → List ℕ
@@ -176,6 +159,13 @@ verbatim_at size (c ∷ cs) =
     if begins_hidden_newline here then (let rest = drop (escape_of here).1 here in Ok (Some (escape (stretch size here rest) (escape_of here).0), rest))
     else (let rest = after_verbatim here in Ok (Some (text (stretch size here rest)), rest))
 
+-- from the `{` of a braced word to behind its `}`, in a text of `size` bytes
+unfoldable pub braced_at : ℕ → Reading Syntax (List Part)
+braced_at size cs = do
+  close ← at_brace false 0 (tail cs)
+  found ← all_turns (verbatim_at (place size close)) (before (tail cs) close)
+  Ok (found.0, tail close)
+
 -- how what may nest is read
 pub record Inner : Type 0 where
   -- from behind `[` to its `]`
@@ -209,17 +199,17 @@ module _ (size : ℕ) (inner : Inner) where
 
   -- the piece of a kind that begins here
   abbrev pub piece_of : Mode → Kind → Reading Syntax (Option Part)
-  piece_of m ends cs = Ok (None, cs)
-  piece_of m open_ cs = Err (fault_at_end m)
-  piece_of m backslashed cs =
+  piece_of m kind.Ends cs = Ok (None, cs)
+  piece_of m kind.Open cs = Err (fault_at_end m)
+  piece_of m kind.Backslashed cs =
       let rest = drop (escape_of cs).1 cs in Ok (Some (escape (stretch size cs rest) (escape_of cs).0), rest)
-  piece_of m opening cs = do
+  piece_of m kind.Opening cs = do
     found ← bracket_at cs
     Ok (Some found.0, found.1)
-  piece_of m variable cs = do
+  piece_of m kind.Variable cs = do
     found ← variable_at cs
     Ok (Some found.0, found.1)
-  piece_of m plain cs =
+  piece_of m kind.Plain cs =
       let rest = after_plain m cs in Ok (Some (text (stretch size cs rest)), rest)
 
   -- the next piece, or none where the word ends
@@ -229,51 +219,41 @@ module _ (size : ℕ) (inner : Inner) where
   unfoldable pub pieces_at : Mode → Reading Syntax (List Part)
   pieces_at m cs = all_turns (piece_at m) cs
 
-  -- from the `{` of a braced word to behind its `}`
-  unfoldable pub braced_at : Reading Syntax (List Part)
-  braced_at cs = do
-    close ← at_brace false 0 (tail cs)
-    found ← all_turns (verbatim_at (place size close)) (before (tail cs) close)
-    Ok (found.0, tail close)
-
   -- from the first `"` of a quoted word to behind its last
   unfoldable pub quoted_at : Reading Syntax (List Part)
   quoted_at cs = do
-    found ← pieces_at quoted (tail cs)
+    found ← pieces_at mode.Quoted (tail cs)
     Ok (found.0, tail found.1)
 
   -- the word of a form that begins here
   abbrev pub word_of : Bool → Bool → Form → Reading Syntax Shape
   word_of nested expands form.Braced cs = do
-    found ← braced_at cs
+    found ← braced_at size cs
     closed AfterBrace nested (record { form = form.Braced; expands = expands; pieces = found.0 }) found.1
   word_of nested expands form.Quoted cs = do
     found ← quoted_at cs
     closed AfterQuote nested (record { form = form.Quoted; expands = expands; pieces = found.0 }) found.1
   word_of nested expands form.Bare cs = do
-    found ← pieces_at (bare nested) cs
+    found ← pieces_at (mode.Bare nested) cs
     Ok (record { form = form.Bare; expands = expands; pieces = found.0 }, found.1)
 
-  -- the one piece of a bracket or a variable
-  abbrev pub lone_piece : Part × List ℕ → Shape × List ℕ
-  lone_piece found = (record { form = form.Bare; expands = false; pieces = found.0 ∷ [] }, found.1)
+  -- the bracket or the variable that begins here, as the one piece of a word
+  abbrev pub lone_at : Reading Syntax Shape
+  lone_at cs = do
+    found ← if begins open_bracket cs then bracket_at cs else variable_at cs
+    Ok (record { form = form.Bare; expands = false; pieces = found.0 ∷ [] }, found.1)
 
   -- The operand of an expression that begins here, whatever follows it: a braced or a quoted word, a bracket or a
   -- variable (expr(n), Operands).
   unfoldable pub operand_at : Reading Syntax Shape
   operand_at cs =
       if begins open_brace cs then (do
-        found ← braced_at cs
+        found ← braced_at size cs
         Ok (record { form = form.Braced; expands = false; pieces = found.0 }, found.1))
       else if begins quote cs then (do
         found ← quoted_at cs
         Ok (record { form = form.Quoted; expands = false; pieces = found.0 }, found.1))
-      else if begins open_bracket cs then (do
-        found ← bracket_at cs
-        Ok (lone_piece found))
-      else (do
-        found ← variable_at cs
-        Ok (lone_piece found))
+      else lone_at cs
 
   unfoldable pub word_at : Bool → Reading Syntax Shape
   word_at nested cs =
@@ -294,17 +274,17 @@ module _ (size : ℕ) (inner : Inner) where
   -- The first command, or none where only separators and comments are left (rules 1 and 2).
   unfoldable pub first_at : Bool → Reading Syntax (Option (List Shape))
   first_at nested cs =
-      let rest = after_gaps between cs in
+      let rest = after_gaps gap.Between cs in
       if ends_word nested rest then Ok (None, rest) else (do
         words ← words_at nested rest
         Ok (Some words.0, after_command words.1))
 
-  -- the commands up to a bracket's `]` or the end of the text
-  unfoldable pub commands_at : Reading Syntax (List (List Shape))
-  commands_at cs = all_turns (first_at true) cs
+  -- the commands up to the end of the text, or inside brackets up to `]`
+  unfoldable pub commands_at : Bool → Reading Syntax (List (List Shape))
+  commands_at nested cs = all_turns (first_at nested) cs
 
-  unfoldable pub after_commands : List ℕ → Result (List ℕ) Syntax
-  after_commands cs = commands_at cs >>= λ found. Ok found.1
+  unfoldable pub after_commands : Bool → List ℕ → Result (List ℕ) Syntax
+  after_commands nested cs = commands_at nested cs >>= λ found. Ok found.1
 
 -- the `]` of a bracket that holds these commands
 abbrev pub closing : List ℕ → Result (List ℕ) Syntax
@@ -319,6 +299,6 @@ index_of found = (parts_of found.0, tail found.1)
 unfoldable pub inner_at : ℕ → ℕ → Inner
 inner_at size zero = record { bracket = λ cs. Err TooDeep; index = λ cs. Err TooDeep }
 inner_at size (suc levels) = record {
-  bracket = λ cs. after_commands size (inner_at size levels) cs >>= closing;
-  index = λ cs. pieces_at size (inner_at size levels) index cs >>= λ found. Ok (index_of found);
+  bracket = λ cs. after_commands size (inner_at size levels) true cs >>= closing;
+  index = λ cs. pieces_at size (inner_at size levels) mode.Index cs >>= λ found. Ok (index_of found);
 }

@@ -1,8 +1,19 @@
 //! The words and commands of a Tcl text: Tcl(n), rules 1 to 12.
 #![tactic(auto)]
 
+mod blanks;
+mod braces;
+mod command;
+mod complete;
 mod fault;
+mod front;
+mod nesting;
+mod operand;
+mod stretch;
 mod word;
 
+pub use command::{parse_command, parse_first};
+pub use complete::is_complete;
 pub use fault::Syntax;
-pub use word::{Form, Parsed, Piece, Span, Word};
+pub use operand::parse_operand;
+pub use word::{Form, Operand, Parsed, Piece, Span, Word};

@@ -52,3 +52,12 @@ pub enum Parsed<'a> {
     /// Its words, and the place behind the command, in bytes.
     Command(Vec<Word<'a>>, usize),
 }
+
+/// A word, a bracket or a variable that is an operand of an expression.
+#[derive(Debug, Drop)]
+pub enum Operand<'a> {
+    /// Its first fault.
+    Bad(Syntax),
+    /// The operand as a word, a bracket or a variable as the one piece of a bare one, and the place behind it, in bytes.
+    Found(Word<'a>, usize),
+}

@@ -1,0 +1,12 @@
+use Rattle.std.proofs.Common.{◌≡◌, false, length}
+use denote.Text.{Utf8}
+use denote.Shadow.{shadow}
+use Rattle.std.specs.Str.{chars}
+use Rattle.tcl_words.specs.Words.{after_name}
+use Rattle.tcl_words.proofs.front.after_name.Given as goal
+
+abbrev pub invariant-loop-c : goal.invariant-loop-c
+invariant-loop-c l = shadow (Utf8 l.rest) × (after_name l.in_colons (chars l.rest) ≡ after_name false (chars l.fn.text))
+
+abbrev pub decreases-loop-c : goal.decreases-loop-c
+decreases-loop-c l = length l.rest
