@@ -1,8 +1,8 @@
 -- What a reader leaves ends the text that it was given, and is shorter where a token was read.
-use Rattle.std.proofs.Common.{◌≡◌, ℕ, ◌<◌, ◌≤◌, Bool, true, false, List, [], ◌∷◌, ◌++◌, length, Option, Some, None, Result, Ok, Err, refl, sym, ap, subst, ◌∙◌, append_assoc, arith, length-append}
+use Rattle.std.proofs.Common.{◌≡◌, ℕ, ◌<◌, Bool, true, false, List, [], ◌∷◌, ◌++◌, length, Option, Some, None, Result, Ok, Err, refl, sym, subst}
 use Rattle.std.proofs.lemmas.List.{append-nil}
-use Rattle.std.specs.Prelude.{IfSome, IfOk, if◌then◌else◌, ◌&&◌, ◌==◌}
-use Rattle.tcl_chars.specs.Characters.{open_paren}
+use Rattle.std.specs.Prelude.{cond, IfSome, IfOk, if◌then◌else◌, ◌&&◌, ◌==◌}
+use Rattle.tcl_chars.specs.Characters.{open_paren, open_brace, open_bracket, quote}
 use Rattle.tcl_chars.specs.Classes.{is_list_space}
 use Rattle.tcl_chars.specs.Place.{EndsWith, begins, tail, before}
 use Rattle.tcl_chars.specs.Truth.{truth_of}
@@ -10,41 +10,13 @@ use Rattle.tcl_chars.specs.Whole.{skip_space}
 use Rattle.tcl_words.specs.declared.fault.Syntax.{Syntax}
 use Rattle.tcl_words.specs.First.{operand, begins_operand}
 use Rattle.tcl_words.specs.Parts.{Shape, Stretch}
-use Rattle.tcl_words.specs.Words.{stretch}
+use Rattle.tcl_words.specs.Words.{stretch, Inner, inner_at, at_variable_brace, after_name, named, variable_at, bracket_at, braced_at, quoted_at, operand_at}
+use Rattle.tcl_words.proofs.Forward.{IsPast, ends_self, ends_more, ends_trans, ends_tail, past_more, past_then, then_past, if_cond, if_bind, if_weak, Ends, Past, Inside, inner_inside, variable_brace_end, name_end, named_end, braced_end, quoted_end}
 use Rattle.tcl_expr.specs.declared.token.Symbol.{Symbol}
 use Rattle.tcl_expr.specs.declared.token.UnaryOp.{UnaryOp}
 use Rattle.tcl_expr.specs.Expr.{word, literal}
 use Rattle.tcl_expr.specs.Token.{Token, Operand, Malformed, Bareword, Unary, Open, Stray}
 use Rattle.tcl_expr.specs.Tokens.{is_run_char, begins_run, begins_signed, begins_letter, after_run, says_something, called, function_of, run_token, one, two, with_rest, or_one, symbol_at, symbol_token, prefix, word_token, or_bareword, or_symbol, operand_token, or_stray, word_operator, operator_or_stray, operator_token, next_token}
-
-pub record IsPast (cs rest : List ℕ) : Type 0 where
-  pub ends : EndsWith cs rest
-  pub less : length rest < length cs
-
-pub ends_self : (cs : List ℕ) → EndsWith cs cs
-ends_self cs = record { front = []; joined = refl }
-
-pub ends_more : (c : ℕ) (cs rest : List ℕ) → EndsWith cs rest → EndsWith (c ∷ cs) rest
-ends_more c cs rest h = record { front = c ∷ h.front; joined = ap (λ (z : List ℕ). c ∷ z) h.joined }
-
-pub ends_trans : (es bs cs : List ℕ) → EndsWith es bs → EndsWith bs cs → EndsWith es cs
-ends_trans es bs cs h k = record { front = h.front ++ k.front; joined = h.joined ∙ ap (λ (z : List ℕ). h.front ++ z) k.joined ∙ sym (append_assoc h.front k.front cs) }
-
-pub ends_le : (cs rest : List ℕ) → EndsWith cs rest → length rest ≤ length cs
-ends_le cs rest e = omega (arith, ap length e.joined, length-append e.front rest)
-
-pub ends_tail : (cs : List ℕ) → EndsWith cs (tail cs)
-ends_tail [] = ends_self []
-ends_tail (c ∷ cs) = ends_more c cs cs (ends_self cs)
-
-pub past_more : (c : ℕ) (cs rest : List ℕ) → EndsWith cs rest → IsPast (c ∷ cs) rest
-past_more c cs rest e = record { ends = ends_more c cs rest e; less = omega (arith, ends_le cs rest e) }
-
-pub past_then : (a b c : List ℕ) → IsPast a b → EndsWith b c → IsPast a c
-past_then a b c p e = record { ends = ends_trans a b c p.ends e; less = omega (arith, p.less, ends_le b c e) }
-
-pub then_past : (a b c : List ℕ) → EndsWith a b → IsPast b c → IsPast a c
-then_past a b c e p = record { ends = ends_trans a b c e p.ends; less = omega (arith, p.less, ends_le a b e) }
 
 -- ---- runs and white space
 
@@ -117,8 +89,32 @@ word_past : (c : ℕ) (cs : List ℕ) (r : Result (Shape × List ℕ) Syntax) �
 word_past c cs (Ok x) h = h
 word_past c cs (Err m) h = past_all c cs
 
+-- an operand takes the character that opens it, and more
+module _ (size : ℕ) (inner : Inner) (inside : Inside inner) where
+  variable_end : (cs : List ℕ) → Ends (tail cs) (variable_at size inner cs)
+  unfolding variable_at
+  variable_end cs =
+      if_cond (Ends (tail cs)) (begins open_brace (tail cs)) _ _
+      (if_bind (EndsWith (tail (tail cs))) (λ x. EndsWith (tail cs) x.1) (at_variable_brace (tail (tail cs))) _ (variable_brace_end (tail (tail cs)))
+      (λ close h. ends_trans (tail cs) (tail (tail cs)) (tail close) (ends_tail (tail cs)) (ends_trans (tail (tail cs)) close (tail close) h (ends_tail close))))
+      (if_weak (λ x. EndsWith (after_name false (tail cs)) x.1) (λ x. EndsWith (tail cs) x.1) (named size inner cs (tail cs) (after_name false (tail cs))) (named_end size inner inside cs (tail cs) (after_name false (tail cs)))
+      (λ x h. ends_trans (tail cs) (after_name false (tail cs)) x.1 (name_end false (tail cs)) h))
+
+  bracket_end : (cs : List ℕ) → Ends (tail cs) (bracket_at size inner cs)
+  bracket_end cs = if_bind (EndsWith (tail cs)) (λ x. EndsWith (tail cs) x.1) (inner.bracket (tail cs)) _ (inside.bracket_end (tail cs)) (λ close h. ends_trans (tail cs) close (tail close) h (ends_tail close))
+
+  word_at_past : (c : ℕ) (cs : List ℕ) → Past (c ∷ cs) (operand_at size inner (c ∷ cs))
+  unfolding operand_at
+  word_at_past c cs =
+      let here = c ∷ cs in
+      let lone = cond (begins open_bracket here) (bracket_at size inner here) (variable_at size inner here) in
+      if_cond (Past here) (begins open_brace here) _ _ (if_bind (λ x. EndsWith cs x.1) (λ x. IsPast here x.1) (braced_at size here) _ (braced_end size here) (λ x h. past_more c cs x.1 h))
+      (if_cond (Past here) (begins quote here) _ _ (if_bind (λ x. EndsWith cs x.1) (λ x. IsPast here x.1) (quoted_at size inner here) _ (quoted_end size inner inside here) (λ x h. past_more c cs x.1 h))
+      (if_bind (λ x. EndsWith cs x.1) (λ x. IsPast here x.1) lone _ (if_cond (Ends cs) (begins open_bracket here) _ _ (bracket_end here) (variable_end here)) (λ x h. past_more c cs x.1 h)))
+
 operand_past : (size levels c : ℕ) (cs : List ℕ) → IfOk (operand size levels (c ∷ cs)) (λ x. IsPast (c ∷ cs) x.1)
-operand_past size levels c cs = ?
+unfolding operand
+operand_past size levels c cs = word_at_past size (inner_at size levels) (inner_inside size levels) c cs
 
 abbrev pub Goes : List ℕ → Option (Token × List ℕ) → Type 0
 Goes cs found = IfSome found (λ x. IsPast cs x.1)

@@ -15,7 +15,8 @@ use crate::runs::{
 };
 use crate::token::{Leaf, Symbol, Token};
 use std::alloc::{AllocError, Global};
-use tcl_chars::{before, begins, is_name_char, split_first, tail};
+use tcl_chars::{before, begins, is_name_char, place, split_first, tail};
+use tcl_words::{Operand, parse_operand};
 
 /// The token that a run is, and what follows it.
 fn run_token<'a>(size: usize, here: &'a str, rest: &'a str) -> (Token<'a>, &'a str)
@@ -73,7 +74,12 @@ fn word_token<'a>(
     ensures token { IfOk result (λ p. token_of p.0 ≡ (spec.word_token (operand (length text.now) levels (chars here.now))).0) }
     ensures rest { IfOk result (λ p. chars p.1.now ≡ (spec.word_token (operand (length text.now) levels (chars here.now))).1) }
 {
-    Err(AllocError)
+    let from = place(text.len(), here);
+    match parse_operand(alloc, text, from, levels) {
+        Ok(Operand::Found(word, at)) => Ok((Token::Operand(Leaf::Word(word)), &text[at..])),
+        Ok(Operand::Bad(fault)) => Ok((Token::Malformed(fault), "")),
+        Err(_) => Err(AllocError),
+    }
 }
 
 /// The token that begins with a character that begins no operand, and what follows it.
