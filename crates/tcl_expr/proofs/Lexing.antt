@@ -19,6 +19,7 @@ use Rattle.tcl_expr.specs.Grammar.{most_levels, IsTree}
 use Rattle.tcl_expr.specs.Machine.{Held, State, wants, step, finish, run, and_then, parsed, open_levels, expression_of}
 use Rattle.tcl_expr.specs.Token.{Token}
 use Rattle.tcl_expr.specs.Tokens.{next_token, wants_operand, with_token, unless_faulty, tokens_from, tokens_at, tokens}
+use Rattle.tcl_expr.proofs.Complete.{read_back}
 use Rattle.tcl_expr.proofs.Sound.{IsState, Sensible}
 use Rattle.tcl_expr.proofs.Steps.{After, stepped, is_tree}
 use Rattle.tcl_expr.proofs.Faulty.{shape, shape_length, held, place_of, Agrees, agrees, fault_is, fault_in}
@@ -154,3 +155,15 @@ tree_read text e is = is_tree (tokens text) e is
 pub fault_read : (text : List ℕ) (m : ExprFault) → expression_of text ≡ Err m → fault_of (tokens text) ≡ Some m
 unfolding expression_of
 fault_read text m is = fault_is (tokens text) ∙ ap fault_in is
+
+pub reads_trees : (text : List ℕ) (e : Expr) → (expression_of text ≡ Ok e → IsTree (tokens text) e) × (IsTree (tokens text) e → expression_of text ≡ Ok e)
+unfolding expression_of
+reads_trees text e = (is_tree (tokens text) e, read_back (tokens text) e)
+
+faulty_result : (r : Result Expr ExprFault) (m : ExprFault) → fault_in r ≡ Some m → r ≡ Err m
+faulty_result (Ok e) m is = absurd cc
+faulty_result (Err n) m is = let same : n ≡ m = cc in ap (λ z. Err z) same
+
+pub reads_faults : (text : List ℕ) (m : ExprFault) → (expression_of text ≡ Err m → fault_of (tokens text) ≡ Some m) × (fault_of (tokens text) ≡ Some m → expression_of text ≡ Err m)
+unfolding expression_of
+reads_faults text m = (fault_read text m, λ is. faulty_result (parsed (tokens text)) m (sym (fault_is (tokens text)) ∙ is))

@@ -13,6 +13,7 @@ mod state;
 
 #[cfg(test)]
 mod tests;
+mod texts;
 mod token;
 mod tokens;
 mod tree;
