@@ -38,8 +38,8 @@ enough (suc m) zero size p os cs a b = absurd (omega arith)
 enough (suc m) (suc n) size p os cs a b =
     same_tokens (next_token size (wants_operand p) (most_levels - length os) cs) _ _
     (λ t rest e.
-      let less = shorter_next size (wants_operand p) (most_levels - length os) cs t rest e in
-      ap (λ (ts : List Token). t ∷ unless_faulty (row p (there p (reach t) os) t) ts) (enough m n size (wanted t) (after t (there p (reach t) os)) rest (omega arith) (omega arith)))
+    let less = shorter_next size (wants_operand p) (most_levels - length os) cs t rest e in
+    ap (λ (ts : List Token). t ∷ unless_faulty (row p (there p (reach t) os) t) ts) (enough m n size (wanted t) (after t (there p (reach t) os)) rest (omega arith) (omega arith)))
 
 no_token : (size : ℕ) (p : Place) (os : List Opened) (cs : List ℕ) → next_token size (wants_operand p) (most_levels - length os) cs ≡ None → tokens_at size p os cs ≡ []
 unfolding tokens_from tokens_at

@@ -13,4 +13,3 @@ reduce_more r x y h s t all a lt b e = ap (λ (z : Expr). reduce r z t) b ∙ sy
 
 pub reduce_ends : (r : ℕ) (x : Expr) (h : Held) (s t u : List Held) (all : Expr × List Held) → s ≡ h ∷ t → r ≤ held_level h → u ≡ h ∷ t → reduce r x s ≡ all → all ≡ (x, u)
 reduce_ends r x h s t u all a le b e = sym e ∙ ap (reduce r x) a ∙ stays r x h t le ∙ ap (λ (z : List Held). (x, z)) (sym b)
-

@@ -7,7 +7,6 @@ use Rattle.tcl_expr.specs.Token as token
 use Rattle.tcl_expr.specs.ExprFault.{ExprFault}
 use Rattle.tcl_expr.specs.ExprFault as fault
 use Rattle.tcl_expr.specs.Expr.{Expr, operand, group, call, unary, power, chain, choice, Rest, last, next, Args, no_args, arg, level_of, takes_one, count}
-
 -- at most this many levels may be open in one another
 pub use Rattle.tcl_words.specs.First.{most_levels}
 

@@ -238,8 +238,8 @@ unfoldable pub tokens_from : ℕ → ℕ → Place → List Opened → List ℕ 
 tokens_from zero size p os cs = []
 tokens_from (suc n) size p os cs =
     with_token (next_token size (wants_operand p) (most_levels - length os) cs) (λ t rest.
-      let now = there p (reach t) os in
-      t ∷ unless_faulty (row p now t) (tokens_from n size (wanted t) (after t now) rest))
+    let now = there p (reach t) os in
+    t ∷ unless_faulty (row p now t) (tokens_from n size (wanted t) (after t now) rest))
 
 -- each takes a character at least
 unfoldable pub tokens_at : ℕ → Place → List Opened → List ℕ → List Token

@@ -10,7 +10,6 @@ mod parse;
 mod runs;
 mod stack;
 mod state;
-
 #[cfg(test)]
 mod tests;
 mod texts;

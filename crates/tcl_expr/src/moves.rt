@@ -181,7 +181,12 @@ fn at_operand<'a>(
 }
 
 /// A binary operator behind an operand.
-fn add<'a>(alloc: Global, op: BinaryOp, x: Tree<'a>, stack: &mut Stack<'a>) -> Result<(), AllocError>
+fn add<'a>(
+    alloc: Global,
+    op: BinaryOp,
+    x: Tree<'a>,
+    stack: &mut Stack<'a>,
+) -> Result<(), AllocError>
     ensures { IfOk result (λ _. stack_of stack.new.frames.items ≡ machine.add op (view x.entry) (stack_of stack.old.frames.items)) }
 {
     let level = level_of(op);

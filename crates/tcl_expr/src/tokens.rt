@@ -83,12 +83,7 @@ fn word_token<'a>(
 }
 
 /// The token that begins with a character that begins no operand, and what follows it.
-fn mark_token<'a>(
-    size: usize,
-    c: char,
-    here: &'a str,
-    behind: &'a str,
-) -> (Token<'a>, &'a str)
+fn mark_token<'a>(size: usize, c: char, here: &'a str, behind: &'a str) -> (Token<'a>, &'a str)
     requires { IsFirst here.now c behind.now }
     ensures token { token_of result.0 ≡ (spec.or_symbol (spec.prefix c (chars behind.now)) size c (chars behind.now)).0 }
     ensures rest { chars result.1.now ≡ (spec.or_symbol (spec.prefix c (chars behind.now)) size c (chars behind.now)).1 }
