@@ -45,37 +45,48 @@ fn check<R: Abort + AllocGlobal>(
 
 #[test]
 fn each_kind(rt: HostRuntime) -> Result<(), Fail> {
-    check(&rt, "(", "1", ")", 200)?;
-    check(&rt, "abs(", "1", ")", 200)?;
-    check(&rt, "max(1, ", "1", ")", 200)?;
-    check(&rt, "- ", "1", "", 200)?;
-    check(&rt, "!", "1", "", 200)?;
-    check(&rt, "2 ** ", "1", "", 200)?;
-    check(&rt, "1 ? ", "1", " : 0", 200)?;
-    check(&rt, "1 ? 0 : ", "1", "", 200)?;
+    for (opening, middle, closing, most) in [
+        ("(", "1", ")", 200),
+        ("abs(", "1", ")", 200),
+        ("max(1, ", "1", ")", 200),
+        ("- ", "1", "", 200),
+        ("!", "1", "", 200),
+        ("2 ** ", "1", "", 200),
+        ("1 ? ", "1", " : 0", 200),
+        ("1 ? 0 : ", "1", "", 200),
+    ] {
+        check(&rt, opening, middle, closing, most)?;
+    }
     Ok(())
 }
 
 #[test]
 fn inside_operands(rt: HostRuntime) -> Result<(), Fail> {
-    check(&rt, "[set ", "x", "]", 200)?;
-    check(&rt, "$a(", "x", ")", 200)?;
-    check(&rt, "(", "[set x]", ")", 199)?;
-    check(&rt, "(", "$a(x)", ")", 199)?;
-    check(&rt, "- ", "\"[set x]\"", "", 199)?;
-    check(&rt, "2 ** ", "$a([set x])", "", 198)?;
-    check(&rt, "1 ? 0 : ", "[set $a([set x])]", "", 197)?;
-    check(&rt, "(", "{[set x]}", ")", 200)?;
-    check(&rt, "(", "$x", ")", 200)?;
+    for (opening, middle, closing, most) in [
+        ("[set ", "x", "]", 200),
+        ("$a(", "x", ")", 200),
+        ("(", "[set x]", ")", 199),
+        ("(", "$a(x)", ")", 199),
+        ("- ", "\"[set x]\"", "", 199),
+        ("2 ** ", "$a([set x])", "", 198),
+        ("1 ? 0 : ", "[set $a([set x])]", "", 197),
+        ("(", "{[set x]}", ")", 200),
+        ("(", "$x", ")", 200),
+    ] {
+        check(&rt, opening, middle, closing, most)?;
+    }
     Ok(())
 }
 
 #[test]
 fn kinds_together(rt: HostRuntime) -> Result<(), Fail> {
-    check(&rt, "-(", "1", ")", 100)?;
-    check(&rt, "2 ** (1 ? -abs(", "1", ") : 0)", 40)?;
-    check(&rt, "1 + (", "1", ")", 200)?;
-    check(&rt, "(1) + - ", "1", "", 200)?;
+    for (opening, middle, closing, most) in [
+        ("-(", "1", ")", 100),
+        ("2 ** (1 ? -abs(", "1", ") : 0)", 40),
+        ("1 + (", "1", ")", 200),
+    ] {
+        check(&rt, opening, middle, closing, most)?;
+    }
     Ok(())
 }
 
@@ -84,7 +95,7 @@ fn kinds_together(rt: HostRuntime) -> Result<(), Fail> {
 fn side_by_side(rt: HostRuntime) -> Result<(), Fail> {
     let alloc = rt.alloc();
     for part in [
-        "(1) + ",
+        "(1) + - ",
         "- 1 + ",
         "2 ** 2 + ",
         "abs(1) + ",

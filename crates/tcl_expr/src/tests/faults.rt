@@ -13,31 +13,36 @@ fn check<R: Abort + AllocGlobal>(rt: &R, text: &str, wanted: &str) -> Result<(),
 
 #[test]
 fn nothing_at_all(rt: HostRuntime) -> Result<(), Fail> {
-    check(&rt, "", "empty expression")?;
-    check(&rt, " \n\t ", "empty expression")?;
+    for (text, wanted) in [("", "empty expression"), (" \n\t ", "empty expression")] {
+        check(&rt, text, wanted)?;
+    }
     Ok(())
 }
 
 #[test]
 fn barewords(rt: HostRuntime) -> Result<(), Fail> {
-    check(&rt, "08 + 1", "invalid bareword \"08\"")?;
-    check(&rt, "-08", "invalid bareword \"-08\"")?;
-    check(&rt, "abc", "invalid bareword \"abc\"")?;
-    check(&rt, "1 + abs", "invalid bareword \"abs\"")?;
-    check(&rt, "1.5", "invalid bareword \"1.5\"")?;
-    check(&rt, ".5", "invalid bareword \".5\"")?;
-    check(&rt, "-1e5", "invalid bareword \"-1e5\"")?;
-    check(&rt, "o", "invalid bareword \"o\"")?;
-    check(&rt, "eq", "invalid bareword \"eq\"")?;
-    check(&rt, "1 + ne 2", "invalid bareword \"ne\"")?;
-    check(&rt, "_f(1)", "invalid bareword \"_f\"")?;
-    check(&rt, "$", "invalid bareword \"$\"")?;
-    check(&rt, "$ a", "invalid bareword \"$\"")?;
-    check(&rt, "@x", "invalid bareword \"@\"")?;
-    check(&rt, "= 1", "invalid bareword \"=\"")?;
-    check(&rt, "1 + ]", "invalid bareword \"]\"")?;
-    check(&rt, "é", "invalid bareword \"é\"")?;
-    check(&rt, "(\\n", "invalid bareword \"\\\"")?;
+    for (text, wanted) in [
+        ("08 + 1", "invalid bareword \"08\""),
+        ("-08", "invalid bareword \"-08\""),
+        ("abc", "invalid bareword \"abc\""),
+        ("1 + abs", "invalid bareword \"abs\""),
+        ("1.5", "invalid bareword \"1.5\""),
+        (".5", "invalid bareword \".5\""),
+        ("-1e5", "invalid bareword \"-1e5\""),
+        ("o", "invalid bareword \"o\""),
+        ("eq", "invalid bareword \"eq\""),
+        ("1 + ne 2", "invalid bareword \"ne\""),
+        ("_f(1)", "invalid bareword \"_f\""),
+        ("$", "invalid bareword \"$\""),
+        ("$ a", "invalid bareword \"$\""),
+        ("@x", "invalid bareword \"@\""),
+        ("= 1", "invalid bareword \"=\""),
+        ("1 + ]", "invalid bareword \"]\""),
+        ("é", "invalid bareword \"é\""),
+        ("(\\n", "invalid bareword \"\\\""),
+    ] {
+        check(&rt, text, wanted)?;
+    }
     Ok(())
 }
 
@@ -106,67 +111,73 @@ fn parentheses(rt: HostRuntime) -> Result<(), Fail> {
 
 #[test]
 fn functions(rt: HostRuntime) -> Result<(), Fail> {
-    check(&rt, "f(1)", "unknown math function \"f\"")?;
-    check(&rt, "true(1)", "unknown math function \"true\"")?;
-    check(&rt, "eq (1)", "unknown math function \"eq\"")?;
-    check(&rt, "a.b(", "unknown math function \"a.b\"")?;
-    check(&rt, "Abs(1)", "unknown math function \"Abs\"")?;
-    check(&rt, "abs()", "too few arguments for math function \"abs\"")?;
-    check(&rt, "max( )", "too few arguments for math function \"max\"")?;
-    check(
-        &rt,
-        "1 + int()",
-        "too few arguments for math function \"int\"",
-    )?;
-    check(
-        &rt,
-        "abs(1,2)",
-        "too many arguments for math function \"abs\"",
-    )?;
-    check(
-        &rt,
-        "wide(1, 2, 3)",
-        "too many arguments for math function \"wide\"",
-    )?;
-    check(
-        &rt,
-        "bool(1, 2)",
-        "too many arguments for math function \"bool\"",
-    )?;
+    for (text, wanted) in [
+        ("f(1)", "unknown math function \"f\""),
+        ("true(1)", "unknown math function \"true\""),
+        ("eq (1)", "unknown math function \"eq\""),
+        ("a.b(", "unknown math function \"a.b\""),
+        ("Abs(1)", "unknown math function \"Abs\""),
+        ("abs()", "too few arguments for math function \"abs\""),
+        ("max( )", "too few arguments for math function \"max\""),
+        ("1 + int()", "too few arguments for math function \"int\""),
+        ("abs(1,2)", "too many arguments for math function \"abs\""),
+        (
+            "wide(1, 2, 3)",
+            "too many arguments for math function \"wide\"",
+        ),
+        (
+            "bool(1, 2)",
+            "too many arguments for math function \"bool\"",
+        ),
+    ] {
+        check(&rt, text, wanted)?;
+    }
     Ok(())
 }
 
 #[test]
 fn faults_inside_operands(rt: HostRuntime) -> Result<(), Fail> {
-    check(&rt, "{a", "missing close-brace")?;
-    check(&rt, "1 + \"a", "missing \"")?;
-    check(&rt, "[a", "missing close-bracket")?;
-    check(&rt, "$a(b", "missing )")?;
-    check(&rt, "${a", "missing close-brace for variable name")?;
-    check(&rt, "[a {b}c]", "extra characters after close-brace")?;
-    check(&rt, "[a \"b\"c]", "extra characters after close-quote")?;
+    for (text, wanted) in [
+        ("{a", "missing close-brace"),
+        ("1 + \"a", "missing \""),
+        ("[a", "missing close-bracket"),
+        ("$a(b", "missing )"),
+        ("${a", "missing close-brace for variable name"),
+        ("[a {b}c]", "extra characters after close-brace"),
+        ("[a \"b\"c]", "extra characters after close-quote"),
+    ] {
+        check(&rt, text, wanted)?;
+    }
     Ok(())
 }
 
 #[test]
 fn the_first_token_counts(rt: HostRuntime) -> Result<(), Fail> {
-    check(&rt, "abc + {", "invalid bareword \"abc\"")?;
-    check(&rt, "1 2 )", "missing operator")?;
-    check(&rt, "1 + ) 2 3", "missing operand")?;
-    check(&rt, "f(abc", "unknown math function \"f\"")?;
-    check(
-        &rt,
-        "abs(1, 2) abc",
-        "too many arguments for math function \"abs\"",
-    )?;
-    check(&rt, "{a} {b", "missing operator")?;
-    check(&rt, "[a) + )", "missing close-bracket")?;
-    check(&rt, "(1 + 2 * abc", "invalid bareword \"abc\"")?;
-    check(&rt, "1) + ", "unbalanced parentheses")?;
+    for (text, wanted) in [
+        ("abc + {", "invalid bareword \"abc\""),
+        ("1 2 )", "missing operator"),
+        ("1 + ) 2 3", "missing operand"),
+        ("f(abc", "unknown math function \"f\""),
+        (
+            "abs(1, 2) abc",
+            "too many arguments for math function \"abs\"",
+        ),
+        ("{a} {b", "missing operator"),
+        ("[a) + )", "missing close-bracket"),
+        ("(1 + 2 * abc", "invalid bareword \"abc\""),
+        ("1) + ", "unbalanced parentheses"),
+    ] {
+        check(&rt, text, wanted)?;
+    }
     Ok(())
 }
 
-fn check_place<R: Abort + AllocGlobal>(rt: &R, text: &str, start: usize, end: usize) -> Result<(), Fail> {
+fn check_place<R: Abort + AllocGlobal>(
+    rt: &R,
+    text: &str,
+    start: usize,
+    end: usize,
+) -> Result<(), Fail> {
     match parse_expr(rt.alloc(), text)? {
         Ok(_) => assert!(rt; false, "of {text}"),
         Err(fault) => assert_eq!(rt; named(&fault), Some((start, end)), "of {text}"),
@@ -176,12 +187,16 @@ fn check_place<R: Abort + AllocGlobal>(rt: &R, text: &str, start: usize, end: us
 
 #[test]
 fn places_of_names(rt: HostRuntime) -> Result<(), Fail> {
-    check_place(&rt, "abc", 0, 3)?;
-    check_place(&rt, "{é} + -08", 7, 10)?;
-    check_place(&rt, "1 + @", 4, 5)?;
-    check_place(&rt, "1 + é", 4, 6)?;
-    check_place(&rt, " ff (1)", 1, 3)?;
-    check_place(&rt, "max(1, abs( ))", 7, 10)?;
-    check_place(&rt, "$é", 0, 1)?;
+    for (text, start, end) in [
+        ("abc", 0, 3),
+        ("{é} + -08", 7, 10),
+        ("1 + @", 4, 5),
+        ("1 + é", 4, 6),
+        (" ff (1)", 1, 3),
+        ("max(1, abs( ))", 7, 10),
+        ("$é", 0, 1),
+    ] {
+        check_place(&rt, text, start, end)?;
+    }
     Ok(())
 }
