@@ -1,9 +1,8 @@
 -- The tokens of a text, one by one, and what the parser's loop keeps.
-use Rattle.std.proofs.Common.{◌≡◌, ℕ, zero, suc, ◌<◌, ◌≤◌, ◌-◌, Bool, true, false, List, [], ◌∷◌, length, Option, Some, None, Result, Ok, Err, refl, sym, ap, subst, ◌∙◌, arith}
-use Rattle.std.specs.Prelude.{IfSome, if◌then◌else◌}
+use Rattle.std.proofs.Common.{◌≡◌, ℕ, zero, suc, ◌<◌, ◌-◌, Bool, List, [], ◌∷◌, length, Option, Some, None, Result, Ok, Err, refl, sym, ap, subst, ◌∙◌, arith}
 use Rattle.tcl_chars.specs.declared.fault.ReadFault.{ReadFault}
 use Rattle.tcl_chars.specs.declared.fault.ReadFault.TheVariants as stop
-use Rattle.tcl_chars.specs.Place.{bytes, EndsWith}
+use Rattle.tcl_chars.specs.Place.{bytes}
 use Rattle.tcl_expr.specs.declared.fault.ExprSyntax.{ExprSyntax}
 use Rattle.tcl_expr.specs.declared.state.Place.{Place}
 use Rattle.tcl_expr.specs.declared.state.Place.TheVariants as place

@@ -1,5 +1,5 @@
 -- The token of an operand that is a word, a bracket or a variable.
-use Rattle.std.proofs.Common.{◌≡◌, ℕ, ◌∷◌, List, [], length, drop, Result, Ok, Err, true, refl, sym, ap, subst, ◌∙◌}
+use Rattle.std.proofs.Common.{◌≡◌, ℕ, List, [], length, drop, Result, Ok, Err, true, refl, ap, subst, ◌∙◌}
 use Rattle.std.specs.Str.{chars}
 use Rattle.std.proofs.lemmas.Str.{chars-nil}
 use Rattle.tcl_words.specs.declared.fault.Syntax.{Syntax}

@@ -1,11 +1,10 @@
 -- What a reader leaves ends the text that it was given, and is shorter where a token was read.
-use Rattle.std.proofs.Common.{◌≡◌, ℕ, ◌<◌, Bool, true, false, List, [], ◌∷◌, ◌++◌, length, Option, Some, None, Result, Ok, Err, refl, sym, subst}
+use Rattle.std.proofs.Common.{◌≡◌, ℕ, ◌<◌, Bool, true, false, List, [], ◌∷◌, length, Option, Some, None, Result, Ok, Err, refl, sym, subst}
 use Rattle.std.proofs.lemmas.List.{append-nil}
 use Rattle.std.specs.Prelude.{cond, IfSome, IfOk, if◌then◌else◌, ◌&&◌, ◌==◌}
 use Rattle.tcl_chars.specs.Characters.{open_paren, open_brace, open_bracket, quote}
 use Rattle.tcl_chars.specs.Classes.{is_list_space}
-use Rattle.tcl_chars.specs.Place.{EndsWith, begins, tail, before}
-use Rattle.tcl_chars.specs.Truth.{truth_of}
+use Rattle.tcl_chars.specs.Place.{EndsWith, begins, tail}
 use Rattle.tcl_chars.specs.Whole.{skip_space}
 use Rattle.tcl_words.specs.declared.fault.Syntax.{Syntax}
 use Rattle.tcl_words.specs.First.{operand, begins_operand}
@@ -14,9 +13,8 @@ use Rattle.tcl_words.specs.Words.{stretch, Inner, inner_at, at_variable_brace, a
 use Rattle.tcl_words.proofs.Forward.{IsPast, ends_self, ends_more, ends_trans, ends_tail, past_more, past_then, then_past, if_cond, if_bind, if_weak, Ends, Past, Inside, inner_inside, variable_brace_end, name_end, named_end, braced_end, quoted_end}
 use Rattle.tcl_expr.specs.declared.token.Symbol.{Symbol}
 use Rattle.tcl_expr.specs.declared.token.UnaryOp.{UnaryOp}
-use Rattle.tcl_expr.specs.Expr.{word, literal}
-use Rattle.tcl_expr.specs.Token.{Token, Operand, Malformed, Bareword, Unary, Open, Stray}
-use Rattle.tcl_expr.specs.Tokens.{is_run_char, begins_run, begins_signed, begins_letter, after_run, says_something, called, function_of, run_token, one, two, with_rest, or_one, symbol_at, symbol_token, prefix, word_token, or_bareword, or_symbol, operand_token, or_stray, word_operator, operator_or_stray, operator_token, next_token}
+use Rattle.tcl_expr.specs.Token.{Token}
+use Rattle.tcl_expr.specs.Tokens.{is_run_char, begins_run, begins_signed, begins_letter, after_run, run_token, one, two, with_rest, or_one, symbol_at, prefix, word_token, or_bareword, or_symbol, operand_token, or_stray, operator_token, next_token}
 
 -- ---- runs and white space
 

@@ -1,5 +1,5 @@
 -- The characters of functions, operators and sentences.
-use Rattle.std.proofs.Common.{◌≡◌, ℕ, List, Bool, nat_eq, refl, ◌∙◌}
+use Rattle.std.proofs.Common.{◌≡◌, ℕ, List, nat_eq, refl}
 use Rattle.std.specs.Prelude.{codes}
 use Rattle.std.specs.Str.{chars, IsUtf8}
 use Rattle.std.specs.Cmp.Lexicographic.{pointwise}

@@ -1,6 +1,5 @@
 -- What the parser's steps answer.
-use Rattle.std.specs.Prelude.{◌≡◌, ℕ, List, Option, Some, None, Result, Ok, Err}
-use Rattle.std.specs.Str.{chars}
+use Rattle.std.specs.Prelude.{◌≡◌, List, Result, Ok, Err}
 use Rattle.tcl_chars.specs.declared.fault.ReadFault.{ReadFault}
 use Rattle.tcl_chars.specs.declared.fault.ReadFault.TheVariants as stop
 use Rattle.tcl_expr.specs.declared.fault.ExprSyntax.{ExprSyntax}
@@ -8,12 +7,10 @@ use Rattle.tcl_expr.specs.declared.state.Place.{Place}
 use Rattle.tcl_expr.specs.declared.state.Place.TheVariants as place
 use Rattle.tcl_expr.specs.declared.state.State.{State}
 use Rattle.tcl_expr.specs.declared.state.State.TheVariants as state
-use Rattle.tcl_expr.specs.declared.token.Token.{Token}
 use Rattle.tcl_expr.specs.declared.tree.Tree.{Tree}
 use Rattle.tcl_expr.specs.Expr.{Expr}
 use Rattle.tcl_expr.specs.ExprFault.{ExprFault}
 use Rattle.tcl_expr.specs.Machine as machine
-use Rattle.tcl_expr.specs.Token as definition
 use Rattle.tcl_expr.specs.View.{view, fault_view}
 
 abbrev pub state_of : State → List machine.Held → machine.State

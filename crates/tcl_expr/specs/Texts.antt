@@ -1,6 +1,5 @@
 -- How operators are spelled, and what faults say. A text is the list of its characters.
 use Rattle.std.specs.Prelude.{ℕ, true, false, List, ◌++◌, codes}
-use Rattle.tcl_words.specs.Parts.{Stretch}
 use Rattle.tcl_words.specs.Syntax.{syntax_text}
 use Rattle.tcl_expr.specs.declared.token.UnaryOp.{UnaryOp}
 use Rattle.tcl_expr.specs.declared.token.UnaryOp.TheVariants as unary

@@ -1,5 +1,4 @@
 use Rattle.std.specs.Str.{chars}
-use Rattle.tcl_expr.specs.Tokens.{tokens}
 use Rattle.tcl_expr.specs.View.{view, fault_view}
 use Rattle.tcl_expr.proofs.Lexing.{tree_read, fault_read}
 use Rattle.tcl_expr.proofs.parse.parse_expr.Goals as goal

@@ -1,4 +1,4 @@
-use Rattle.std.proofs.Common.{rules, ap, ◌∙◌}
+use Rattle.std.proofs.Common.{ap, ◌∙◌}
 use Rattle.std.specs.Str.{chars}
 use Rattle.tcl_words.proofs.Placed.{rest_at}
 use Rattle.tcl_expr.proofs.Operands.{word_here, bad_here, begins_there}
