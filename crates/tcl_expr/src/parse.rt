@@ -38,7 +38,12 @@ fn run<'a>(alloc: Global, text: &'a str) -> Result<Tree<'a>, ReadFault<ExprSynta
 }
 
 /// The expression that a text is, or its fault: that of the first token, from the left, that has one. The spans of
-/// either count bytes from the text's beginning. The only refusal is `Memory`. expr(n).
+/// either count bytes from the text's beginning. At most 200 levels stand in one another: parentheses, calls, unary
+/// operators, right operands of `**`, the second and the third operand of `?:`, and inside operands brackets and
+/// indices. expr(n).
+///
+/// # Errors
+/// `Fault::Memory` where a growth was refused.
 pub fn parse_expr(alloc: Global, text: &str) -> Result<Result<Tree<'_>, ExprSyntax<'_>>, Fault>
     ensures grammar { IfOk result (λ r. MatchResult r (λ t. IsTree (tokens (chars text.now)) (view t)) (λ m. fault_of (tokens (chars text.now)) ≡ Some (fault_view m))) }
     ensures reading { IfOk result (λ r. result_view r ≡ expression_of (chars text.now)) }
