@@ -1,0 +1,15 @@
+use Rattle.std.proofs.Common.{◌≡◌, length}
+use denote.Text.{Utf8}
+use denote.Shadow.{shadow}
+use Rattle.std.specs.Str.{chars}
+use Rattle.tcl_chars.specs.Whole.{skip_space}
+use Rattle.tcl_expr.proofs.runs.skip_space.Given as goal
+
+abbrev pub invariant-loop-c : goal.invariant-loop-c
+invariant-loop-c l = record {
+  text : shadow (Utf8 l.rest);
+  same : skip_space (chars l.rest) ≡ skip_space (chars l.text);
+}
+
+abbrev pub decreases-loop-c : goal.decreases-loop-c
+decreases-loop-c l = length l.rest

@@ -1,0 +1,11 @@
+pub mod Expr
+pub mod ExprFault
+pub mod Faults
+pub mod Gives
+pub mod Grammar
+pub mod Laws
+pub mod Machine
+pub mod Texts
+pub mod Token
+pub mod Tokens
+pub mod View

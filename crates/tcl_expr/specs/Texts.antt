@@ -1,0 +1,57 @@
+-- How operators are spelled, and what faults say. A text is the list of its characters.
+use Rattle.std.specs.Prelude.{ℕ, true, false, List, ◌++◌, codes}
+use Rattle.tcl_words.specs.Syntax.{syntax_text}
+use Rattle.tcl_expr.specs.declared.token.UnaryOp.{UnaryOp}
+use Rattle.tcl_expr.specs.declared.token.UnaryOp.TheVariants as unary
+use Rattle.tcl_expr.specs.declared.token.BinaryOp.{BinaryOp}
+use Rattle.tcl_expr.specs.declared.token.BinaryOp.TheVariants as binary
+use Rattle.tcl_expr.specs.ExprFault.{ExprFault}
+use Rattle.tcl_expr.specs.ExprFault as fault
+
+-- expr(n), Operators
+abbrev pub unary_text : UnaryOp → List ℕ
+unary_text unary.Minus = codes "-"
+unary_text unary.Plus = codes "+"
+unary_text unary.Flip = codes "~"
+unary_text unary.Not = codes "!"
+
+abbrev pub binary_text : BinaryOp → List ℕ
+binary_text binary.Times = codes "*"
+binary_text binary.Divide = codes "/"
+binary_text binary.Remainder = codes "%"
+binary_text binary.Add = codes "+"
+binary_text binary.Subtract = codes "-"
+binary_text binary.ShiftLeft = codes "<<"
+binary_text binary.ShiftRight = codes ">>"
+binary_text binary.Less = codes "<"
+binary_text binary.Greater = codes ">"
+binary_text binary.LessEqual = codes "<="
+binary_text binary.GreaterEqual = codes ">="
+binary_text binary.Equal = codes "=="
+binary_text binary.NotEqual = codes "!="
+binary_text binary.TextEqual = codes "eq"
+binary_text binary.TextNotEqual = codes "ne"
+binary_text binary.In = codes "in"
+binary_text binary.NotIn = codes "ni"
+binary_text binary.BitAnd = codes "&"
+binary_text binary.BitXor = codes "^"
+binary_text binary.BitOr = codes "|"
+binary_text binary.And = codes "&&"
+binary_text binary.Or = codes "||"
+
+-- a sentence about a name
+abbrev pub naming : List ℕ → List ℕ → List ℕ
+naming what name = what ++ (codes " \"" ++ (name ++ codes "\""))
+
+-- what a fault says (the profile)
+abbrev pub fault_text : ExprFault → List ℕ
+fault_text fault.Empty = codes "empty expression"
+fault_text (fault.BareWord s) = naming (codes "invalid bareword") s.text
+fault_text fault.MissingOperand = codes "missing operand"
+fault_text fault.MissingOperator = codes "missing operator"
+fault_text fault.Parenthesis = codes "unbalanced parentheses"
+fault_text (fault.UnknownFunction s) = naming (codes "unknown math function") s.text
+fault_text (fault.ArgumentCount s true) = naming (codes "too many arguments for math function") s.text
+fault_text (fault.ArgumentCount s false) = naming (codes "too few arguments for math function") s.text
+fault_text fault.Nesting = codes "nesting too deep"
+fault_text (fault.Words m) = syntax_text m

@@ -1,0 +1,45 @@
+//! Large texts: a long chain stays flat, so neither the parser nor a drop goes deep.
+
+use crate::{Tree, parse_expr};
+use std::alloc::{AllocError, Global};
+use std::test::Fail;
+
+fn chain(alloc: Global, n: usize, part: &str) -> Result<String, AllocError> {
+    let mut text = String::new(alloc);
+    for _ in 0..n {
+        text.push_str(part)?;
+    }
+    text.push_str("1")?;
+    Ok(text)
+}
+
+#[test]
+fn a_megabyte_of_sums(rt: HostRuntime) -> Result<(), Fail> {
+    let text = chain(rt.alloc(), 500_000, "1+")?;
+    match parse_expr(rt.alloc(), &text)? {
+        Ok(Tree::Chain(3, _, parts)) => assert_eq!(rt; parts.len(), 500_000),
+        _ => assert!(rt; false, "no chain"),
+    }
+    Ok(())
+}
+
+#[test]
+fn a_megabyte_of_other_chains(rt: HostRuntime) -> Result<(), Fail> {
+    for part in ["1*1+1==1&&", "$a eq [b] || ", "(1)-!2 in "] {
+        let text = chain(rt.alloc(), 60_000, part)?;
+        assert!(rt; parse_expr(rt.alloc(), &text)?.is_ok(), "{part}");
+    }
+    Ok(())
+}
+
+#[test]
+fn a_long_run(rt: HostRuntime) -> Result<(), Fail> {
+    let mut text = String::new(rt.alloc());
+    for _ in 0..1_000_000 {
+        text.push('7')?;
+    }
+    assert!(rt; parse_expr(rt.alloc(), &text)?.is_ok());
+    text.push('x')?;
+    assert!(rt; parse_expr(rt.alloc(), &text)?.is_err());
+    Ok(())
+}

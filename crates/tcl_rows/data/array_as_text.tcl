@@ -1,0 +1,1 @@
+set a(1) 2; puts $a

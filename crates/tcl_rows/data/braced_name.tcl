@@ -1,0 +1,1 @@
+set {x y} 3; puts ${x y}; puts $; puts a{b

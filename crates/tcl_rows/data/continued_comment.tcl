@@ -1,0 +1,3 @@
+# c \
+puts no
+puts yes

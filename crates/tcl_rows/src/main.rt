@@ -1,0 +1,27 @@
+//! Worked rows: scripts whose outputs, ends and costs were worked out by hand. It prints what the interpreter makes of
+//! them, and the gate compares.
+#![tactic(auto)]
+
+mod rows;
+
+use std::process::ExitCode;
+use std::{env, fs, io};
+
+// Every script that the program's words name, and then what stands in no script.
+fn show_all(rt: &HostRuntime) -> io::Result<()> {
+    for name in env::args(rt)?.skip(1) {
+        let bytes = fs::read(rt, &name)?;
+        let script = str::from_utf8(&bytes).unwrap_or("not UTF-8");
+        let shown = rows::show(rt.alloc(), script)?;
+        println!(rt; "== {name}\n{shown}")?;
+    }
+    let shown = rows::show_failing(rt.alloc())?;
+    println!(rt; "== an output that fails\n{shown}")
+}
+
+fn main(rt: HostRuntime) -> ExitCode {
+    match show_all(&rt) {
+        Ok(()) => ExitCode::SUCCESS,
+        Err(_) => ExitCode::FAILURE,
+    }
+}

@@ -1,0 +1,97 @@
+//! A script, and what is shown of it.
+
+use std::alloc::{AllocError, Global};
+use tcl_chan::device::{Input, Output};
+use tcl_chan::faulty::FaultyOutput;
+use tcl_chan::memory::{MemoryInput, MemoryOutput};
+use tcl_chan::world::World;
+use tcl_chars::Dialect;
+use tcl_interp::{Config, Interp, Outcome, Report, run};
+
+// More units than any row spends.
+const UNITS: u64 = 1000;
+
+// The bytes of output that a row may hold.
+const CAPACITY: usize = 4096;
+
+// How an evaluation ended.
+fn told(alloc: Global, outcome: &Outcome) -> Result<String, AllocError> {
+    match outcome {
+        Outcome::Done { code, result, .. } => format!(in alloc; "code {code}, result <{result}>"),
+        Outcome::Budget => format!(in alloc; "budget spent"),
+        Outcome::Exit(status) => format!(in alloc; "exit {status}"),
+        Outcome::Memory => format!(in alloc; "out of memory"),
+        Outcome::Io => format!(in alloc; "read or write failed"),
+        Outcome::Failed => format!(in alloc; "failed before"),
+    }
+}
+
+// What a run put out, how it ended, and the units that it spent.
+struct Shown {
+    text: String,
+    spent: u64,
+}
+
+// The units that a run spent which ended by itself.
+fn spent(outcome: &Outcome, budget: u64) -> u64 {
+    match outcome {
+        Outcome::Done { left, .. } => budget.saturating_sub(*left),
+        _ => 0,
+    }
+}
+
+// One run of the script.
+fn show_run(alloc: Global, script: &str, budget: u64) -> Result<Shown, AllocError> {
+    let mut input = MemoryInput::new(b"");
+    let mut out = MemoryOutput::new(alloc, CAPACITY)?;
+    let mut err = MemoryOutput::new(alloc, CAPACITY)?;
+    let Report { outcome, interp: _ } = run(alloc, script, &[], &mut input, &mut out, &mut err, budget);
+    let end = told(alloc, &outcome)?;
+    let text = str::from_utf8(out.bytes()).unwrap_or("not UTF-8\n");
+    Ok(Shown {
+        text: format!(in alloc; "{text}{end}")?,
+        spent: spent(&outcome, budget),
+    })
+}
+
+/// What the script puts out and how it ends with the units that it needs and, if it needs any, with one unit less.
+pub(crate) fn show(alloc: Global, script: &str) -> Result<String, AllocError> {
+    let Shown { text: _, spent } = show_run(alloc, script, UNITS)?;
+    let Shown { text: enough, spent: _ } = show_run(alloc, script, spent)?;
+    if spent == 0 {
+        return format!(in alloc; "with 0 units:\n{enough}");
+    }
+    let less = spent.saturating_sub(1);
+    let Shown { text: short, spent: _ } = show_run(alloc, script, less)?;
+    format!(in alloc; "with {spent} units:\n{enough}\nwith {less} units:\n{short}")
+}
+
+// How two evaluations of a script over the same devices end.
+fn ends<R: Input, W: Output, E: Output>(
+    alloc: Global,
+    interp: &mut Interp,
+    input: &mut R,
+    out: &mut W,
+    err: &mut E,
+) -> Result<String, AllocError> {
+    let mut world = World::new(alloc, input, out, err);
+    let first = told(alloc, &interp.eval(&mut world, "puts a", UNITS))?;
+    let second = told(alloc, &interp.eval(&mut world, "puts b", UNITS))?;
+    format!(in alloc; "{first}\n{second}")
+}
+
+/// `puts` twice where the first write fails: how they end, and the bytes that were written.
+pub(crate) fn show_failing(alloc: Global) -> Result<String, AllocError> {
+    let config = Config {
+        dialect: Dialect::Tcl86,
+    };
+    let Ok(mut interp) = Interp::new(alloc, config) else {
+        return Err(AllocError);
+    };
+    let mut input = MemoryInput::new(b"");
+    let mut out = FaultyOutput::new(MemoryOutput::new(alloc, CAPACITY)?, 1, 0);
+    let mut err = MemoryOutput::new(alloc, CAPACITY)?;
+    let ends = ends(alloc, &mut interp, &mut input, &mut out, &mut err)?;
+    let bytes = out.inner().bytes().len();
+    format!(in alloc; "{ends}\n{bytes} bytes")
+}
