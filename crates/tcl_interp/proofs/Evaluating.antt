@@ -1,26 +1,25 @@
 -- What the evaluator's steps are to the definition, over plain variables.
-use Rattle.std.proofs.Common.{rules, ◌≡◌, ℕ, zero, suc, ◌+◌, ◌-◌, ◌<◌, ◌≤◌, Bool, true, false, List, [], ◌∷◌, ◌++◌, Option, Result, Ok, Err, length, get_or, drop, map, refl, sym, ap, ◌∙◌, subst, arith, append_assoc, append-nil}
+use Rattle.std.proofs.Common.{rules, ◌≡◌, ℕ, zero, suc, ◌+◌, ◌<◌, Bool, false, List, [], ◌∷◌, ◌++◌, Result, length, get_or, drop, map, refl, sym, ap, ◌∙◌, subst, append_assoc}
 use Rattle.std.specs.Prelude.{Vec}
 use Rattle.std.specs.declared.alloc.Global.{Global}
 use Rattle.std.specs.Str.{chars}
 use Rattle.std.proofs.lemmas.Str.{chars-nil}
-use Rattle.tcl_words.specs.Parts.{Part, part_of, elem_, Parts, parts_of, Stretch, stretch_of, Shape, shape_of}
+use Rattle.tcl_words.specs.Parts.{Part, part_of, elem_, parts_of, Stretch, stretch_of, Shape, shape_of}
 use Rattle.tcl_words.specs.declared.word.Span.{Span}
 use Rattle.tcl_words.specs.declared.word.Piece.{Piece, Elem, the_lemmas}
-use Rattle.tcl_words.specs.First.{First, none, malformed, command, first_command, IsRestAt, IsParsed}
+use Rattle.tcl_words.specs.First.{First, none, malformed, command, IsParsed}
 use Rattle.tcl_words.specs.declared.fault.Syntax.{Syntax}
 use Rattle.tcl_words.specs.declared.word.Word.{Word}
 use Rattle.tcl_words.specs.declared.word.Parsed.{Parsed}
 use Rattle.tcl_words.specs.declared.word.Parsed.TheVariants as parsed
-use Rattle.tcl_meaning.specs.Completions as meaning
 use Rattle.tcl_meaning.specs.State.{State}
-use Rattle.tcl_meaning.specs.Beginnings.{state_of, OutputsBegin, Goes}
-use Rattle.tcl_meaning.specs.Effects.{Task, Prog, Got, Gives, Broke, on_got, exec, ◌>>=◌ as andthen}
-use Rattle.tcl_meaning.specs.Value.{Value, Has, Fails, ◌>>=◌, give, on_value}
+use Rattle.tcl_meaning.specs.Beginnings.{state_of, Goes}
+use Rattle.tcl_meaning.specs.Effects.{Prog, Got, Gives, on_got, exec, ◌>>=◌ as andthen}
+use Rattle.tcl_meaning.specs.Value.{Value, Has, Fails, ◌>>=◌, on_value}
 use Rattle.tcl_meaning.specs.Substitution.{piece_text, index_text, word_text, one_word, words_text, read, spelled_element}
 use Rattle.tcl_meaning.specs.Script.{Run, run_command, with_words, invoke}
 use Rattle.tcl_meaning.proofs.Runs.{exec-goes, exec-bind, outputs_trans}
-use Rattle.tcl_meaning.proofs.Rules.{Reaches, onward, on_got-more, begins_here, reach_value, fails_value, word_after, word_at, index-word, command_value}
+use Rattle.tcl_meaning.proofs.Rules.{Reaches, onward, on_got-more, reach_value, fails_value, word_after, word_at, index-word, command_value}
 use Rattle.tcl_interp.specs.Endings.{FaultFollows, Follows, HaltFollows, IsAdded, AddsText, stopped}
 use Rattle.tcl_interp.specs.declared.completion.Completion.{Completion}
 use Rattle.tcl_interp.specs.declared.fault.Fault.{Fault}

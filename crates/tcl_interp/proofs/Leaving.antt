@@ -1,7 +1,7 @@
 -- What calls leave of the channels, one after another.
-use Rattle.std.proofs.Common.{◌≡◌, ℕ, Bool, true, false, List, Option, refl, sym, ap, ◌∙◌, ◌⊎◌, inl, inr}
+use Rattle.std.proofs.Common.{ℕ, Bool, true, false, List, Option, refl, ap, ◌∙◌, inl, inr}
 use Rattle.tcl_chan.specs.Devices.{one_more}
-use Rattle.tcl_chan.specs.Worlds.{stdin, stdout, stderr, unread_of, met_end, SameDevices, SameInput}
+use Rattle.tcl_chan.specs.Worlds.{stdout, stderr}
 use Rattle.tcl_chan.specs.declared.reading.Reader.{Reader}
 use Rattle.tcl_chan.specs.declared.world.World.{World}
 use Rattle.tcl_interp.specs.Shown.{Counted, Leaves}

@@ -1,5 +1,5 @@
 -- What the parts of a name end with.
-use Rattle.std.proofs.Common.{◌≡◌, ℕ, Bool, true, false, cond, ◌==◌, List, [], ◌∷◌, ◌++◌, Some, refl, sym, ap, ◌∙◌}
+use Rattle.std.proofs.Common.{◌≡◌, ℕ, Bool, true, false, cond, ◌==◌, List, [], ◌∷◌, Some, refl, sym, ap, ◌∙◌}
 use Rattle.std.proofs.lemmas.Bool.{cond-true}
 use Rattle.tcl_chars.specs.Characters.{open_paren, close_paren}
 use Rattle.tcl_chars.specs.Place.{EndsWith, begins, before}

@@ -1,15 +1,14 @@
 -- What a whole run's steps are, over plain variables.
-use Rattle.std.proofs.Common.{◌≡◌, ◌<◌, ◌≤◌, ℕ, ℤ, Bool, true, false, List, [], ◌∷◌, length, map, Option, refl, sym, ap, ◌∙◌, subst, arith}
+use Rattle.std.proofs.Common.{◌≡◌, ◌<◌, ◌≤◌, ℕ, false, List, [], ◌∷◌, length, map, Option, refl, sym, ap, ◌∙◌, subst, arith}
 use Rattle.std.specs.FinMap as finmap
 use Rattle.std.specs.Str.{chars}
 use Rattle.std.specs.Prelude.{codes}
-use Rattle.tcl_names.specs.Named.{Named}
-use Rattle.tcl_meaning.specs.State.{Variable, Variables, State, text}
+use Rattle.tcl_meaning.specs.State.{Variables, text}
 use Rattle.tcl_meaning.specs.Completions as meaning
-use Rattle.tcl_meaning.specs.Effects.{Got, Gives, Broke}
+use Rattle.tcl_meaning.specs.Effects.{Got, Gives}
 use Rattle.tcl_meaning.specs.Beginnings.{state_of, OutputsBegin}
 use Rattle.tcl_meaning.specs.Run.{code_number, options_text, args_put, args_error, first_state, run_script, run_with_args}
-use Rattle.tcl_meaning.proofs.Runs.{out_same, outputs_same}
+use Rattle.tcl_meaning.proofs.Runs.{out_same}
 use Rattle.tcl_interp.specs.Endings.{completion_of}
 use Rattle.tcl_interp.specs.Shown.{set_state}
 use Rattle.tcl_interp.specs.Outcomes.{outcome_fails, outcome_is_io, Tells, IsOutcome, Ends}
@@ -57,7 +56,7 @@ pub args_are : (vs₀ vs₁ vs₂ vs₃ : Variables) (name : List ℕ) → vs₀
 args_are vs₀ vs₁ vs₂ vs₃ name z p q r =
     let p' : vs₁ ≡ finmap.insert finmap.empty (codes "argv0") (text name) = p ∙ ap (λ (m : Variables). finmap.insert m (chars (codes "argv0")) (text name)) z ∙ ap (λ k. finmap.insert finmap.empty k (text name)) argv0_text in
     let q' = q ∙ ap (λ (m : Variables). finmap.insert m (chars (codes "argv")) (text (chars (codes "")))) p' ∙ ap (λ k. finmap.insert (finmap.insert finmap.empty (codes "argv0") (text name)) k (text (chars (codes "")))) argv_text
-        ∙ ap (λ t. finmap.insert (finmap.insert finmap.empty (codes "argv0") (text name)) (codes "argv") (text t)) no_text in
+    ∙ ap (λ t. finmap.insert (finmap.insert finmap.empty (codes "argv0") (text name)) (codes "argv") (text t)) no_text in
     let two : Variables = finmap.insert (finmap.insert finmap.empty (codes "argv0") (text name)) (codes "argv") (text []) in
     r ∙ ap (λ (m : Variables). finmap.insert m (chars (codes "argc")) (text (chars (codes "0")))) q' ∙ ap (λ k. finmap.insert two k (text (chars (codes "0")))) argc_text ∙ ap (λ t. finmap.insert two (codes "argc") (text t)) zero_text
 

@@ -1,5 +1,5 @@
 -- What writing to a channel is to the definition.
-use Rattle.std.proofs.Common.{◌≡◌, ℕ, List, ◌++◌, Option, Some, None, Result, Err, refl, sym, ap, ◌∙◌, subst}
+use Rattle.std.proofs.Common.{◌≡◌, ℕ, List, Option, Some, None, Result, Err, refl, sym, ap, ◌∙◌, subst}
 use Rattle.std.specs.Str.{chars, IsUtf8, encode_utf8_all}
 use Rattle.std.proofs.lemmas.Str.{encodes-chars}
 use Rattle.tcl_chan.specs.Devices as device
@@ -13,8 +13,8 @@ use Rattle.tcl_chan.specs.declared.fault.Out.TheVariants as out
 use Rattle.tcl_chan.specs.declared.fault.ChanFault.{ChanFault}
 use Rattle.tcl_chan.specs.declared.fault.ChanFault.TheVariants as chan
 use Rattle.tcl_meaning.specs.State.{put, Store, State, wrote}
-use Rattle.tcl_meaning.specs.Effects.{Got, Gives}
-use Rattle.tcl_meaning.specs.Beginnings.{state_of, OutBegins, OutputsBegin}
+use Rattle.tcl_meaning.specs.Effects.{Gives}
+use Rattle.tcl_meaning.specs.Beginnings.{OutBegins, OutputsBegin}
 use Rattle.tcl_meaning.proofs.Runs.{out_same, out_front}
 use Rattle.tcl_interp.specs.Endings.{FaultFollows, fault_by}
 use Rattle.tcl_interp.specs.Named.{output_at}

@@ -1,5 +1,5 @@
 -- What a result of the code says of a run: all of it, or, where memory or a device failed, a beginning of its outputs.
-use Rattle.std.specs.Prelude.{◌≡◌, ℕ, List, ◌++◌, Bool, true, false, Result, Ok, Err, Option, Some, None}
+use Rattle.std.specs.Prelude.{◌≡◌, ℕ, List, ◌++◌, Bool, true, false, Result, Ok, Err}
 use Rattle.tcl_chan.specs.declared.fault.ChanFault.{ChanFault}
 use Rattle.tcl_chan.specs.declared.fault.ChanFault.TheVariants as chan
 use Rattle.tcl_meaning.specs.State.{State}

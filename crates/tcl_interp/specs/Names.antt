@@ -1,5 +1,5 @@
 -- Names, divided.
-use Rattle.std.specs.Prelude.{ℕ, List, Option, option_map}
+use Rattle.std.specs.Prelude.{option_map}
 use Rattle.std.specs.Str.{chars}
 use Rattle.tcl_meaning.specs.Variables.{Name}
 use Rattle.tcl_interp.specs.declared.names.Divided.{Divided}

@@ -1,12 +1,11 @@
 -- How an evaluation ended, as a host sees it.
 use Rattle.std.specs.Prelude.{◌≡◌, ℕ, Bool, true, false, List, Option, Result, Ok, Err}
 use Rattle.tcl_names.specs.Named.{text_of}
-use Rattle.tcl_meaning.specs.State.{Variables, State}
+use Rattle.tcl_meaning.specs.State.{Variables}
 use Rattle.tcl_meaning.specs.Completions as meaning
 use Rattle.tcl_meaning.specs.Effects.{Got, Gives, Broke}
 use Rattle.tcl_meaning.specs.Beginnings.{state_of, OutputsBegin}
 use Rattle.tcl_meaning.specs.Run.{code_number, options_text}
-use Rattle.tcl_interp.specs.Endings.{completion_of}
 use Rattle.tcl_interp.specs.Shown.{set_state}
 use Rattle.tcl_interp.specs.declared.completion.Completion.{Completion}
 use Rattle.tcl_interp.specs.declared.fault.Fault.{Fault}

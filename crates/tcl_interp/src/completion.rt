@@ -26,7 +26,10 @@ impl Completion {
     pub(crate) fn normal(value: Value) -> Completion
         ensures { completion_of result ≡ normal value }
     {
-        Completion { code: Code::Ok, result: value }
+        Completion {
+            code: Code::Ok,
+            result: value,
+        }
     }
 
     /// The error with a message.
@@ -34,7 +37,10 @@ impl Completion {
         ensures { IfOk result (λ c. completion_of c ≡ failure (chars message.now)) }
     {
         let result = Value::from_str(alloc, message)?;
-        Ok(Completion { code: Code::Error, result })
+        Ok(Completion {
+            code: Code::Error,
+            result,
+        })
     }
 
     /// The error of a script that stands in too many others.
@@ -67,18 +73,29 @@ impl Completion {
         push_text(&mut message, after)?;
         push_text(&mut message, more)?;
         let result = Value::of_text(RcStr::from_string(message)?);
-        Ok(Completion { code: Code::Error, result })
+        Ok(Completion {
+            code: Code::Error,
+            result,
+        })
     }
 
     /// The error of a variable that can't be read.
-    pub(crate) fn cant_read(alloc: Global, name: &str, refusal: Refusal) -> Result<Completion, AllocError>
+    pub(crate) fn cant_read(
+        alloc: Global,
+        name: &str,
+        refusal: Refusal,
+    ) -> Result<Completion, AllocError>
         ensures { IfOk result (λ c. completion_of c ≡ cant_read (chars name.now) refusal) }
     {
         Completion::quoting(alloc, "can't read \"", name, "\": ", reason(refusal))
     }
 
     /// The error of a variable that can't be written.
-    pub(crate) fn cant_set(alloc: Global, name: &str, refusal: Refusal) -> Result<Completion, AllocError>
+    pub(crate) fn cant_set(
+        alloc: Global,
+        name: &str,
+        refusal: Refusal,
+    ) -> Result<Completion, AllocError>
         ensures { IfOk result (λ c. completion_of c ≡ cant_set (chars name.now) refusal) }
     {
         Completion::quoting(alloc, "can't set \"", name, "\": ", reason(refusal))

@@ -86,7 +86,7 @@ impl Interp {
         ensures idle { IsTrue self.old.failed → self.new ≡ self.old }
         ensures run { self.old.failed ≡ false →
             Ends result (run_script (chars script.now) (first_state self.old.globals (W.written (stdout world.old)) (E.written (stderr world.old)) budget))
-                self.new.globals (W.written (stdout world.new)) (E.written (stderr world.new)) }
+            self.new.globals (W.written (stdout world.new)) (E.written (stderr world.new)) }
         ensures fails { self.old.failed ≡ false → self.new.failed ≡ outcome_fails result }
         ensures dialect { self.new.dialect ≡ self.old.dialect }
         ensures leaves { Leaves R.to_come W.failed_calls E.failed_calls (outcome_is_io result) world.old world.new }

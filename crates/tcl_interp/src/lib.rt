@@ -11,6 +11,8 @@ mod lookup;
 mod names;
 mod outcome;
 mod pages;
+#[cfg(test)]
+mod tests;
 mod value;
 mod variables;
 mod whole;

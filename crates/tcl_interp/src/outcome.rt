@@ -47,11 +47,7 @@ fn done(alloc: Global, completion: Completion, left: u64) -> Result<Outcome, All
 }
 
 /// The outcome of an evaluation that left so many units.
-pub(crate) fn outcome_of(
-    alloc: Global,
-    ended: Result<Completion, Fault>,
-    left: u64,
-) -> Outcome
+pub(crate) fn outcome_of(alloc: Global, ended: Result<Completion, Fault>, left: u64) -> Outcome
     ensures { Tells result ended left }
 {
     match ended {

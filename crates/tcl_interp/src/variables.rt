@@ -65,13 +65,17 @@ impl Variable {
     fn of_text(value: Value) -> Variable
         ensures { result ≡ text value }
     {
-        Variable { held: Held::Text(value) }
+        Variable {
+            held: Held::Text(value),
+        }
     }
 
     fn of_array(elements: NameMap<Value>) -> Variable
         ensures { result ≡ array elements }
     {
-        Variable { held: Held::Array(elements) }
+        Variable {
+            held: Held::Array(elements),
+        }
     }
 
     // The text of the variable, or of an element.
@@ -143,7 +147,9 @@ impl Variables {
     pub(crate) fn new(alloc: Global) -> Variables
         ensures { result ≡ map.empty }
     {
-        Variables { map: NameMap::new(alloc) }
+        Variables {
+            map: NameMap::new(alloc),
+        }
     }
 
     /// The value of a variable or an element: set(n).
@@ -160,7 +166,12 @@ impl Variables {
     }
 
     /// Puts a variable with this text under a name as it is, whatever was there.
-    pub(crate) fn define(&mut self, alloc: Global, name: &str, value: Value) -> Result<(), AllocError>
+    pub(crate) fn define(
+        &mut self,
+        alloc: Global,
+        name: &str,
+        value: Value,
+    ) -> Result<(), AllocError>
         ensures done { OnOk result (self.new ≡ map.insert self.old (chars name.now) (text value)) }
         ensures same { OnErr result (self.new ≡ self.old) }
     {

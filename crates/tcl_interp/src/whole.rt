@@ -27,7 +27,9 @@ pub struct Report {
 }
 
 // Flushes both outputs, up to the first that fails.
-fn flush_both<R: Input, W: Output, E: Output>(world: &mut World<'_, '_, '_, R, W, E>) -> Result<(), ChanFault>
+fn flush_both<R: Input, W: Output, E: Output>(
+    world: &mut World<'_, '_, '_, R, W, E>,
+) -> Result<(), ChanFault>
     ensures leaves { Leaves R.to_come W.failed_calls E.failed_calls (is_err result) world.old world.new }
     ensures out { W.written (stdout world.new) ≡ W.written (stdout world.old) }
     ensures err { E.written (stderr world.new) ≡ E.written (stderr world.old) }
@@ -67,7 +69,12 @@ fn prepared(alloc: Global, name: &str) -> Result<Interp, Fault>
     ensures globals { IfOk result (λ interp. interp.globals ≡ args_put (chars name.now)) }
     ensures sound { IfOk result (λ interp. interp.failed ≡ false) }
 {
-    let Ok(mut interp) = Interp::new(alloc, Config { dialect: Dialect::Tcl86 }) else {
+    let Ok(mut interp) = Interp::new(
+        alloc,
+        Config {
+            dialect: Dialect::Tcl86,
+        },
+    ) else {
         return Err(Fault::Memory);
     };
     interp.define("argv0", name)?;
@@ -108,12 +115,26 @@ fn refused(alloc: Global, budget: u64) -> Report
     ensures quiet { outcome_is_io result.outcome ≡ false }
     ensures report { (out err : Option (List ℕ)) → Reports result (Gives args_error (first_state map.empty out err budget)) out err }
 {
-    let Ok(interp) = Interp::new(alloc, Config { dialect: Dialect::Tcl86 }) else {
-        return Report { outcome: Outcome::Memory, interp: None };
+    let Ok(interp) = Interp::new(
+        alloc,
+        Config {
+            dialect: Dialect::Tcl86,
+        },
+    ) else {
+        return Report {
+            outcome: Outcome::Memory,
+            interp: None,
+        };
     };
     match refused_args(alloc, budget) {
-        Outcome::Memory => Report { outcome: Outcome::Memory, interp: None },
-        outcome => Report { outcome, interp: Some(interp) },
+        Outcome::Memory => Report {
+            outcome: Outcome::Memory,
+            interp: None,
+        },
+        outcome => Report {
+            outcome,
+            interp: Some(interp),
+        },
     }
 }
 

@@ -1,21 +1,19 @@
 -- The rules of the definition, as laws of runs.
-use Rattle.std.proofs.Common.{◌≡◌, ◌≢◌, ℕ, zero, suc, ◌+◌, ◌-◌, ◌<◌, ◌≤◌, List, [], ◌∷◌, ◌++◌, refl, sym, ap, ◌∙◌, subst, arith, append_assoc, append-nil, cond, length, get_or, drop, add-one, drop-cons, Bool, true, false}
-use Rattle.std.specs.Prelude.{if◌then◌else◌}
+use Rattle.std.proofs.Common.{◌≡◌, ℕ, suc, ◌+◌, ◌-◌, ◌<◌, ◌≤◌, List, [], ◌∷◌, ◌++◌, refl, sym, ap, ◌∙◌, subst, arith, append_assoc, append-nil, cond, length, get_or, drop, add-one, drop-cons}
 use Rattle.std.proofs.lemmas.Bool.{lt-ltb, le-ltb}
-use Rattle.tcl_words.specs.Parts.{Part, Parts, no_parts, part, parts_of, Shape}
+use Rattle.tcl_words.specs.Parts.{Part, parts_of, Shape}
 use Rattle.tcl_words.specs.First.{First, none, malformed, command, first_command}
 use Rattle.tcl_words.specs.Syntax.{syntax_text}
 use Rattle.tcl_words.specs.declared.fault.Syntax.{Syntax}
-use Rattle.tcl_meaning.specs.declared.code.Code.{Code}
 use Rattle.tcl_meaning.specs.declared.code.Code.TheVariants as code
 use Rattle.tcl_meaning.specs.State.{State, with_units}
-use Rattle.tcl_meaning.specs.Completions.{Completion, normal, failure, too_deep}
-use Rattle.tcl_meaning.specs.Beginnings.{state_of, OutBegins, OutputsBegin, Goes}
-use Rattle.tcl_meaning.specs.Effects.{Task, Script, Prog, Give, Call, call, Got, Gives, Broke, on_got, exec, Plan, Now, Costs, paid, start, outcome, ◌>>=◌ as andthen}
+use Rattle.tcl_meaning.specs.Completions.{Completion, failure, too_deep}
+use Rattle.tcl_meaning.specs.Beginnings.{state_of, OutputsBegin, Goes}
+use Rattle.tcl_meaning.specs.Effects.{Task, Script, Prog, Call, Got, Gives, Broke, on_got, exec, Now, paid, start, ◌>>=◌ as andthen}
 use Rattle.tcl_meaning.specs.Value.{Value, Has, Fails, ◌>>=◌, give, on_value}
-use Rattle.tcl_meaning.specs.Substitution.{inside, piece_text, index_text, word_text, one_word, words_text}
-use Rattle.tcl_meaning.specs.Script.{most_levels, most_depth, Run, plan, by_first, sequence, rest_by, run_command, with_words, invoke}
-use Rattle.tcl_meaning.proofs.Runs.{IsOnward, goes_same, exec-goes, exec-bind, outcome-goes, outcome-law, outputs_trans}
+use Rattle.tcl_meaning.specs.Substitution.{piece_text, index_text, word_text, one_word, words_text}
+use Rattle.tcl_meaning.specs.Script.{most_levels, most_depth, Run, plan, by_first, sequence, rest_by, run_command, with_words}
+use Rattle.tcl_meaning.proofs.Runs.{IsOnward, goes_same, exec-goes, exec-bind, outcome-goes, outcome-law}
 
 pub on_got-more : {A B : Type 0} (r : Got A) (f : A → State → Got B) → ((a : A) (t : State) → Goes t (state_of (f a t))) → Goes (state_of r) (state_of (on_got r f))
 on_got-more (Gives a s) f h = h a s
@@ -68,12 +66,14 @@ gather {A} {B} {C} p q j k l h s =
     inner a (Gives (Has b) u) = ap (λ x. Gives (Has x) u) (h a b)
     inner a (Gives (Fails c) u) = refl
     inner a (Broke u) = refl
+
     at_value : (v : Value A) (u : State) → on_got (exec Run (on_value (λ a. q >>= (λ b. give (j a b))) v) u) (λ b u. exec Run (on_value (λ b. give (k b)) b) u) ≡ exec Run (on_value (λ a. q >>= (λ b. give (l a b))) v) u
     at_value (Has a) u =
         ap (λ g. on_got g (λ b u. exec Run (on_value (λ b. give (k b)) b) u)) (exec-bind Run q (on_value (λ b. give (j a b))) u)
         ∙ inner a (exec Run q u)
         ∙ sym (exec-bind Run q (on_value (λ b. give (l a b))) u)
     at_value (Fails c) u = refl
+
     outer : (r : Got (Value A)) → on_got (on_got r (λ b u. exec Run (on_value (λ a. q >>= (λ b. give (j a b))) b) u)) (λ b u. exec Run (on_value (λ b. give (k b)) b) u) ≡ on_got r (λ b u. exec Run (on_value (λ a. q >>= (λ b. give (l a b))) b) u)
     outer (Gives v u) = at_value v u
     outer (Broke u) = refl

@@ -1,5 +1,5 @@
 -- How commands and scripts end: return(n), RETURN CODES.
-use Rattle.std.specs.Prelude.{ℕ, List, codes, [], ◌++◌}
+use Rattle.std.specs.Prelude.{ℕ, List, codes, ◌++◌}
 use Rattle.tcl_meaning.specs.declared.code.Code.{Code}
 use Rattle.tcl_meaning.specs.declared.code.Code.TheVariants as code
 

@@ -1,10 +1,10 @@
 -- A whole run: the arguments are put into variables, and the script is run.
-use Rattle.std.specs.Prelude.{ℕ, ℤ, pos, List, [], ◌∷◌, codes, Option, Some, None, length}
+use Rattle.std.specs.Prelude.{ℕ, ℤ, pos, List, [], ◌∷◌, codes, Option}
 use Rattle.std.specs.FinMap as map
 use Rattle.tcl_meaning.specs.declared.code.Code.{Code}
 use Rattle.tcl_meaning.specs.declared.code.Code.TheVariants as code
 use Rattle.tcl_meaning.specs.Completions.{Completion, normal, failure}
-use Rattle.tcl_meaning.specs.State.{Variable, text, Variables, Store, State}
+use Rattle.tcl_meaning.specs.State.{text, Variables, State}
 use Rattle.tcl_meaning.specs.Effects.{Script, Got, Gives}
 use Rattle.tcl_meaning.specs.Script.{Run}
 

@@ -1,5 +1,5 @@
 -- What a command does, and a script: Tcl(n), rules 1, 2 and 11.
-use Rattle.std.specs.Prelude.{ℕ, ◌+◌, nat_lt, List, [], ◌∷◌, ◌++◌, codes, Option, Some, None, if◌then◌else◌}
+use Rattle.std.specs.Prelude.{ℕ, nat_lt, List, [], ◌∷◌, ◌++◌, codes, Option, Some, None, if◌then◌else◌}
 use Rattle.tcl_words.specs.Parts.{Shape}
 use Rattle.tcl_words.specs.First.{First, none, malformed, command, first_command}
 use Rattle.tcl_words.specs.Syntax.{syntax_text}

@@ -1,11 +1,10 @@
 -- The substitution of words: Tcl(n), rules 2 to 8 and 11. The pieces of a word are substituted from left to right.
-use Rattle.std.specs.Prelude.{ℕ, zero, ◌+◌, Bool, true, false, List, [], ◌∷◌, ◌++◌, Result, Ok, Err, codes}
+use Rattle.std.specs.Prelude.{ℕ, ◌+◌, Bool, true, false, List, [], ◌∷◌, ◌++◌, Result, Ok, Err, codes}
 use Rattle.tcl_words.specs.Parts.{Part, text, escape, var, elem_, bracket, Parts, no_parts, part, Shape}
 use Rattle.tcl_meaning.specs.declared.refusal.Refusal.{Refusal}
 use Rattle.tcl_meaning.specs.declared.code.Code.{Code}
 use Rattle.tcl_meaning.specs.declared.code.Code.TheVariants as code
 use Rattle.tcl_meaning.specs.Completions.{Completion, normal, failure}
-use Rattle.tcl_meaning.specs.State.{Store}
 use Rattle.tcl_meaning.specs.Effects.{Task, Script, Prog}
 use Rattle.tcl_meaning.specs.Value.{Value, ◌>>=◌, give, fail, look, call}
 use Rattle.tcl_meaning.specs.Variables.{get, cant_read}

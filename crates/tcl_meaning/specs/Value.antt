@@ -1,5 +1,4 @@
 -- Programs whose value may be missing, with the completion that stands in its place.
-use Rattle.std.specs.Prelude.{ℕ, List}
 use Rattle.tcl_meaning.specs.State.{Store}
 use Rattle.tcl_meaning.specs.Completions.{Completion}
 use Rattle.tcl_meaning.specs.Effects.{Task, Prog, Give, Look, Call, ◌>>=◌ as andthen}

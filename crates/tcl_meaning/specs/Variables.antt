@@ -1,9 +1,8 @@
 -- Variables by their names: Tcl(n), rule 8; set(n); array(n).
-use Rattle.std.specs.Prelude.{ℕ, Bool, ◌&&◌, ◌==◌, List, [], ◌∷◌, ◌++◌, codes, Option, Some, None, Result, Ok, Err, if◌then◌else◌}
+use Rattle.std.specs.Prelude.{ℕ, ◌&&◌, ◌==◌, List, [], ◌∷◌, ◌++◌, codes, Option, Some, None, Result, Ok, Err, if◌then◌else◌}
 use Rattle.std.specs.FinMap as map
 use Rattle.tcl_chars.specs.Characters.{colon, open_paren, close_paren}
 use Rattle.tcl_chars.specs.Place.{begins, tail, before}
-use Rattle.tcl_names.specs.Named.{Named}
 use Rattle.tcl_meaning.specs.declared.refusal.Refusal.{Refusal}
 use Rattle.tcl_meaning.specs.declared.refusal.Refusal.TheVariants.{NoSuch, IsArray, IsntArray, NoElement}
 use Rattle.tcl_meaning.specs.State.{Variable, text, array, Variables}

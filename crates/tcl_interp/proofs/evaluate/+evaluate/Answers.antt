@@ -1,20 +1,18 @@
-use Rattle.std.proofs.Common.{rules, ◌≡◌, ◌≤◌, ◌<◌, ◌+◌, ℕ, [], ◌∷◌, ◌++◌, length, map, drop, false, List, sym, ap, ◌∙◌, arith, refl, append-nil, subst}
+use Rattle.std.proofs.Common.{rules, ◌≡◌, ◌<◌, ◌+◌, [], ◌∷◌, ◌++◌, length, map, drop, false, sym, ap, ◌∙◌, arith, refl, append-nil}
 use Rattle.std.proofs.lemmas.Result.{err_from_is_err_and}
 use Rattle.std.proofs.lemmas.List.{length-map}
 use Rattle.std.specs.Str.{chars}
 use Rattle.std.specs.String.{string_bytes}
-use Rattle.tcl_words.specs.Parts.{shape_of, part_of, parts_of, stretch_of, elem_}
-use Rattle.tcl_words.specs.First.{first_command}
-use Rattle.tcl_meaning.specs.Completions.{normal, failure}
-use Rattle.tcl_meaning.specs.Effects.{Script, Gives, exec}
+use Rattle.tcl_words.specs.Parts.{shape_of, part_of, parts_of, stretch_of}
+use Rattle.tcl_meaning.specs.Completions.{failure}
+use Rattle.tcl_meaning.specs.Effects.{Script, Gives}
 use Rattle.tcl_meaning.specs.Nesting.{PartNests, PartsNest, WordsNest}
-use Rattle.tcl_meaning.specs.Substitution.{piece_text, word_text, words_text}
+use Rattle.tcl_meaning.specs.Substitution.{piece_text}
 use Rattle.tcl_meaning.specs.Script.{Run, most_levels, run_command, rest_by}
 use Rattle.tcl_meaning.proofs.Nests.{first_nests, parts_nest_at, words_nest_at}
 use Rattle.tcl_meaning.proofs.Rules.{begins_run, begins_of, begins_here, script_deep, script_end, script_bad, script_broke, script_paid, sequence_next, sequence_ends, shape_text, word_start, words_start, words_after, words_at, reach_value}
-use Rattle.tcl_interp.specs.Endings.{completion_of, AddsText}
+use Rattle.tcl_interp.specs.Endings.{completion_of}
 use Rattle.tcl_interp.specs.Shown.{shown}
-use Rattle.tcl_interp.proofs.Adding.{Added}
 use Rattle.tcl_interp.proofs.Evaluating.{fault_bind, halt_value, command_invokes, command_stopped, parsed_end, parsed_bad, parsed_command, map_at, part-elem, pieces_halt, piece_added, element_reach, element_halt, element_name, element_adds, word_is}
 use Rattle.tcl_interp.proofs.Leaving.{leaves_same, leaves_trans}
 use Rattle.tcl_interp.proofs.evaluate.+evaluate.Goals as goal
@@ -88,14 +86,16 @@ eval_script-commands-preserved g t c =
     let ws = map shape_of c.in-Command.words.items in
     let e = parsed_command _ _ c.in-Command.words c.in-Command.after _ c.in_ok-parse_first.ensures.first c.in-Command.is in
     let r = script_paid d _ _ _ ws e.rest c.commands.invariant.1.shallow e.is (omega arith) c.commands.invariant.1.same in
-    let left : chars c.range_from-rest.result.now ≡ e.rest = ap chars c.range_from-rest.ensures.value ∙ e.left in
-    (search rules, record {
-      same = sequence_next d ws e.rest (completion_of c.in_ok-done-in-Command.done) r (rw c.as_slice.ensures.value at c.in_ok-done-in-Command.ensures.run) c.in-Ok.is
-          ∙ ap (λ x. Run (Script d (completion_of c.in_ok-done-in-Command.done) x) (shown g.W.Output.written g.E.Output.written c.eval_command.new.state c.eval_command.new.world)) (sym left);
-      shallow = c.commands.invariant.1.shallow;
-      spends = omega arith;
-      leaves = leaves_trans g.R.Input.to_come g.W.Output.failed_calls g.E.Output.failed_calls false _ _ _ c.commands.invariant.1.leaves c.in_ok-done-in-Command.ensures.leaves;
-    })
+    let left : chars c.range_from-rest.result.now ≡ e.rest = ap chars c.range_from-rest.ensures.value ∙ e.left in (
+      search rules,
+      record {
+        same = sequence_next d ws e.rest (completion_of c.in_ok-done-in-Command.done) r (rw c.as_slice.ensures.value at c.in_ok-done-in-Command.ensures.run) c.in-Ok.is
+            ∙ ap (λ x. Run (Script d (completion_of c.in_ok-done-in-Command.done) x) (shown g.W.Output.written g.E.Output.written c.eval_command.new.state c.eval_command.new.world)) (sym left);
+        shallow = c.commands.invariant.1.shallow;
+        spends = omega arith;
+        leaves = leaves_trans g.R.Input.to_come g.W.Output.failed_calls g.E.Output.failed_calls false _ _ _ c.commands.invariant.1.leaves c.in_ok-done-in-Command.ensures.leaves;
+      },
+    )
 
 pub subst_words-words-init : goal.subst_words-words-init
 subst_words-words-init g t c = record {
@@ -111,7 +111,7 @@ subst_words-subst_word-requires g t c =
     let ws = map shape_of c.args.words.now in
     let lt : c.words.word-index < length ws = omega (arith, length-map c.args.words.now shape_of) in
     let nests : PartsNest most_levels (parts_of (map part_of c.word-item.result.pieces.items)) =
-        words_nest_at most_levels ws c.words.word-index (shape_of c.word-item.result) c.words.invariant.nests lt (map_at shape_of c.args.words.now c.words.word-index c.word-item.result c.word-item.is) in
+    words_nest_at most_levels ws c.words.word-index (shape_of c.word-item.result) c.words.invariant.nests lt (map_at shape_of c.args.words.now c.words.word-index c.word-item.result c.word-item.is) in
     search rules
 
 pub subst_words-returns-in_err-value-clause-run : goal.subst_words-returns-in_err-value-clause-run
@@ -169,7 +169,7 @@ subst_pieces-subst_piece-requires g t c =
     let ps = map part_of c.args.pieces.now in
     let lt : c.pieces.piece-index < length ps = omega (arith, length-map c.args.pieces.now part_of) in
     let nests : PartNests c.args.levels (part_of c.piece-item.result) =
-        parts_nest_at c.args.levels ps c.pieces.piece-index (part_of c.piece-item.result) c.pieces.invariant.nests lt (map_at part_of c.args.pieces.now c.pieces.piece-index c.piece-item.result c.piece-item.is) in
+    parts_nest_at c.args.levels ps c.pieces.piece-index (part_of c.piece-item.result) c.pieces.invariant.nests lt (map_at part_of c.args.pieces.now c.pieces.piece-index c.piece-item.result c.piece-item.is) in
     search rules
 
 pub subst_pieces-returns-in_err-subst_piece-clause-run : goal.subst_pieces-returns-in_err-subst_piece-clause-run

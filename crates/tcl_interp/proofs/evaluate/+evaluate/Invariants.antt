@@ -1,4 +1,4 @@
-use Rattle.std.proofs.Common.{◌≡◌, ◌≤◌, ◌+◌, ◌*◌, ◌++◌, [], ℕ, false, length, drop, map}
+use Rattle.std.proofs.Common.{◌≡◌, ◌≤◌, ◌+◌, ◌*◌, [], false, drop, map}
 use denote.Text.{Utf8}
 use denote.Shadow.{shadow}
 use Rattle.std.specs.Str.{chars}
@@ -39,7 +39,8 @@ invariant-eval_script-commands g l = shadow (Utf8 l.rest) × record {
   same : Run (Script l.fn.depth (normal []) (chars l.fn.script)) (shown g.W.Output.written g.E.Output.written l.fn.state l.fn.world) ≡ Run (Script l.depth (completion_of l.last) (chars l.rest)) (shown g.W.Output.written g.E.Output.written l.state l.world);
   shallow : l.depth ≤ most_depth;
   spends : l.state.units ≤ l.fn.state.units;
-  leaves : Leaves g.R.Input.to_come g.W.Output.failed_calls g.E.Output.failed_calls false l.fn.world l.world }
+  leaves : Leaves g.R.Input.to_come g.W.Output.failed_calls g.E.Output.failed_calls false l.fn.world l.world;
+}
 
 abbrev pub decreases-eval_script-commands : goal.decreases-eval_script-commands
 decreases-eval_script-commands g l = l.state.units
@@ -50,7 +51,8 @@ invariant-subst_words-words g l = record {
   shallow : l.depth ≤ most_depth;
   nests : WordsNest most_levels (map shape_of l.words);
   spends : l.state.units ≤ l.fn.state.units;
-  leaves : Leaves g.R.Input.to_come g.W.Output.failed_calls g.E.Output.failed_calls false l.fn.world l.world }
+  leaves : Leaves g.R.Input.to_come g.W.Output.failed_calls g.E.Output.failed_calls false l.fn.world l.world;
+}
 
 abbrev pub invariant-subst_pieces-pieces : goal.invariant-subst_pieces-pieces
 invariant-subst_pieces-pieces g l = record {
@@ -58,4 +60,5 @@ invariant-subst_pieces-pieces g l = record {
   shallow : l.depth ≤ most_depth;
   nests : PartsNest l.levels (parts_of (map part_of l.pieces));
   spends : l.state.units ≤ l.fn.state.units;
-  leaves : Leaves g.R.Input.to_come g.W.Output.failed_calls g.E.Output.failed_calls false l.fn.world l.world }
+  leaves : Leaves g.R.Input.to_come g.W.Output.failed_calls g.E.Output.failed_calls false l.fn.world l.world;
+}
