@@ -45,7 +45,15 @@ fn show_run(alloc: Global, script: &str, budget: u64) -> Result<Shown, AllocErro
     let mut input = MemoryInput::new(b"");
     let mut out = MemoryOutput::new(alloc, CAPACITY)?;
     let mut err = MemoryOutput::new(alloc, CAPACITY)?;
-    let Report { outcome, interp: _ } = run(alloc, script, &[], &mut input, &mut out, &mut err, budget);
+    let Report { outcome, interp: _ } = run(
+        alloc,
+        script,
+        &[],
+        &mut input,
+        &mut out,
+        &mut err,
+        budget,
+    );
     let end = told(alloc, &outcome)?;
     let text = str::from_utf8(out.bytes()).unwrap_or("not UTF-8\n");
     Ok(Shown {
@@ -57,12 +65,18 @@ fn show_run(alloc: Global, script: &str, budget: u64) -> Result<Shown, AllocErro
 /// What the script puts out and how it ends with the units that it needs and, if it needs any, with one unit less.
 pub(crate) fn show(alloc: Global, script: &str) -> Result<String, AllocError> {
     let Shown { text: _, spent } = show_run(alloc, script, UNITS)?;
-    let Shown { text: enough, spent: _ } = show_run(alloc, script, spent)?;
+    let Shown {
+        text: enough,
+        spent: _,
+    } = show_run(alloc, script, spent)?;
     if spent == 0 {
         return format!(in alloc; "with 0 units:\n{enough}");
     }
     let less = spent.saturating_sub(1);
-    let Shown { text: short, spent: _ } = show_run(alloc, script, less)?;
+    let Shown {
+        text: short,
+        spent: _,
+    } = show_run(alloc, script, less)?;
     format!(in alloc; "with {spent} units:\n{enough}\nwith {less} units:\n{short}")
 }
 

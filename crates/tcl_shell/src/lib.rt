@@ -3,10 +3,9 @@
 
 mod lines;
 mod program;
-mod words;
-
 #[cfg(test)]
 mod tests;
+mod words;
 
 pub use program::tool;
 pub use words::file_word;

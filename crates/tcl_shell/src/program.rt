@@ -71,23 +71,49 @@ pub fn tool<R: Input, W: Output, E: Output>(
     err: &mut E,
 ) -> u8 {
     let Some(request) = read_request(words) else {
-        say(alloc, reader, out, err, &["usage: tclint ?-budget N? ?file arg ...?"]);
+        say(
+            alloc,
+            reader,
+            out,
+            err,
+            &["usage: tclint ?-budget N? ?file arg ...?"],
+        );
         return 5;
     };
     let args = &words[request.file..];
     let name = words[request.file];
     let Some(bytes) = file else {
-        say(alloc, reader, out, err, &["couldn't read file \"", name, "\""]);
+        say(
+            alloc,
+            reader,
+            out,
+            err,
+            &["couldn't read file \"", name, "\""],
+        );
         return 5;
     };
     let Ok(text) = str::from_utf8(bytes) else {
-        say(alloc, reader, out, err, &["file \"", name, "\" is not UTF-8"]);
+        say(
+            alloc,
+            reader,
+            out,
+            err,
+            &["file \"", name, "\" is not UTF-8"],
+        );
         return 5;
     };
     let Ok(script) = joined_lines(alloc, text) else {
         say(alloc, reader, out, err, &["out of memory"]);
         return 3;
     };
-    let Report { outcome, interp: _ } = run(alloc, script.as_str(), args, reader, out, err, request.budget);
+    let Report { outcome, interp: _ } = run(
+        alloc,
+        script.as_str(),
+        args,
+        reader,
+        out,
+        err,
+        request.budget,
+    );
     status(alloc, reader, out, err, outcome)
 }
