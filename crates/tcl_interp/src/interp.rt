@@ -84,6 +84,7 @@ impl Interp {
     ) -> Outcome
         ensures failed { (result ≡ outcome.Failed) ↔ IsTrue self.old.failed }
         ensures idle { IsTrue self.old.failed → self.new ≡ self.old }
+        ensures still { IsTrue self.old.failed → world.new ≡ world.old }
         ensures run { self.old.failed ≡ false →
             Ends result (run_script (chars script.now) (first_state self.old.globals (W.written (stdout world.old)) (E.written (stderr world.old)) budget))
             self.new.globals (W.written (stdout world.new)) (E.written (stderr world.new)) }
