@@ -1,0 +1,5 @@
+mod Budgets
+mod Joining
+mod Says
+mod Texts
+mod Tools

@@ -1,58 +1,69 @@
 //! The program over devices.
+ghost use Rattle.std.specs.Prelude.{◌≡◌, map, option_map, IfOk};
+ghost use Rattle.std.specs.Str.{chars};
+ghost use Rattle.std.specs.String.{string_bytes};
+ghost use Rattle.tcl_shell.specs.Lines.{told, SaidIf};
+ghost use Rattle.tcl_shell.specs.Program.{Answers, ends_line, joined, line_of, status_of};
+ghost use Rattle.tcl_shell.specs.Words.{request_of};
 
-use crate::lines::say;
+use crate::lines::{Line, say};
 use crate::words::read_request;
 use std::alloc::{AllocError, Global};
 use tcl_chan::device::{Input, Output};
-use tcl_chars::{push, split_first};
+use tcl_chars::{begins, push, split_first};
 use tcl_interp::{Outcome, Report, run};
 
-// A script whose CR LF are LF.
-fn joined_lines(alloc: Global, text: &str) -> Result<String, AllocError> {
+// Is the character the CR of a CR LF, where this follows it?
+fn ends_line(c: char, after: &str) -> bool
+    ensures { result ≡ ends_line c (chars after.now) }
+{
+    c == '\r' && begins('\n', after)
+}
+
+// The script of a file: CR LF is read as LF.
+fn joined_lines(alloc: Global, text: &str) -> Result<String, AllocError>
+    ensures { IfOk result (λ script. chars (string_bytes script) ≡ joined (chars text.now)) }
+{
     let mut script = String::new(alloc);
     let mut rest = text;
-    let mut held = false;
     'characters: while let Some((c, after)) = split_first(rest) {
-        if held && c != '\n' {
-            push(&mut script, '\r')?;
-        }
-        held = c == '\r';
-        if !held {
+        if !ends_line(c, after) {
             push(&mut script, c)?;
         }
         rest = after;
-    }
-    if held {
-        push(&mut script, '\r')?;
     }
     Ok(script)
 }
 
 // The status of a run, and its line where it is neither 0 nor the script's own.
-fn status<R: Input, W: Output, E: Output>(
+fn tell<R: Input, W: Output, E: Output>(
     alloc: Global,
     reader: &mut R,
     out: &mut W,
     err: &mut E,
     outcome: Outcome,
-) -> u8 {
+) -> u8
+    ensures status { result ≡ status_of outcome }
+    ensures says { SaidIf (line_of outcome) (told E.written E.failed_calls err.old) (told E.written E.failed_calls err.new) }
+    ensures out { out.new ≡ out.old }
+{
     match outcome {
         Outcome::Done { code: 0, .. } => 0,
         Outcome::Done { result, .. } => {
-            say(alloc, reader, out, err, &[result.as_str()]);
+            say(alloc, reader, out, err, Line::Message(result.as_str()));
             1
         }
         Outcome::Budget => {
-            say(alloc, reader, out, err, &["budget spent"]);
+            say(alloc, reader, out, err, Line::Budget);
             2
         }
         Outcome::Exit(status) => status,
         Outcome::Memory => {
-            say(alloc, reader, out, err, &["out of memory"]);
+            say(alloc, reader, out, err, Line::Memory);
             3
         }
         Outcome::Io | Outcome::Failed => {
-            say(alloc, reader, out, err, &["read or write failed"]);
+            say(alloc, reader, out, err, Line::Broken);
             4
         }
     }
@@ -69,42 +80,26 @@ pub fn tool<R: Input, W: Output, E: Output>(
     reader: &mut R,
     out: &mut W,
     err: &mut E,
-) -> u8 {
+) -> u8
+    ensures { Answers (request_of (map (λ word. chars word.now) words.now)) (map (λ word. word.now) words.now) (option_map (λ bytes. bytes.now) file.entry) result
+        (told W.written W.failed_calls out.old) (told E.written E.failed_calls err.old) (told W.written W.failed_calls out.new) (told E.written E.failed_calls err.new) }
+{
     let Some(request) = read_request(words) else {
-        say(
-            alloc,
-            reader,
-            out,
-            err,
-            &["usage: tclint ?-budget N? ?file arg ...?"],
-        );
+        say(alloc, reader, out, err, Line::Usage);
         return 5;
     };
     let args = &words[request.file..];
-    let name = words[request.file];
+    let name = args[0];
     let Some(bytes) = file else {
-        say(
-            alloc,
-            reader,
-            out,
-            err,
-            &["couldn't read file \"", name, "\""],
-        );
+        say(alloc, reader, out, err, Line::Unread(name));
         return 5;
     };
     let Ok(text) = str::from_utf8(bytes) else {
-        say(
-            alloc,
-            reader,
-            out,
-            err,
-            &["file \"", name, "\" is not UTF-8"],
-        );
+        say(alloc, reader, out, err, Line::NotUtf8(name));
         return 5;
     };
     let Ok(script) = joined_lines(alloc, text) else {
-        say(alloc, reader, out, err, &["out of memory"]);
-        return 3;
+        return tell(alloc, reader, out, err, Outcome::Memory);
     };
     let Report { outcome, interp: _ } = run(
         alloc,
@@ -115,5 +110,5 @@ pub fn tool<R: Input, W: Output, E: Output>(
         err,
         request.budget,
     );
-    status(alloc, reader, out, err, outcome)
+    tell(alloc, reader, out, err, outcome)
 }

@@ -1,7 +1,9 @@
 //! The program's words: `?-budget N? file`.
-ghost use Rattle.std.specs.Prelude.{◌≡◌, ◌<◌, ◌≤◌, ◌-◌, ◌^◌, length, IfSome};
+ghost use Rattle.std.specs.Prelude.{◌≡◌, ◌+◌, ◌<◌, length, map, option_map, IfSome};
+ghost use Rattle.std.specs.Str.{chars};
+ghost use Rattle.tcl_shell.specs.Words.{budget_of, is_budget, budgeted, request_of};
 
-use tcl_chars::split_first;
+use tcl_chars::begins;
 
 // The greatest budget.
 const MOST_BUDGET: u64 = 0x7fff_ffff_ffff_ffff;
@@ -17,57 +19,62 @@ pub(crate) struct Request {
 
 // A budget: decimal digits, up to the greatest.
 fn read_budget(word: &str) -> Option<u64>
-    ensures { IfSome result (λ budget. budget < 2 ^ 63) }
+    ensures { result ≡ budget_of (chars word.now) }
 {
-    if word.is_empty() {
+    if begins('+', word) {
         return None;
     }
-    let mut rest = word;
-    let mut budget: u64 = 0;
-    'digits: while let Some((c, after)) = split_first(rest) {
-        let digit = c.to_digit(10)?;
-        budget = budget.saturating_mul(10).saturating_add(u64::from(digit));
-        rest = after;
-    }
-    if budget <= MOST_BUDGET {
-        Some(budget)
-    } else {
-        None
+    match word.parse::<u64>() {
+        Ok(budget) if budget <= MOST_BUDGET => Some(budget),
+        _ => None,
     }
 }
 
-/// What the program's words ask, its own name not among them, or `None` where they are not its usage.
-pub(crate) fn read_request(words: &[&str]) -> Option<Request>
-    ensures file { IfSome result (λ request. request.file < length words.now) }
-    ensures budget { IfSome result (λ request. request.budget < 2 ^ 63) }
+// Is the word the option for a budget?
+#[tactic(auto, using(tcl_chars::proofs::Same::eq_by_chars))]
+fn is_budget(word: &str) -> bool
+    ensures { result ≡ is_budget (chars word.now) }
 {
-    match words {
-        [] => None,
-        [first, ..] => {
-            if *first != "-budget" {
-                return Some(Request {
-                    budget: MOST_BUDGET,
-                    file: 0,
-                });
-            }
-            let [_, number, _, ..] = words else {
-                return None;
-            };
-            Some(Request {
-                budget: read_budget(number)?,
-                file: 2,
-            })
-        }
+    word == "-budget"
+}
+
+// What the words behind `-budget` ask.
+fn read_budgeted(words: &[&str]) -> Option<Request>
+    ensures request { result ≡ budgeted (map (λ word. chars word.now) words.now) }
+    ensures file { IfSome result (λ request. request.file < length words.now + 1) }
+{
+    let [number, _, ..] = words else {
+        return None;
+    };
+    Some(Request {
+        budget: read_budget(number)?,
+        file: 2,
+    })
+}
+
+/// What the program's words ask, its own name not among them, or `None` where they are not its usage.
+#[tactic(auto, unfolding(crate::specs::Words::request_of))]
+pub(crate) fn read_request(words: &[&str]) -> Option<Request>
+    ensures request { result ≡ request_of (map (λ word. chars word.now) words.now) }
+    ensures file { IfSome result (λ request. request.file < length words.now) }
+{
+    let [first, others @ ..] = words else {
+        return None;
+    };
+    if is_budget(first) {
+        return read_budgeted(others);
     }
+    Some(Request {
+        budget: MOST_BUDGET,
+        file: 0,
+    })
 }
 
 /// Where the file stands among the program's words, its own name not among them; `None` where there is none, or the
 /// words are not the program's usage.
 pub fn file_word(words: &[&str]) -> Option<usize>
-    ensures { IfSome result (λ place. place < length words.now) }
+    ensures place { result ≡ option_map (λ request. request.file) (request_of (map (λ word. chars word.now) words.now)) }
+    ensures within { IfSome result (λ place. place < length words.now) }
 {
-    match read_request(words) {
-        Some(request) => Some(request.file),
-        None => None,
-    }
+    Some(read_request(words)?.file)
 }

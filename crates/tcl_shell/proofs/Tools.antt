@@ -1,0 +1,117 @@
+-- What the program does, put together from the calls that it makes.
+use Rattle.std.proofs.Common.{◌≡◌, ℕ, ◌-◌, ◌<◌, ◌≤◌, suc, zero, Bool, true, false, List, [], ◌∷◌, length, take, drop, map, Option, Some, None, option_map, refl, sym, ap, subst, ◌∙◌, arith, Bor, slice_index_or}
+use Rattle.std.specs.FinMap as finmap
+use Rattle.std.specs.Str.{chars, IsUtf8}
+use Rattle.std.proofs.lemmas.List.{length-drop}
+use Rattle.std.proofs.Math.Seq.{take-length}
+use Rattle.tcl_chars.specs.Place.{begins}
+use Rattle.tcl_meaning.specs.Beginnings.{state_of, OutputsBegin}
+use Rattle.tcl_meaning.specs.Completions.{Completion, normal}
+use Rattle.tcl_meaning.specs.Effects.{Got, Script}
+use Rattle.tcl_meaning.specs.Run.{run_with_args, args_put, first_state}
+use Rattle.tcl_meaning.proofs.Rules.{begins_run}
+use Rattle.tcl_meaning.proofs.Runs.{out_same}
+use Rattle.tcl_interp.specs.Interps.{Shows}
+use Rattle.tcl_interp.specs.Outcomes.{outcome_is_io}
+use Rattle.tcl_interp.specs.Reports.{Reports, ReportsBy}
+use Rattle.tcl_interp.specs.Shown.{Counted, set_state}
+use Rattle.tcl_interp.specs.declared.host.Outcome.{Outcome}
+use Rattle.tcl_interp.specs.declared.host.Outcome.TheVariants as outcome
+use Rattle.tcl_interp.specs.declared.whole.Report.{Report}
+use Rattle.tcl_shell.specs.Lines.{Told, Said, SaidIf, unread, not_utf8}
+use Rattle.tcl_shell.specs.Program.{Ran, Answers, RunsFile, name_of, joined, status_of, line_of}
+use Rattle.tcl_shell.specs.declared.words.Request.{Request}
+
+-- the words from a place on
+
+abbrev pub from_place : List (Bor (List ℕ)) → ℕ → List (Bor (List ℕ))
+from_place ws n = take (length ws - n) (drop n ws)
+
+abbrev pub texts : List (Bor (List ℕ)) → List (List ℕ)
+texts ws = map (λ w. w.now) ws
+
+from_is : (ws : List (Bor (List ℕ))) (n : ℕ) → from_place ws n ≡ drop n ws
+from_is ws n = ap (λ k. take k (drop n ws)) (sym (length-drop n ws)) ∙ take-length (drop n ws)
+
+name_is : (d : Bor (List ℕ)) (ws : List (Bor (List ℕ))) (n : ℕ) → n < length ws → (slice_index_or (drop n ws) 0 d).now ≡ name_of (drop n (texts ws))
+name_is d [] n l = absurd (omega (arith, l))
+name_is d (w ∷ ws) zero l = refl
+name_is d (w ∷ ws) (suc n) l = name_is d ws n (omega (arith, l))
+
+args_are : (ws : List (Bor (List ℕ))) (n : ℕ) → map (λ w. chars w.now) (drop n ws) ≡ map chars (drop n (texts ws))
+args_are [] zero = refl
+args_are [] (suc n) = refl
+args_are (w ∷ ws) zero = ap (λ l. chars w.now ∷ l) (args_are ws zero)
+args_are (w ∷ ws) (suc n) = args_are ws n
+
+name_from : (d : Bor (List ℕ)) (ws : List (Bor (List ℕ))) (n : ℕ) → n < length ws → (slice_index_or (from_place ws n) 0 d).now ≡ name_of (drop n (texts ws))
+name_from d ws n l = ap (λ l. (slice_index_or l 0 d).now) (from_is ws n) ∙ name_is d ws n l
+
+args_from : (ws : List (Bor (List ℕ))) (n : ℕ) → map (λ w. chars w.now) (from_place ws n) ≡ map chars (drop n (texts ws))
+args_from ws n = ap (λ l. map (λ w. chars w.now) l) (from_is ws n) ∙ args_are ws n
+
+-- a run that was refused memory before it began
+
+args_begin : (script : List ℕ) (args : List (List ℕ)) (out err : Option (List ℕ)) (budget : ℕ) → OutputsBegin (set_state finmap.empty out err 0) (state_of (run_with_args script args out err budget))
+args_begin script [] out err budget =
+    let b = begins_run (Script 1 (normal []) script) (first_state (args_put []) out err budget) refl in record { out = b.out; err = b.err }
+args_begin script (name ∷ []) out err budget =
+    let b = begins_run (Script 1 (normal []) script) (first_state (args_put name) out err budget) refl in record { out = b.out; err = b.err }
+args_begin script (name ∷ more ∷ others) out err budget = record { out = out_same out; err = out_same err }
+
+pub ran_nothing : (script : List ℕ) (args : List (List ℕ)) (budget status : ℕ) (out err out' err' : Told) → out' ≡ out → status ≡ status_of outcome.Memory → SaidIf (line_of outcome.Memory) err err' → Ran (run_with_args script args out.bytes err.bytes budget) status out err out' err'
+ran_nothing script args budget status out err out' err' same answers says = rw same (record {
+  outcome = outcome.Memory;
+  variables = finmap.empty;
+  before = err;
+  ends = args_begin script args out.bytes err.bytes budget;
+  failures = (refl, refl);
+  answers = answers;
+  says = says;
+})
+
+-- the failures that devices count, as they tell them
+pub counted_told : {W E : Type 0} (outs : W → ℕ) (errs : E → ℕ) (io : Bool) (out out' : W) (err err' : E) → Counted outs errs io out err out' err' → Counted (λ n. n) (λ n. n) io (outs out) (errs err) (outs out') (errs err')
+counted_told outs errs true out out' err err' h = h
+counted_told outs errs false out out' err err' h = h
+
+-- a run that is reported
+
+module _ (got : Got Completion) (status : ℕ) (out err out' before err' : Told) where
+  reported : (o : Outcome) (shows : Option Shows) → ReportsBy o shows got out'.bytes before.bytes → Counted (λ n. n) (λ n. n) (outcome_is_io o) out.failed err.failed out'.failed before.failed → status ≡ status_of o → SaidIf (line_of o) before err' → Ran got status out err out' err'
+  reported o (Some interp) h counted answers says = record { outcome = o; variables = interp.globals; before = before; ends = h.ends; failures = counted; answers = answers; says = says }
+  reported o None h counted answers says =
+      let m = h.memory in
+      record {
+        outcome = outcome.Memory;
+        variables = finmap.empty;
+        before = before;
+        ends = record { out = h.out_begins; err = h.err_begins };
+        failures = subst (λ x. Counted (λ n. n) (λ n. n) (outcome_is_io x) out.failed err.failed out'.failed before.failed) m counted;
+        answers = answers ∙ ap status_of m;
+        says = subst (λ x. SaidIf (line_of x) before err') m says;
+      }
+
+  pub ran : (report : Report) → Reports report got out'.bytes before.bytes → Counted (λ n. n) (λ n. n) (outcome_is_io report.outcome) out.failed err.failed out'.failed before.failed → status ≡ status_of report.outcome → SaidIf (line_of report.outcome) before err' → Ran got status out err out' err'
+  ran report h = reported report.outcome report.interp h
+
+-- what is answered for words that ask for a file
+
+module _ (asked : Option Request) (r : Request) (ws : List (Bor (List ℕ))) (file : Option (Bor (List ℕ))) (out err out' err' : Told) (asks : asked ≡ Some r) where
+  pub unread_file : (d : Bor (List ℕ)) → r.file < length ws → file ≡ None → out' ≡ out → Said (unread (slice_index_or (from_place ws r.file) 0 d).now) err err' → Answers asked (texts ws) (option_map (λ f. f.now) file) 5 out err out' err'
+  unread_file d l e h s = rw (asks, e) (refl, h, subst (λ name. Said (unread name) err err') (name_from d ws r.file l) s)
+
+  pub bad_file : (d : Bor (List ℕ)) (bytes : Bor (List ℕ)) → r.file < length ws → file ≡ Some bytes → (IsUtf8 bytes.now → ⊥) → out' ≡ out → Said (not_utf8 (slice_index_or (from_place ws r.file) 0 d).now) err err' → Answers asked (texts ws) (option_map (λ f. f.now) file) 5 out err out' err'
+  bad_file d bytes l e bad h s = rw (asks, e) (λ u. absurd (bad u), λ b. (refl, h, subst (λ name. Said (not_utf8 name) err err') (name_from d ws r.file l) s))
+
+  good_file : (bytes : Bor (List ℕ)) (status : ℕ) → file ≡ Some bytes → IsUtf8 bytes.now → Ran (run_with_args (joined (chars bytes.now)) (map (λ w. chars w.now) (from_place ws r.file)) out.bytes err.bytes r.budget) status out err out' err' → Answers asked (texts ws) (option_map (λ f. f.now) file) status out err out' err'
+  good_file bytes status e u ran = rw (asks, e) (λ v. subst (λ args. Ran (run_with_args (joined (chars bytes.now)) args out.bytes err.bytes r.budget) status out err out' err') (args_from ws r.file) ran, λ bad. absurd (bad u))
+
+  pub refused_file : (bytes : Bor (List ℕ)) (status : ℕ) → file ≡ Some bytes → IsUtf8 bytes.now → out' ≡ out → status ≡ status_of outcome.Memory → SaidIf (line_of outcome.Memory) err err' → Answers asked (texts ws) (option_map (λ f. f.now) file) status out err out' err'
+  refused_file bytes status e u same answers says = good_file bytes status e u (ran_nothing (joined (chars bytes.now)) (map (λ w. chars w.now) (from_place ws r.file)) r.budget status out err out' err' same answers says)
+
+  pub run_file : (bytes : Bor (List ℕ)) (script : List ℕ) (status : ℕ) (between before : Told) (report : Report) → file ≡ Some bytes → IsUtf8 bytes.now → script ≡ joined (chars bytes.now) → out' ≡ between → Reports report (run_with_args script (map (λ w. chars w.now) (from_place ws r.file)) out.bytes err.bytes r.budget) between.bytes before.bytes → Counted (λ n. n) (λ n. n) (outcome_is_io report.outcome) out.failed err.failed between.failed before.failed → status ≡ status_of report.outcome → SaidIf (line_of report.outcome) before err' → Answers asked (texts ws) (option_map (λ f. f.now) file) status out err out' err'
+  run_file bytes script status between before report e u is same h counted answers says =
+      let got = run_with_args script (map (λ w. chars w.now) (from_place ws r.file)) out.bytes err.bytes r.budget in
+      let whole = ran got status out err between before err' report h counted answers says in
+      good_file bytes status e u (subst (λ t. Ran (run_with_args t (map (λ w. chars w.now) (from_place ws r.file)) out.bytes err.bytes r.budget) status out err out' err') is (subst (λ o. Ran got status out err o err') (sym same) whole))
