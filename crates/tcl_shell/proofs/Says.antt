@@ -1,7 +1,7 @@
 -- Texts that go to an output one behind another.
 use Rattle.std.proofs.Common.{◌≡◌, ℕ, List, ◌++◌, Option, Some, None, Result, Ok, Err, OnOk, OnErr, refl, sym, ap, ◌∙◌, append_assoc, inl, inr}
-use Rattle.tcl_chan.specs.Devices.{put, one_more}
-use Rattle.tcl_chan.specs.Faults.{write_failures, write_failures_at}
+use Rattle.tcl_chan.specs.Devices.{put}
+use Rattle.tcl_chan.specs.Faults.{write_failures}
 use Rattle.tcl_chan.specs.Writing.{WroteFront}
 use Rattle.tcl_chan.specs.declared.fault.ChanFault.{ChanFault}
 use Rattle.tcl_chan.specs.declared.fault.ChanFault.TheVariants.{Write}

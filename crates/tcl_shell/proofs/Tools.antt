@@ -1,10 +1,9 @@
 -- What the program does, put together from the calls that it makes.
-use Rattle.std.proofs.Common.{◌≡◌, ℕ, ◌-◌, ◌<◌, ◌≤◌, suc, zero, Bool, true, false, List, [], ◌∷◌, length, take, drop, map, Option, Some, None, option_map, refl, sym, ap, subst, ◌∙◌, arith, Bor, slice_index_or}
+use Rattle.std.proofs.Common.{◌≡◌, ℕ, ◌-◌, ◌<◌, suc, zero, Bool, true, false, List, [], ◌∷◌, length, take, drop, map, Option, Some, None, option_map, refl, sym, ap, subst, ◌∙◌, arith, Bor, slice_index_or}
 use Rattle.std.specs.FinMap as finmap
 use Rattle.std.specs.Str.{chars, IsUtf8}
 use Rattle.std.proofs.lemmas.List.{length-drop}
 use Rattle.std.proofs.Math.Seq.{take-length}
-use Rattle.tcl_chars.specs.Place.{begins}
 use Rattle.tcl_meaning.specs.Beginnings.{state_of, OutputsBegin}
 use Rattle.tcl_meaning.specs.Completions.{Completion, normal}
 use Rattle.tcl_meaning.specs.Effects.{Got, Script}
@@ -21,34 +20,6 @@ use Rattle.tcl_interp.specs.declared.whole.Report.{Report}
 use Rattle.tcl_shell.specs.Lines.{Told, Said, SaidIf, unread, not_utf8}
 use Rattle.tcl_shell.specs.Program.{Ran, Answers, RunsFile, name_of, joined, status_of, line_of}
 use Rattle.tcl_shell.specs.declared.words.Request.{Request}
-
--- the words from a place on
-
-abbrev pub from_place : List (Bor (List ℕ)) → ℕ → List (Bor (List ℕ))
-from_place ws n = take (length ws - n) (drop n ws)
-
-abbrev pub texts : List (Bor (List ℕ)) → List (List ℕ)
-texts ws = map (λ w. w.now) ws
-
-from_is : (ws : List (Bor (List ℕ))) (n : ℕ) → from_place ws n ≡ drop n ws
-from_is ws n = ap (λ k. take k (drop n ws)) (sym (length-drop n ws)) ∙ take-length (drop n ws)
-
-name_is : (d : Bor (List ℕ)) (ws : List (Bor (List ℕ))) (n : ℕ) → n < length ws → (slice_index_or (drop n ws) 0 d).now ≡ name_of (drop n (texts ws))
-name_is d [] n l = absurd (omega (arith, l))
-name_is d (w ∷ ws) zero l = refl
-name_is d (w ∷ ws) (suc n) l = name_is d ws n (omega (arith, l))
-
-args_are : (ws : List (Bor (List ℕ))) (n : ℕ) → map (λ w. chars w.now) (drop n ws) ≡ map chars (drop n (texts ws))
-args_are [] zero = refl
-args_are [] (suc n) = refl
-args_are (w ∷ ws) zero = ap (λ l. chars w.now ∷ l) (args_are ws zero)
-args_are (w ∷ ws) (suc n) = args_are ws n
-
-name_from : (d : Bor (List ℕ)) (ws : List (Bor (List ℕ))) (n : ℕ) → n < length ws → (slice_index_or (from_place ws n) 0 d).now ≡ name_of (drop n (texts ws))
-name_from d ws n l = ap (λ l. (slice_index_or l 0 d).now) (from_is ws n) ∙ name_is d ws n l
-
-args_from : (ws : List (Bor (List ℕ))) (n : ℕ) → map (λ w. chars w.now) (from_place ws n) ≡ map chars (drop n (texts ws))
-args_from ws n = ap (λ l. map (λ w. chars w.now) l) (from_is ws n) ∙ args_are ws n
 
 -- a run that was refused memory before it began
 
@@ -95,23 +66,47 @@ module _ (got : Got Completion) (status : ℕ) (out err out' before err' : Told)
   pub ran : (report : Report) → Reports report got out'.bytes before.bytes → Counted (λ n. n) (λ n. n) (outcome_is_io report.outcome) out.failed err.failed out'.failed before.failed → status ≡ status_of report.outcome → SaidIf (line_of report.outcome) before err' → Ran got status out err out' err'
   ran report h = reported report.outcome report.interp h
 
+-- what is answered for a file and the words from its name on
+
+abbrev pub texts : List (Bor (List ℕ)) → List (List ℕ)
+texts ws = map (λ w. w.now) ws
+
+name_is : (d : Bor (List ℕ)) (ws : List (Bor (List ℕ))) → 0 < length ws → (slice_index_or ws 0 d).now ≡ name_of (texts ws)
+name_is d [] l = absurd (omega (arith, l))
+name_is d (w ∷ ws) l = refl
+
+args_are : (ws : List (Bor (List ℕ))) → map (λ w. chars w.now) ws ≡ map chars (texts ws)
+args_are [] = refl
+args_are (w ∷ ws) = ap (λ l. chars w.now ∷ l) (args_are ws)
+
+module _ (budget : ℕ) (ws : List (Bor (List ℕ))) (file : Option (Bor (List ℕ))) (out err out' err' : Told) where
+  pub unread_file : (d : Bor (List ℕ)) → 0 < length ws → file ≡ None → out' ≡ out → Said (unread (slice_index_or ws 0 d).now) err err' → RunsFile budget (texts ws) (option_map (λ f. f.now) file) 5 out err out' err'
+  unread_file d l e same says = rw e (refl, same, subst (λ name. Said (unread name) err err') (name_is d ws l) says)
+
+  pub bad_file : (d : Bor (List ℕ)) (bytes : Bor (List ℕ)) → 0 < length ws → file ≡ Some bytes → (IsUtf8 bytes.now → ⊥) → out' ≡ out → Said (not_utf8 (slice_index_or ws 0 d).now) err err' → RunsFile budget (texts ws) (option_map (λ f. f.now) file) 5 out err out' err'
+  bad_file d bytes l e bad same says = rw e (λ u. absurd (bad u), λ b. (refl, same, subst (λ name. Said (not_utf8 name) err err') (name_is d ws l) says))
+
+  good_file : (bytes : Bor (List ℕ)) (status : ℕ) → file ≡ Some bytes → IsUtf8 bytes.now → Ran (run_with_args (joined (chars bytes.now)) (map (λ w. chars w.now) ws) out.bytes err.bytes budget) status out err out' err' → RunsFile budget (texts ws) (option_map (λ f. f.now) file) status out err out' err'
+  good_file bytes status e u ran = rw e (λ v. subst (λ args. Ran (run_with_args (joined (chars bytes.now)) args out.bytes err.bytes budget) status out err out' err') (args_are ws) ran, λ bad. absurd (bad u))
+
+  pub refused_file : (bytes : Bor (List ℕ)) (status : ℕ) → file ≡ Some bytes → IsUtf8 bytes.now → out' ≡ out → status ≡ status_of outcome.Memory → SaidIf (line_of outcome.Memory) err err' → RunsFile budget (texts ws) (option_map (λ f. f.now) file) status out err out' err'
+  refused_file bytes status e u same answers says = good_file bytes status e u (ran_nothing (joined (chars bytes.now)) (map (λ w. chars w.now) ws) budget status out err out' err' same answers says)
+
+  pub read_file : (bytes : Bor (List ℕ)) (script : List ℕ) (status : ℕ) (between before : Told) (report : Report) → file ≡ Some bytes → IsUtf8 bytes.now → script ≡ joined (chars bytes.now) → out' ≡ between → Reports report (run_with_args script (map (λ w. chars w.now) ws) out.bytes err.bytes budget) between.bytes before.bytes → Counted (λ n. n) (λ n. n) (outcome_is_io report.outcome) out.failed err.failed between.failed before.failed → status ≡ status_of report.outcome → SaidIf (line_of report.outcome) before err' → RunsFile budget (texts ws) (option_map (λ f. f.now) file) status out err out' err'
+  read_file bytes script status between before report e u is same h counted answers says =
+      let got = run_with_args script (map (λ w. chars w.now) ws) out.bytes err.bytes budget in
+      let whole = ran got status out err between before err' report h counted answers says in
+      good_file bytes status e u (subst (λ t. Ran (run_with_args t (map (λ w. chars w.now) ws) out.bytes err.bytes budget) status out err out' err') is (subst (λ o. Ran got status out err o err') (sym same) whole))
+
 -- what is answered for words that ask for a file
 
-module _ (asked : Option Request) (r : Request) (ws : List (Bor (List ℕ))) (file : Option (Bor (List ℕ))) (out err out' err' : Told) (asks : asked ≡ Some r) where
-  pub unread_file : (d : Bor (List ℕ)) → r.file < length ws → file ≡ None → out' ≡ out → Said (unread (slice_index_or (from_place ws r.file) 0 d).now) err err' → Answers asked (texts ws) (option_map (λ f. f.now) file) 5 out err out' err'
-  unread_file d l e h s = rw (asks, e) (refl, h, subst (λ name. Said (unread name) err err') (name_from d ws r.file l) s)
+from_place : (ws : List (Bor (List ℕ))) (n : ℕ) → texts (take (length ws - n) (drop n ws)) ≡ drop n (texts ws)
+from_place ws n = ap texts (ap (λ k. take k (drop n ws)) (sym (length-drop n ws)) ∙ take-length (drop n ws)) ∙ behind ws n
+  where
+    behind : (ws : List (Bor (List ℕ))) (n : ℕ) → texts (drop n ws) ≡ drop n (texts ws)
+    behind ws zero = refl
+    behind [] (suc n) = refl
+    behind (w ∷ ws) (suc n) = behind ws n
 
-  pub bad_file : (d : Bor (List ℕ)) (bytes : Bor (List ℕ)) → r.file < length ws → file ≡ Some bytes → (IsUtf8 bytes.now → ⊥) → out' ≡ out → Said (not_utf8 (slice_index_or (from_place ws r.file) 0 d).now) err err' → Answers asked (texts ws) (option_map (λ f. f.now) file) 5 out err out' err'
-  bad_file d bytes l e bad h s = rw (asks, e) (λ u. absurd (bad u), λ b. (refl, h, subst (λ name. Said (not_utf8 name) err err') (name_from d ws r.file l) s))
-
-  good_file : (bytes : Bor (List ℕ)) (status : ℕ) → file ≡ Some bytes → IsUtf8 bytes.now → Ran (run_with_args (joined (chars bytes.now)) (map (λ w. chars w.now) (from_place ws r.file)) out.bytes err.bytes r.budget) status out err out' err' → Answers asked (texts ws) (option_map (λ f. f.now) file) status out err out' err'
-  good_file bytes status e u ran = rw (asks, e) (λ v. subst (λ args. Ran (run_with_args (joined (chars bytes.now)) args out.bytes err.bytes r.budget) status out err out' err') (args_from ws r.file) ran, λ bad. absurd (bad u))
-
-  pub refused_file : (bytes : Bor (List ℕ)) (status : ℕ) → file ≡ Some bytes → IsUtf8 bytes.now → out' ≡ out → status ≡ status_of outcome.Memory → SaidIf (line_of outcome.Memory) err err' → Answers asked (texts ws) (option_map (λ f. f.now) file) status out err out' err'
-  refused_file bytes status e u same answers says = good_file bytes status e u (ran_nothing (joined (chars bytes.now)) (map (λ w. chars w.now) (from_place ws r.file)) r.budget status out err out' err' same answers says)
-
-  pub run_file : (bytes : Bor (List ℕ)) (script : List ℕ) (status : ℕ) (between before : Told) (report : Report) → file ≡ Some bytes → IsUtf8 bytes.now → script ≡ joined (chars bytes.now) → out' ≡ between → Reports report (run_with_args script (map (λ w. chars w.now) (from_place ws r.file)) out.bytes err.bytes r.budget) between.bytes before.bytes → Counted (λ n. n) (λ n. n) (outcome_is_io report.outcome) out.failed err.failed between.failed before.failed → status ≡ status_of report.outcome → SaidIf (line_of report.outcome) before err' → Answers asked (texts ws) (option_map (λ f. f.now) file) status out err out' err'
-  run_file bytes script status between before report e u is same h counted answers says =
-      let got = run_with_args script (map (λ w. chars w.now) (from_place ws r.file)) out.bytes err.bytes r.budget in
-      let whole = ran got status out err between before err' report h counted answers says in
-      good_file bytes status e u (subst (λ t. Ran (run_with_args t (map (λ w. chars w.now) (from_place ws r.file)) out.bytes err.bytes r.budget) status out err out' err') is (subst (λ o. Ran got status out err o err') (sym same) whole))
+pub answered : (asked : Option Request) (r : Request) (ws : List (Bor (List ℕ))) (file : Option (List ℕ)) (status : ℕ) (out err out' err' : Told) → asked ≡ Some r → RunsFile r.budget (texts (take (length ws - r.file) (drop r.file ws))) file status out err out' err' → Answers asked (texts ws) file status out err out' err'
+answered asked r ws file status out err out' err' e h = rw e (subst (λ words. RunsFile r.budget words file status out err out' err') (from_place ws r.file) h)

@@ -1,9 +1,9 @@
 //! The program over devices.
-ghost use Rattle.std.specs.Prelude.{◌≡◌, map, option_map, IfOk};
+ghost use Rattle.std.specs.Prelude.{◌≡◌, ◌<◌, length, map, option_map, IfOk};
 ghost use Rattle.std.specs.Str.{chars};
 ghost use Rattle.std.specs.String.{string_bytes};
 ghost use Rattle.tcl_shell.specs.Lines.{told, SaidIf};
-ghost use Rattle.tcl_shell.specs.Program.{Answers, ends_line, joined, line_of, status_of};
+ghost use Rattle.tcl_shell.specs.Program.{Answers, RunsFile, ends_line, joined, line_of, status_of};
 ghost use Rattle.tcl_shell.specs.Words.{request_of};
 
 use crate::lines::{Line, say};
@@ -69,6 +69,44 @@ fn tell<R: Input, W: Output, E: Output>(
     }
 }
 
+// Runs the file that the first of the words names, if it could be read, with these words and a budget.
+fn run_file<R: Input, W: Output, E: Output>(
+    alloc: Global,
+    words: &[&str],
+    file: Option<&[u8]>,
+    reader: &mut R,
+    out: &mut W,
+    err: &mut E,
+    budget: u64,
+) -> u8
+    requires { 0 < length words.now }
+    ensures { RunsFile budget (map (λ word. word.now) words.now) (option_map (λ bytes. bytes.now) file.entry) result
+        (told W.written W.failed_calls out.old) (told E.written E.failed_calls err.old) (told W.written W.failed_calls out.new) (told E.written E.failed_calls err.new) }
+{
+    let name = words[0];
+    let Some(bytes) = file else {
+        say(alloc, reader, out, err, Line::Unread(name));
+        return 5;
+    };
+    let Ok(text) = str::from_utf8(bytes) else {
+        say(alloc, reader, out, err, Line::NotUtf8(name));
+        return 5;
+    };
+    let Ok(script) = joined_lines(alloc, text) else {
+        return tell(alloc, reader, out, err, Outcome::Memory);
+    };
+    let Report { outcome, interp: _ } = run(
+        alloc,
+        script.as_str(),
+        words,
+        reader,
+        out,
+        err,
+        budget,
+    );
+    tell(alloc, reader, out, err, outcome)
+}
+
 /// Runs the program for its words, its own name not among them, over the bytes of its file, or `None` where the file
 /// couldn't be read. The answer is the status: 0 done, 1 the script's error, 2 the budget is spent, 3 out of memory,
 /// 4 a read or a write failed, 5 the usage or the file is wrong, or what `exit` was given. But for 0 and `exit`, a line
@@ -88,27 +126,6 @@ pub fn tool<R: Input, W: Output, E: Output>(
         say(alloc, reader, out, err, Line::Usage);
         return 5;
     };
-    let args = &words[request.file..];
-    let name = args[0];
-    let Some(bytes) = file else {
-        say(alloc, reader, out, err, Line::Unread(name));
-        return 5;
-    };
-    let Ok(text) = str::from_utf8(bytes) else {
-        say(alloc, reader, out, err, Line::NotUtf8(name));
-        return 5;
-    };
-    let Ok(script) = joined_lines(alloc, text) else {
-        return tell(alloc, reader, out, err, Outcome::Memory);
-    };
-    let Report { outcome, interp: _ } = run(
-        alloc,
-        script.as_str(),
-        args,
-        reader,
-        out,
-        err,
-        request.budget,
-    );
-    tell(alloc, reader, out, err, outcome)
+    let from_file = &words[request.file..];
+    run_file(alloc, from_file, file, reader, out, err, request.budget)
 }

@@ -1,5 +1,4 @@
 use Rattle.std.specs.Prelude.{codes}
-use Rattle.std.specs.Str.{chars}
 use Rattle.std.proofs.Common.{refl}
 use Rattle.tcl_chars.proofs.Same.{eq_of_views}
 use Rattle.tcl_shell.proofs.Texts.{budget_text, budget_utf8}
