@@ -9,3 +9,4 @@ pub mod Readers
 pub mod Worlds
 pub mod Memories
 pub mod Wrappers
+pub mod Streams

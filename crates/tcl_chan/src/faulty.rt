@@ -1,5 +1,5 @@
 //! Devices of which a chosen call fails.
-ghost use Rattle.std.specs.Prelude.{◌≡◌, ◌≤◌, ◌<◌, ◌-◌, ◌↔◌, length, IfOk, IsErr, IsTrue};
+ghost use Rattle.std.specs.Prelude.{◌≡◌, ◌≢◌, ◌≤◌, ◌<◌, ◌-◌, ◌↔◌, length, IfOk, IsErr, IsTrue};
 ghost use Rattle.tcl_chan.specs.Devices.{Reads, EndsAt, Writes, failures_after};
 
 use crate::device::{Broken, Input, Output};
@@ -57,7 +57,7 @@ impl<D> FaultyInput<D> {
 }
 
 impl<D: Input> Input for FaultyInput<D> {
-    ghost use Rattle.tcl_chan.specs.Wrappers.{faulty_input_inner, read_fault, input_failures};
+    ghost use Rattle.tcl_chan.specs.Wrappers.{faulty_input_inner, read_fault, own_read_failures, input_failures};
 
     ghost to_come = { λ device. D.to_come (faulty_input_inner device) };
 
@@ -69,8 +69,10 @@ impl<D: Input> Input for FaultyInput<D> {
         ensures end { EndsAt (D.to_come (faulty_input_inner self.old)) (length buffer.old) result }
         ensures failures { input_failures D.failed_calls self.new ≡ failures_after (input_failures D.failed_calls self.old) result }
 
-        // The call whose turn it is fails.
+        // The call whose turn it is fails and reaches nothing; any other passes on.
         ensures fault { read_fault self.old ≡ 1 → IsErr result }
+        ensures untouched { read_fault self.old ≡ 1 → faulty_input_inner self.new ≡ faulty_input_inner self.old }
+        ensures passes { read_fault self.old ≢ 1 → own_read_failures self.new ≡ own_read_failures self.old }
         ensures next { read_fault self.new ≡ read_fault self.old - 1 }
     {
         if self.fault.is_now() {
@@ -122,7 +124,7 @@ impl<D> FaultyOutput<D> {
 }
 
 impl<D: Output> Output for FaultyOutput<D> {
-    ghost use Rattle.tcl_chan.specs.Wrappers.{faulty_output_inner, write_fault, flush_fault, output_failures};
+    ghost use Rattle.tcl_chan.specs.Wrappers.{faulty_output_inner, write_fault, flush_fault, own_failures, output_failures};
 
     ghost written = { λ device. D.written (faulty_output_inner device) };
 
@@ -134,8 +136,10 @@ impl<D: Output> Output for FaultyOutput<D> {
         ensures bytes { Writes (D.written (faulty_output_inner self.old)) (D.written (faulty_output_inner self.new)) bytes.now result }
         ensures failures { output_failures D.failed_calls self.new ≡ failures_after (output_failures D.failed_calls self.old) result }
 
-        // The call whose turn it is fails.
+        // The call whose turn it is fails and reaches nothing; any other passes on.
         ensures fault { write_fault self.old ≡ 1 → IsErr result }
+        ensures untouched { write_fault self.old ≡ 1 → faulty_output_inner self.new ≡ faulty_output_inner self.old }
+        ensures passes { write_fault self.old ≢ 1 → own_failures self.new ≡ own_failures self.old }
         ensures next { write_fault self.new ≡ write_fault self.old - 1 }
         ensures other { flush_fault self.new ≡ flush_fault self.old }
     {
@@ -150,8 +154,10 @@ impl<D: Output> Output for FaultyOutput<D> {
         ensures bytes { D.written (faulty_output_inner self.new) ≡ D.written (faulty_output_inner self.old) }
         ensures failures { output_failures D.failed_calls self.new ≡ failures_after (output_failures D.failed_calls self.old) result }
 
-        // The call whose turn it is fails.
+        // The call whose turn it is fails and reaches nothing; any other passes on.
         ensures fault { flush_fault self.old ≡ 1 → IsErr result }
+        ensures untouched { flush_fault self.old ≡ 1 → faulty_output_inner self.new ≡ faulty_output_inner self.old }
+        ensures passes { flush_fault self.old ≢ 1 → own_failures self.new ≡ own_failures self.old }
         ensures next { flush_fault self.new ≡ flush_fault self.old - 1 }
         ensures other { write_fault self.new ≡ write_fault self.old }
     {

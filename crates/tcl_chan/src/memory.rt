@@ -1,6 +1,6 @@
 //! Devices over memory.
-ghost use Rattle.std.specs.Prelude.{◌≡◌, ◌≤◌, ◌<◌, ◌+◌, ◌↔◌, Some, [], length, IsOk, IfOk, vec_len, vec_capacity};
-ghost use Rattle.tcl_chan.specs.Devices.{Writes, failures_after};
+ghost use Rattle.std.specs.Prelude.{◌≡◌, ◌≤◌, ◌<◌, ◌+◌, ◌↔◌, Ok, Some, [], length, min, IsOk, IfOk, vec_len, vec_capacity};
+ghost use Rattle.tcl_chan.specs.Devices.{Reads, EndsAt, Writes, failures_after};
 
 use crate::device::{Broken, Input, Output};
 use std::alloc::{AllocError, Global};
@@ -23,11 +23,21 @@ impl<'a> MemoryInput<'a> {
 }
 
 impl Input for MemoryInput<'_> {
-    ghost to_come = { λ device. Some device.bytes.now };
+    ghost use Rattle.tcl_chan.specs.Memories.{bytes_left};
+
+    ghost to_come = { λ device. Some (bytes_left device) };
 
     ghost failed_calls = { λ device. 0 };
 
-    fn read(&mut self, buffer: &mut [u8]) -> Result<usize, Broken> {
+    fn read(&mut self, buffer: &mut [u8]) -> Result<usize, Broken>
+        ensures within { IfOk result (λ n. n ≤ length buffer.old) }
+        ensures bytes { Reads (Some (bytes_left self.old)) (Some (bytes_left self.new)) buffer.new result }
+        ensures end { EndsAt (Some (bytes_left self.old)) (length buffer.old) result }
+        ensures failures { 0 ≡ failures_after 0 result }
+
+        // It gives all that the buffer has room for.
+        ensures whole { result ≡ Ok (min (length buffer.old) (length (bytes_left self.old))) }
+    {
         let size = buffer.len().min(self.bytes.len());
         let (front, rest) = self.bytes.split_at(size);
         buffer[..size].copy_from_slice(front);
@@ -102,7 +112,14 @@ impl Output for MemoryOutput {
         Ok(bytes.len())
     }
 
-    fn flush(&mut self) -> Result<(), Broken> {
+    fn flush(&mut self) -> Result<(), Broken>
+        ensures bytes { Some (bytes_of self.new) ≡ Some (bytes_of self.old) }
+        ensures failures { failures_of self.new ≡ failures_after (failures_of self.old) result }
+
+        // It never fails, and changes nothing.
+        ensures done { IsOk result }
+        ensures same { self.new ≡ self.old }
+    {
         Ok(())
     }
 

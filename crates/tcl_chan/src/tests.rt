@@ -1,4 +1,5 @@
 mod callers;
+mod cuts;
 mod devices;
 mod input;
 mod output;

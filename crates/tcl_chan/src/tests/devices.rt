@@ -4,6 +4,7 @@ use crate::faulty::{FaultyInput, FaultyOutput};
 use crate::memory::{MemoryInput, MemoryOutput};
 use crate::pieces::OneByte;
 use crate::standard::{StandardInput, StandardOutput};
+use std::io::{self, ErrorKind, Read, Write};
 use std::test::Fail;
 
 #[test]
@@ -36,8 +37,16 @@ fn one_byte_a_call(rt: HostRuntime) -> Result<(), Fail> {
     assert_eq!(rt; output.flush(), Ok(()));
     assert_eq!(rt; output.failures(), 1);
     assert_eq!(rt; output.inner().bytes(), b"xy".as_slice());
-    let mut failing = OneByte::new(FaultyOutput::new(output, 0, 1));
-    assert_eq!(rt; failing.flush(), Err(Broken));
+    Ok(())
+}
+
+#[test]
+fn a_flush_is_passed_on(rt: HostRuntime) -> Result<(), Fail> {
+    let inner = FaultyOutput::new(MemoryOutput::new(rt.alloc(), 0)?, 0, 1);
+    let mut output = OneByte::new(FaultyOutput::new(inner, 0, 0));
+    assert_eq!(rt; output.flush(), Err(Broken));
+    assert_eq!(rt; output.flush(), Ok(()));
+    assert_eq!(rt; output.failures(), 1);
     Ok(())
 }
 
@@ -67,13 +76,50 @@ fn standard_streams(rt: HostRuntime) {
     let mut input = StandardInput::new(rt.stdin());
     assert_eq!(rt; input.read(&mut []), Ok(0));
     assert_eq!(rt; input.failures(), 0);
-    for mut output in [
-        StandardOutput::stdout(rt.stdout()),
-        StandardOutput::stderr(rt.stderr()),
-    ] {
-        assert_eq!(rt; output.write(b"ab"), Ok(2));
-        assert_eq!(rt; output.write(b""), Ok(0));
-        assert_eq!(rt; output.flush(), Ok(()));
-        assert_eq!(rt; output.failures(), 0);
+    let mut output = StandardOutput::stdout(rt.stdout());
+    assert_eq!(rt; output.write(b"ab"), Ok(2));
+    assert_eq!(rt; output.write(b""), Ok(0));
+    assert_eq!(rt; output.flush(), Ok(()));
+    assert_eq!(rt; output.failures(), 0);
+    let mut errors = StandardOutput::stderr(rt.stderr());
+    assert_eq!(rt; errors.write(b"cd"), Ok(2));
+    assert_eq!(rt; errors.flush(), Ok(()));
+    assert_eq!(rt; errors.failures(), 0);
+}
+
+/// A stream of which every call is interrupted.
+#[derive(Drop)]
+struct Interrupted;
+
+impl Read for Interrupted {
+    fn read(&mut self, _: &mut [u8]) -> io::Result<usize> {
+        Err(io::Error::from(ErrorKind::Interrupted))
     }
+}
+
+impl Write for Interrupted {
+    fn write(&mut self, _: &[u8]) -> io::Result<usize> {
+        Err(io::Error::from(ErrorKind::Interrupted))
+    }
+
+    fn flush(&mut self) -> io::Result<()> {
+        Err(io::Error::from(ErrorKind::Interrupted))
+    }
+}
+
+#[test]
+fn streams_that_fail(rt: HostRuntime) {
+    let mut input = StandardInput::new(Interrupted);
+    assert_eq!(rt; input.read(&mut [0; 2]), Err(Broken));
+    assert_eq!(rt; input.failures(), 1);
+    let mut output = StandardOutput::over(Interrupted);
+    assert_eq!(rt; output.write(b"a"), Err(Broken));
+    assert_eq!(rt; output.flush(), Err(Broken));
+    assert_eq!(rt; output.failures(), 2);
+    let mut room = [0; 1];
+    let mut full = StandardOutput::over(room.as_mut_slice());
+    assert_eq!(rt; full.write(b"ab"), Ok(1));
+    assert_eq!(rt; full.write(b"b"), Err(Broken));
+    assert_eq!(rt; full.failures(), 1);
+    assert_eq!(rt; full.write(b""), Ok(0));
 }

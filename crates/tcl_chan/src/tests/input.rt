@@ -1,10 +1,11 @@
-//! Rows of input: the bytes, and what the calls answer, over a device that gives all it has and over one that gives a
-//! byte a call.
+//! Rows of input: the bytes, and what the calls answer, over a device that gives all it has, over one that gives a byte a
+//! call, and over those that cut at one place.
 use crate::device::Input;
 use crate::fault::ChanFault;
 use crate::faulty::FaultyInput;
 use crate::memory::{MemoryInput, MemoryOutput};
 use crate::pieces::OneByte;
+use crate::tests::cuts::{CutInput, Resuming};
 use crate::world::World;
 use std::alloc::Global;
 use std::rc::RcStr;
@@ -30,7 +31,7 @@ fn lines<R: Input>(alloc: Global, input: &mut R) -> Result<String, ChanFault> {
 #[test]
 fn lines_of_rows(rt: HostRuntime) -> Result<(), Fail> {
     let alloc = rt.alloc();
-    let rows: [(&[u8], &str); 13] = [
+    let rows: [(&[u8], &str); 17] = [
         (b"a\r\nb", "a;b!none!none!"),
         (b"\xFF\n", "\u{FFFD};none!none!none!"),
         (
@@ -40,6 +41,10 @@ fn lines_of_rows(rt: HostRuntime) -> Result<(), Fail> {
         (b"a\r", "a\r!none!none!none!"),
         (b"a\r\r\nb\n", "a\r;b;none!none!"),
         (b"\ra\n", "\ra;none!none!none!"),
+        (b"\r", "\r!none!none!none!"),
+        (b"\xE2\x82\xAC\r\n", "\u{20AC};none!none!none!"),
+        (b"\xE2\n\xE2\x82\n", "\u{FFFD};\u{FFFD};none!none!"),
+        (b"\xF0\x80\x80", "\u{FFFD}\u{FFFD}\u{FFFD}!none!none!none!"),
         (b"\r\n\r\n\n", ";;;none!"),
         (b"\xE2\x82", "\u{FFFD}!none!none!none!"),
         (
@@ -56,6 +61,11 @@ fn lines_of_rows(rt: HostRuntime) -> Result<(), Fail> {
         assert_eq!(rt; whole.as_str(), want, "read whole");
         let cut = lines(alloc, &mut OneByte::new(MemoryInput::new(bytes)))?;
         assert_eq!(rt; cut.as_str(), want, "read in bytes");
+        for front in 1..bytes.len() {
+            let inner = MemoryInput::new(bytes);
+            let cut = lines(alloc, &mut CutInput { inner, front })?;
+            assert_eq!(rt; cut.as_str(), want, "cut at {front}");
+        }
     }
     Ok(())
 }
@@ -80,7 +90,7 @@ fn texts<R: Input>(
 #[test]
 fn texts_of_rows(rt: HostRuntime) -> Result<(), Fail> {
     let alloc = rt.alloc();
-    let rows: [(&[u8], [Option<u64>; 3], &str); 10] = [
+    let rows: [(&[u8], [Option<u64>; 3], &str); 15] = [
         (b"abcd", [Some(3), Some(0), Some(9)], "abc;;d!"),
         (b"abcd", [Some(9), None, Some(0)], "abcd!!!"),
         (b"abcd", [Some(4), Some(0), Some(1)], "abcd;;!"),
@@ -96,6 +106,15 @@ fn texts_of_rows(rt: HostRuntime) -> Result<(), Fail> {
             "a\nb;\r\n;c\r!",
         ),
         (b"\r\n\r\n", [Some(1), Some(1), Some(1)], "\n;\n;!"),
+        (b"\r\r\n", [Some(1), Some(1), Some(1)], "\r;\n;!"),
+        (b"a\rb", [Some(2), None, None], "a\r;b!!"),
+        (b"\xE2\x82\xAC", [Some(1), Some(1), None], "\u{20AC};!!"),
+        (b"\xE2\x82", [Some(1), Some(1), None], "\u{FFFD};!!"),
+        (
+            b"\xF0\x80\x80",
+            [Some(2), Some(9), None],
+            "\u{FFFD}\u{FFFD};\u{FFFD}!!",
+        ),
         (
             b"\xF0\x9F\x98\x80\xF0\x9F\x98",
             [Some(1), Some(1), Some(1)],
@@ -113,7 +132,23 @@ fn texts_of_rows(rt: HostRuntime) -> Result<(), Fail> {
         assert_eq!(rt; whole.as_str(), want, "read whole");
         let cut = texts(alloc, &mut OneByte::new(MemoryInput::new(bytes)), counts)?;
         assert_eq!(rt; cut.as_str(), want, "read in bytes");
+        for front in 1..bytes.len() {
+            let inner = MemoryInput::new(bytes);
+            let cut = texts(alloc, &mut CutInput { inner, front }, counts)?;
+            assert_eq!(rt; cut.as_str(), want, "cut at {front}");
+        }
     }
+    Ok(())
+}
+
+#[test]
+fn the_first_end_is_the_end(rt: HostRuntime) -> Result<(), Fail> {
+    let alloc = rt.alloc();
+    let read = lines(alloc, &mut Resuming { at_end: false })?;
+    assert_eq!(rt; read.as_str(), "x!none!none!none!");
+    let counts = [Some(2), Some(1), None];
+    let read = texts(alloc, &mut Resuming { at_end: false }, counts)?;
+    assert_eq!(rt; read.as_str(), "x!!!");
     Ok(())
 }
 
