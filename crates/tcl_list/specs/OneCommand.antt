@@ -6,7 +6,7 @@ use Rattle.tcl_words.specs.First.{command, first}
 use Rattle.tcl_words.specs.Parts.{Part, text, escape, var, elem_, bracket, Shape}
 use Rattle.tcl_words.specs.Words.{after_command}
 
--- what pieces say by themselves: none of them is a variable or a bracket
+-- what pieces say by themselves; nothing where a variable or a bracket is among them
 abbrev pub plain_value : List Part → Option (List ℕ)
 plain_value [] = Some []
 plain_value (text s ∷ ps) = option_map (λ t. s.text ++ t) (plain_value ps)
@@ -27,16 +27,17 @@ AreWords (w ∷ ws) (e ∷ es) = IsWord w e × AreWords ws es
 AreWords [] (e ∷ es) = ⊥
 AreWords (w ∷ ws) [] = ⊥
 
--- the end of the text, a newline or a semicolon follows, or inside brackets `]`
+-- a command ends here: at the end of the text, a newline or a semicolon, or inside brackets `]`
 abbrev pub ends_command : Bool → List ℕ → Bool
 ends_command nested [] = true
 ends_command nested (c ∷ cs) = c == newline || c == semicolon || (nested && c == close_bracket)
 
--- A written list is one command whose words are its elements: alone, and where the end of a command follows it.
+-- What is written of one element or more is one command, whose words are the elements, inside brackets or not.
 abbrev pub OneCommand : Type 0
 OneCommand = (size levels : ℕ) (nested : Bool) (e : List ℕ) (es : List (List ℕ)) →
     (words : List Shape) × (first size levels nested (written (e ∷ es)) ≡ command words []) × AreWords words (e ∷ es)
 
+-- So it is where the end of a command follows it.
 abbrev pub NextCommand : Type 0
 NextCommand = (size levels : ℕ) (nested : Bool) (e : List ℕ) (es : List (List ℕ)) (rest : List ℕ) → ends_command nested rest ≡ true →
     (words : List Shape) × (first size levels nested (written (e ∷ es) ++ rest) ≡ command words (after_command rest)) × AreWords words (e ∷ es)

@@ -32,7 +32,7 @@ pub fn one_command()
     ensures { OneCommand }
 {}
 
-/// It is the next command where a command's end follows it, also inside brackets.
+/// So it is where a command's end follows it, also inside brackets.
 pub fn next_command()
     ensures { NextCommand }
 {}
