@@ -54,10 +54,10 @@ one_longer a b e c None j h = absurd cc
 one_longer a b e c (Some t) j h = let same : a ++ t ≡ e = cc in ap (λ x. Some (x ++ t)) j ∙ ap (λ x. Some (c ∷ x)) same
 
 -- what pieces are read, and what they say
-pub record Says (r : Result (List Part × List ℕ) Syntax) (e rest : List ℕ) : Type 0 where
-  pub pieces : List Part
-  pub read : r ≡ Ok (pieces, rest)
-  pub value : plain_value pieces ≡ Some e
+record Says (r : Result (List Part × List ℕ) Syntax) (e rest : List ℕ) : Type 0 where
+  pieces : List Part
+  read : r ≡ Ok (pieces, rest)
+  value : plain_value pieces ≡ Some e
 
 longer_text : (s t : Stretch) (c : ℕ) (q : Result (List Part × List ℕ) Syntax) (e rest : List ℕ) → t.text ≡ c ∷ s.text → Says (with_front (text s ∷ []) q) e rest
     → Says (with_front (text t ∷ []) q) (c ∷ e) rest

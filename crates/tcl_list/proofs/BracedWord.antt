@@ -64,7 +64,7 @@ at_end e rest h = same_brace false 0 (e ++ close_brace ∷ rest) ∙ ap or_missi
 
 -- ---- what stands inside
 
-or_no : (a b : Bool) → (a || b) ≡ false → (a ≡ false) × (b ≡ false)
+pub or_no : (a b : Bool) → (a || b) ≡ false → (a ≡ false) × (b ≡ false)
 or_no true b h = absurd (true≢false h)
 or_no false b h = (refl, h)
 
@@ -87,10 +87,10 @@ not_hidden : (c : ℕ) (cs : List ℕ) → is_continued (c ∷ cs) ≡ false →
 not_hidden c cs h = (or_no _ (is_continued cs) h).0
 
 -- what a word's pieces are read as, and what they say
-pub record Inside (size : ℕ) (e : List ℕ) : Type 0 where
-  pub pieces : List Part
-  pub read : all_turns (verbatim_at size) e ≡ Ok (pieces, [])
-  pub value : plain_value pieces ≡ Some e
+record Inside (size : ℕ) (e : List ℕ) : Type 0 where
+  pieces : List Part
+  read : all_turns (verbatim_at size) e ≡ Ok (pieces, [])
+  value : plain_value pieces ≡ Some e
 
 inside : (size : ℕ) (e : List ℕ) → is_continued e ≡ false → Inside size e
 unfolding verbatim_at

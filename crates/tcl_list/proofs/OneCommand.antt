@@ -12,7 +12,7 @@ use Rattle.tcl_list.specs.Braces.{is_balanced}
 use Rattle.tcl_list.specs.OneCommand.{AreWords, ends_command, OneCommand, NextCommand}
 use Rattle.tcl_list.specs.Written.{is_special, is_plain, is_continued, is_comment, form_of, behind_backslash, backslashed, all_escaped, spelled, written_element, appended, written_behind, written}
 use Rattle.tcl_list.proofs.BareWord.{backslash_no_end, bare_word, sign_word, starts}
-use Rattle.tcl_list.proofs.BracedWord.{Word, braced_word}
+use Rattle.tcl_list.proofs.BracedWord.{Word, braced_word, or_no}
 use Rattle.tcl_words.specs.declared.fault.Syntax.{Syntax}
 use Rattle.tcl_words.specs.First.{command, first}
 use Rattle.tcl_words.specs.Parts.{Shape}
@@ -22,10 +22,6 @@ use Rattle.tcl_words.proofs.Ends.{forward_shrinks}
 use Rattle.tcl_words.proofs.Forward.{inner_inside, word_forward}
 
 -- ---- blanks
-
-or_no : (a b : Bool) → (a || b) ≡ false → (a ≡ false) × (b ≡ false)
-or_no true b h = absurd (true≢false h)
-or_no false b h = (refl, h)
 
 -- what does not end a word
 record Solid (c : ℕ) (cs : List ℕ) : Type 0 where
