@@ -1,3 +1,5 @@
+pub mod BareWord
+pub mod BracedWord
 pub mod Calls
 pub mod Closer
 pub mod Closing
@@ -8,6 +10,7 @@ pub mod Forward
 pub mod Joining
 pub mod Lists
 pub mod Messages
+pub mod OneCommand
 pub mod OneList
 pub mod Parts
 pub mod Sound

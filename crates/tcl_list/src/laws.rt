@@ -1,5 +1,6 @@
 //! Laws of the definitions: each function's contract is one, and its body does nothing.
 ghost use Rattle.tcl_list.specs.Laws.{ReadingIsSpelling, FaultIsFirst, OneReading, ReadingOrFault, WrittenIsSpelled};
+ghost use Rattle.tcl_list.specs.OneCommand.{NextCommand, OneCommand};
 
 /// A text reads as the elements that it spells, and as no other.
 pub fn reading_is_spelling()
@@ -24,4 +25,14 @@ pub fn reading_or_fault()
 /// What is written spells the elements that were written.
 pub fn written_is_spelled()
     ensures { WrittenIsSpelled }
+{}
+
+/// What is written of one element or more is one command, whose words are these elements.
+pub fn one_command()
+    ensures { OneCommand }
+{}
+
+/// So it is where a command's end follows it, also inside brackets.
+pub fn next_command()
+    ensures { NextCommand }
 {}

@@ -1,4 +1,4 @@
-use Rattle.std.proofs.Common.{ap, sym, ◌∙◌, ◌++◌, [], map as each}
+use Rattle.std.proofs.Common.{ap, sym, ◌∙◌, ◌++◌, map as each}
 use Rattle.std.proofs.lemmas.List.{append-nil}
 use Rattle.std.specs.FinMap as map
 use Rattle.tcl_names.specs.Named.{text_of, by_text}
