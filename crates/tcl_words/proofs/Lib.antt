@@ -4,7 +4,14 @@ pub mod BracketedKinds
 pub mod BracketedTurns
 pub mod Ends
 pub mod Forward
+pub mod Fronts
 pub mod Levels
+pub mod Longer
+pub mod LongerEscapes
+pub mod LongerKinds
+pub mod LongerPieces
+pub mod LongerTurns
+pub mod LongerWords
 pub mod Placed
 pub mod Scans
 pub mod Single

@@ -97,10 +97,10 @@ inside_text size cs =
     (λ x t e. tiles_text size cs x.0 x.1 t ∙ ap (λ r. texts x.0 ++ r) e ∙ append-nil (texts x.0))
 
 -- the text between its marks, the mark at its end, and what is left
-abbrev Between : ℕ → List ℕ → List Part → List ℕ → Type 0
+abbrev pub Between : ℕ → List ℕ → List Part → List ℕ → Type 0
 Between close cs ps rest = cs ≡ texts ps ++ close ∷ rest
 
-braced_text : (size : ℕ) (cs : List ℕ) → IfOk (braced_at size cs) (λ x. Between close_brace (tail cs) x.0 x.1)
+pub braced_text : (size : ℕ) (cs : List ℕ) → IfOk (braced_at size cs) (λ x. Between close_brace (tail cs) x.0 x.1)
 unfolding braced_at
 braced_text size cs =
     if_bind (λ close. (begins close_brace close ≡ true) × EndsWith (tail cs) close) (λ x. Between close_brace (tail cs) x.0 x.1) (at_brace false 0 (tail cs)) _
@@ -152,7 +152,7 @@ module _ (size levels : ℕ) where
       (stops (λ r. ends_pieces m r ≡ true) step cs (forward_shrinks step (piece_forward size inner (inner_inside size levels) m)) (piece_stops m))
       (λ x t e. (tiles_text size cs x.0 x.1 t, e))
 
-  quoted_text : (cs : List ℕ) → IfOk (quoted_at size inner cs) (λ x. Between quote (tail cs) x.0 x.1)
+  pub quoted_text : (cs : List ℕ) → IfOk (quoted_at size inner cs) (λ x. Between quote (tail cs) x.0 x.1)
   unfolding quoted_at
   quoted_text cs =
       if_bind (λ x. (tail cs ≡ texts x.0 ++ x.1) × (begins quote x.1 ≡ true)) (λ x. Between quote (tail cs) x.0 x.1) (pieces_at size inner mode.Quoted (tail cs)) _ (pieces_text mode.Quoted (tail cs))

@@ -1,5 +1,6 @@
 //! Laws of the definitions: functions that do nothing, whose contracts speak of the definitions alone.
 
+ghost use Rattle.tcl_words.specs.Fronts.{FaultStays};
 ghost use Rattle.tcl_words.specs.Laws.{BraceMatches, BracketAlone, CommentEnds, FirstSpelled, NameLongest, OneReading, PiecesTile, WordsSpelled};
 
 /// The text in a bracket, read alone, has the same commands as inside, with the same places.
@@ -35,6 +36,11 @@ pub fn comment_ends()
 /// The name of a variable is the longest front of the text that is one.
 pub fn name_longest()
     ensures { NameLongest }
+{}
+
+/// Extra characters and too deep nesting stay the fault, however the text goes on.
+pub fn fault_stays()
+    ensures { FaultStays }
 {}
 
 /// A text has one reading: two parses of it are the same.
