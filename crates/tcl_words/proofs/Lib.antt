@@ -2,7 +2,13 @@ pub mod Alone
 pub mod Bracketed
 pub mod BracketedKinds
 pub mod BracketedTurns
+pub mod Calm
 pub mod Ends
+pub mod Fills
+pub mod FillsCommands
+pub mod FillsLevels
+pub mod FillsPieces
+pub mod FillsWords
 pub mod Forward
 pub mod Fronts
 pub mod Levels

@@ -136,7 +136,7 @@ module _ (n big : ℕ) (y : List ℕ) (inner long : Inner) (inside : Inside inne
     | inr other ↦ loose_kept firm y all _ _ (named_loose cs name rest other)
   ]
 
-  variable_kept : (c : ℕ) (t : List ℕ) → Kept firm y (c ∷ t) (variable_at n inner (c ∷ t)) (variable_at big long (c ∷ (t ++ y)))
+  pub variable_kept : (c : ℕ) (t : List ℕ) → Kept firm y (c ∷ t) (variable_at n inner (c ∷ t)) (variable_at big long (c ∷ (t ++ y)))
   unfolding variable_at after_name
   variable_kept c [] = loose_kept firm y (c ∷ []) (variable_at n inner (c ∷ [])) (variable_at big long (c ∷ y)) refl
   variable_kept c (d ∷ t) =
@@ -166,7 +166,7 @@ module _ (n big : ℕ) (y : List ℕ) (inner long : Inner) (inside : Inside inne
   piece_over m _ colon_alone = rw (colon_plain m) (plain_colon m)
   piece_over m _ dollar_colon = rw (dollar_colon_plain m) (plain_dollar_colon m)
 
-  piece_kept : (m : Mode) (t : List ℕ) → KeptTurn y t (piece_at n inner m t) (piece_at big long m (t ++ y))
+  pub piece_kept : (m : Mode) (t : List ℕ) → KeptTurn y t (piece_at n inner m t) (piece_at big long m (t ++ y))
   unfolding piece_at
   piece_kept m [] = over_turn y [] _ _ (piece_over m [] nothing)
   piece_kept m (c ∷ t) = elim (cases_Bool (settled c t)) [

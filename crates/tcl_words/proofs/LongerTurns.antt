@@ -112,7 +112,7 @@ after_over next (Ok (None, rest)) h k = h
 after_over next (Ok (Some x, rest)) h k = front_over (x ∷ []) (next rest) (k x rest refl)
 after_over next (Err m) h k = h
 
-over_ok : {A : Type 0} (r : Result (A × List ℕ) Syntax) (p : A × List ℕ) → Over r → r ≡ Ok p → p.1 ≡ []
+pub over_ok : {A : Type 0} (r : Result (A × List ℕ) Syntax) (p : A × List ℕ) → Over r → r ≡ Ok p → p.1 ≡ []
 over_ok {A = A} r p h e = let P : Result (A × List ℕ) Syntax → Type 0 = λ q. Over q in (subst P e h)
 
 module _ {A : Type 0} (y : List ℕ) (step long : Reading Syntax (Option A)) (l : Goes y step long) (k : Shrinks long) where

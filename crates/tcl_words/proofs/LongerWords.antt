@@ -42,7 +42,7 @@ mere (c ∷ []) h s = elim (cases_Bool (c == 58)) [
   ]
 ]
 
-mere_open : (nested : Bool) (t : List ℕ) → Mere t → ends_word nested t ≡ false
+pub mere_open : (nested : Bool) (t : List ℕ) → Mere t → ends_word nested t ≡ false
 mere_open true _ mere_colon = refl
 mere_open false _ mere_colon = refl
 mere_open true _ mere_backslash = refl
@@ -69,7 +69,7 @@ closed_loose : (m : Syntax) (nested : Bool) (w : Shape) (rest : List ℕ) → so
 closed_loose m nested w [] s = refl
 closed_loose m nested w (c ∷ rest) s = absurd cc
 
-command_longer : (s y : List ℕ) → some s ≡ true → after_command (s ++ y) ≡ after_command s ++ y
+pub command_longer : (s y : List ℕ) → some s ≡ true → after_command (s ++ y) ≡ after_command s ++ y
 command_longer [] y h = absurd cc
 command_longer (c ∷ s) y h = same_cond (λ a b. a ≡ b ++ y) (c == close_bracket) _ _ _ _ refl refl
 
@@ -220,7 +220,7 @@ module _ (n big levels : ℕ) (y : List ℕ) (nests : Nested y (inner_at n level
       let m = mere (c ∷ t) h refl in
       rw (mere_open nested (c ∷ t) m) (over_bind (word_at n inner nested (c ∷ t)) _ (word_over nested (c ∷ t) m) (λ x. refl))
 
-  next_kept : (nested : Bool) (t : List ℕ) → KeptTurn y t (next_word n inner nested t) (next_word big long nested (t ++ y))
+  pub next_kept : (nested : Bool) (t : List ℕ) → KeptTurn y t (next_word n inner nested t) (next_word big long nested (t ++ y))
   unfolding next_word
   next_kept nested t = elim (cases_Bool (firm (after_blanks t))) [
     | inl here ↦ rw (blanks_longer t y here) (turn_lift y t (after_blanks t) _ _ (blanks_end t) (from_firm nested (after_blanks t) here))

@@ -144,7 +144,7 @@ module _ (size levels : ℕ) where
   unfolding piece_at
   piece_stops m cs = piece_of_stops m (kind_of m cs) cs refl
 
-  pieces_text : (m : Mode) (cs : List ℕ) → IfOk (pieces_at size inner m cs) (λ x. (cs ≡ texts x.0 ++ x.1) × (ends_pieces m x.1 ≡ true))
+  pub pieces_text : (m : Mode) (cs : List ℕ) → IfOk (pieces_at size inner m cs) (λ x. (cs ≡ texts x.0 ++ x.1) × (ends_pieces m x.1 ≡ true))
   unfolding pieces_at
   pieces_text m cs =
       let step = piece_at size inner m in
@@ -231,11 +231,11 @@ blanks_front (c ∷ d ∷ cs) = elim (cases_Bool (is_word_space c)) [
 ]
 
 -- what a turn's word is written as
-abbrev OneWord : Bool → List ℕ → Option Shape → List ℕ → Type 0
+abbrev pub OneWord : Bool → List ℕ → Option Shape → List ℕ → Type 0
 OneWord nested cs None rest = Words nested cs [] rest
 OneWord nested cs (Some w) rest = (front : List ℕ) × (only_blanks front ≡ true) × (cs ≡ front ++ (word_text w ++ rest)) × (ends_word nested rest ≡ true)
 
-next_written : (size levels : ℕ) (nested : Bool) (cs : List ℕ) → IfOk (next_word size (inner_at size levels) nested cs) (λ t. OneWord nested cs t.0 t.1)
+pub next_written : (size levels : ℕ) (nested : Bool) (cs : List ℕ) → IfOk (next_word size (inner_at size levels) nested cs) (λ t. OneWord nested cs t.0 t.1)
 unfolding next_word
 next_written size levels nested cs =
     let f = blanks_front cs in

@@ -5,7 +5,7 @@ use Rattle.tcl_chars.specs.Place.{begins}
 use Rattle.tcl_words.specs.declared.fault.Syntax.{Syntax}
 use Rattle.tcl_words.specs.declared.fault.Syntax.TheVariants.{AfterBrace, AfterQuote, MissingBrace, MissingBracket, MissingQuote, MissingParen, MissingVariableBrace, TooDeep}
 use Rattle.tcl_words.specs.Complete.{is_open}
-use Rattle.tcl_words.specs.First.{first, malformed}
+use Rattle.tcl_words.specs.First.{First, first, none, malformed, command}
 
 -- what closed the word that extra characters follow
 abbrev pub closer : Syntax → ℕ → Bool
@@ -27,3 +27,27 @@ Hangs m cs = (front : List ℕ) × (c : ℕ) × (closer m c ≡ true) × (cs ≡
 abbrev pub FaultStays : Type 0
 FaultStays = (size longer levels : ℕ) (nested : Bool) (cs more : List ℕ) (m : Syntax) → is_open m ≡ false → first size levels nested cs ≡ malformed m
     → (first longer levels nested (cs ++ more) ≡ malformed m) ⊎ ((begins newline more ≡ true) × Hangs m cs)
+
+abbrev pub is_well : First → Bool
+is_well (none rest) = true
+is_well (malformed m) = false
+is_well (command words rest) = true
+
+-- The text can go on so that its first command is well formed, or that there is none.
+abbrev pub GoesOn : ℕ → Bool → List ℕ → Type 0
+GoesOn levels nested cs = (more : List ℕ) × ((size : ℕ) → is_well (first size levels nested (cs ++ more)) ≡ true)
+
+-- However the text goes on, its first command is malformed.
+abbrev pub NeverWell : ℕ → Bool → List ℕ → Type 0
+NeverWell levels nested cs = (size : ℕ) (more : List ℕ) → is_well (first size levels nested (cs ++ more)) ≡ false
+
+-- A text in which something is open can go on.
+abbrev pub OpenGoesOn : Type 0
+OpenGoesOn = (size levels : ℕ) (nested : Bool) (cs : List ℕ) (m : Syntax) → is_open m ≡ true → first size levels nested cs ≡ malformed m → GoesOn levels nested cs
+
+-- Extra characters and too deep nesting are faults of a front: before the front's last character the text can still go
+-- on, and with it never. Or a backslash that ends the text, directly behind what closed a word, is the extra character.
+abbrev pub FaultAtFront : Type 0
+FaultAtFront = (size levels : ℕ) (nested : Bool) (cs : List ℕ) (m : Syntax) → is_open m ≡ false → first size levels nested cs ≡ malformed m
+    → ((before : List ℕ) × (c : ℕ) × (rest : List ℕ) × (cs ≡ before ++ c ∷ rest) × GoesOn levels nested before × NeverWell levels nested (before ++ c ∷ []))
+    ⊎ (Hangs m cs × GoesOn levels nested cs)

@@ -1,6 +1,6 @@
 //! Laws of the definitions: functions that do nothing, whose contracts speak of the definitions alone.
 
-ghost use Rattle.tcl_words.specs.Fronts.{FaultStays};
+ghost use Rattle.tcl_words.specs.Fronts.{FaultAtFront, FaultStays, OpenGoesOn};
 ghost use Rattle.tcl_words.specs.Laws.{BraceMatches, BracketAlone, CommentEnds, FirstSpelled, NameLongest, OneReading, PiecesTile, WordsSpelled};
 
 /// The text in a bracket, read alone, has the same commands as inside, with the same places.
@@ -41,6 +41,16 @@ pub fn name_longest()
 /// Extra characters and too deep nesting stay the fault, however the text goes on.
 pub fn fault_stays()
     ensures { FaultStays }
+{}
+
+/// A text in which something is open can go on so that its first command is well formed.
+pub fn open_goes_on()
+    ensures { OpenGoesOn }
+{}
+
+/// Extra characters and too deep nesting are faults of the shortest front that never can go on so.
+pub fn fault_at_front()
+    ensures { FaultAtFront }
 {}
 
 /// A text has one reading: two parses of it are the same.
