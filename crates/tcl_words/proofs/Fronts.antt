@@ -7,7 +7,7 @@ use Rattle.tcl_words.specs.declared.blanks.Gap.TheVariants as gap
 use Rattle.tcl_words.specs.declared.fault.Syntax.{Syntax}
 use Rattle.tcl_words.specs.Complete.{is_open}
 use Rattle.tcl_words.specs.First.{First, first, first_of, malformed}
-use Rattle.tcl_words.specs.Fronts.{Hangs, FaultStays, is_well, GoesOn, NeverWell, OpenGoesOn, FaultAtFront}
+use Rattle.tcl_words.specs.Fronts.{Hangs, FaultStays, is_well, GoesOn, Always, OpenGoesOn, FaultAtFront}
 use Rattle.tcl_words.specs.Parts.{Shape}
 use Rattle.tcl_words.specs.Words.{after_gaps, ends_word, words_at, first_at, inner_at}
 use Rattle.tcl_words.proofs.Fills.{LeavesSome}
@@ -15,7 +15,10 @@ use Rattle.tcl_words.proofs.FillsCommands.{first_fill, first_open}
 use Rattle.tcl_words.proofs.FillsLevels.{filled, first_none, first_some, whole_first}
 use Rattle.tcl_words.proofs.FillsPieces.{over_same}
 use Rattle.tcl_words.proofs.FillsWords.{at_semicolon}
+use Rattle.tcl_words.proofs.LongerTurns.{Over}
 use Rattle.tcl_words.proofs.LongerWords.{fault_kept}
+use Rattle.tcl_words.proofs.Newlines.{Still}
+use Rattle.tcl_words.proofs.NewlinesWords.{first_still, nested_still}
 
 was_malformed : (r : Result (Option (List Shape) × List ℕ) Syntax) (m : Syntax) → first_of r ≡ malformed m → r ≡ Err m
 was_malformed (Err f) m e = cc
@@ -65,22 +68,21 @@ well_or_not : {A : Type 0} (f : First) (m : Syntax) → is_well f ≡ true → f
 well_or_not f m h e = absurd (true≢false (sym h ∙ not_well f m e))
 
 -- where a newline doesn't help nothing does
-never : (size levels : ℕ) (nested : Bool) (cs : List ℕ) (m k : Syntax) → is_open m ≡ false → first size levels nested cs ≡ malformed m → is_open k ≡ false → first size levels nested (cs ++ 10 ∷ []) ≡ malformed k
-    → (longer : ℕ) (more : List ℕ) → is_well (first longer levels nested (cs ++ more)) ≡ false
-never size levels nested cs m k a e b f longer [] = elim (fault_stays size longer levels nested cs [] m a e) [
-  | inl same ↦ not_well _ m same
+never : (size levels : ℕ) (nested : Bool) (cs : List ℕ) (m : Syntax) → is_open m ≡ false → first size levels nested cs ≡ malformed m → first size levels nested (cs ++ 10 ∷ []) ≡ malformed m → Always levels nested m cs
+never size levels nested cs m shut e f longer [] = elim (fault_stays size longer levels nested cs [] m shut e) [
+  | inl same ↦ same
   | inr (newline_, hangs) ↦ absurd cc
 ]
-never size levels nested cs m k a e b f longer (c ∷ more) = elim (cases_Bool (c == newline)) [
-  | inr other ↦ elim (fault_stays size longer levels nested cs (c ∷ more) m a e) [
-    | inl same ↦ not_well _ m same
+never size levels nested cs m shut e f longer (c ∷ more) = elim (cases_Bool (c == newline)) [
+  | inr other ↦ elim (fault_stays size longer levels nested cs (c ∷ more) m shut e) [
+    | inl same ↦ same
     | inr (newline_, hangs) ↦ absurd (true≢false (sym newline_ ∙ other))
   ]
-  | inl here ↦ elim (fault_stays size longer levels nested (cs ++ 10 ∷ []) more k b f) [
+  | inl here ↦ elim (fault_stays size longer levels nested (cs ++ 10 ∷ []) more m shut f) [
     | inl same ↦
         let joined : (cs ++ 10 ∷ []) ++ more ≡ cs ++ c ∷ more = append_assoc cs (10 ∷ []) more ∙ ap (λ (x : ℕ). cs ++ x ∷ more) (sym (eqb-true c 10 here)) in
-        ap is_well (ap (first longer levels nested) (sym joined) ∙ same)
-    | inr (newline_, hangs) ↦ absurd (no_hang k cs hangs)
+        ap (first longer levels nested) (sym joined) ∙ same
+    | inr (newline_, hangs) ↦ absurd (no_hang m cs hangs)
   ]
 ]
 
@@ -106,24 +108,31 @@ can_go size levels nested cs (Err m) e = elim (cases_Bool (is_open m)) [
   | inr other ↦ inr (m, other, refl)
 ]
 
-goes_or_shut : (size levels : ℕ) (nested : Bool) (cs : List ℕ) → GoesOn levels nested cs ⊎ (m : Syntax) × (is_open m ≡ false) × (first size levels nested cs ≡ malformed m)
-unfolding first
-goes_or_shut size levels nested cs = elim (can_go size levels nested cs (first_at size (inner_at size levels) nested cs) refl) [
-  | inl goes ↦ inl goes
-  | inr (m, shut, e) ↦ inr (m, shut, ap first_of e)
-]
-
 -- a text that can go on behind a newline can go on
 goes_back : (levels : ℕ) (nested : Bool) (cs end : List ℕ) → GoesOn levels nested (cs ++ end) → GoesOn levels nested cs
 goes_back levels nested cs end (more, h) = (end ++ more, λ size. ap (λ (x : List ℕ). is_well (first size levels nested x)) (sym (append_assoc cs end more)) ∙ h size)
 
+newline_put : (levels : ℕ) (nested : Bool) (cs : List ℕ) (m : Syntax) (r : Result (Option (List Shape) × List ℕ) Syntax) → is_open m ≡ false → r ≡ Err m
+    → Still Over r (first_at 0 (inner_at 0 levels) nested (cs ++ 10 ∷ [])) → (first_at 0 (inner_at 0 levels) nested (cs ++ 10 ∷ []) ≡ Err m) ⊎ Over (first_at 0 (inner_at 0 levels) nested (cs ++ 10 ∷ []))
+newline_put levels nested cs m r shut e s =
+    let P : Result (Option (List Shape) × List ℕ) Syntax → Type 0 = λ q. Still Over q (first_at 0 (inner_at 0 levels) nested (cs ++ 10 ∷ [])) in
+    let still : P (Err m) = subst P e s in
+    still shut
+
+abbrev Shut : ℕ → Bool → List ℕ → Type 0
+Shut levels nested cs = (m : Syntax) × Always levels nested m cs
+
 -- a text can go on, or never can
-decide : (levels : ℕ) (nested : Bool) (cs : List ℕ) → GoesOn levels nested cs ⊎ NeverWell levels nested cs
-decide levels nested cs = elim (goes_or_shut 0 levels nested cs) [
+decide : (levels : ℕ) (nested : Bool) (cs : List ℕ) → GoesOn levels nested cs ⊎ Shut levels nested cs
+unfolding first
+decide levels nested cs = elim (can_go 0 levels nested cs (first_at 0 (inner_at 0 levels) nested cs) refl) [
   | inl goes ↦ inl goes
-  | inr (m, shut, e) ↦ elim (goes_or_shut 0 levels nested (cs ++ 10 ∷ [])) [
-    | inl goes ↦ inl (goes_back levels nested cs (10 ∷ []) goes)
-    | inr (k, closed, f) ↦ inr (never 0 levels nested cs m k shut e closed f)
+  | inr (m, shut, e) ↦ elim (newline_put levels nested cs m (first_at 0 (inner_at 0 levels) nested cs) shut e (first_still 0 0 levels (nested_still 0 0 levels) nested cs)) [
+    | inl same ↦ inr (m, never 0 levels nested cs m shut (ap first_of e) (ap first_of same))
+    | inr over ↦ elim (can_go 0 levels nested (cs ++ 10 ∷ []) (first_at 0 (inner_at 0 levels) nested (cs ++ 10 ∷ [])) refl) [
+      | inl goes ↦ inl (goes_back levels nested cs (10 ∷ []) goes)
+      | inr (k, closed, f) ↦ absurd (true≢false (sym (over_same _ (Err k) f over) ∙ closed))
+    ]
   ]
 ]
 
@@ -135,13 +144,13 @@ hangs_if size levels nested cs m shut e (more, h) = elim (fault_stays size size 
 ]
 
 abbrev Front : ℕ → Bool → List ℕ → Type 0
-Front levels nested cs = (before : List ℕ) × (c : ℕ) × (rest : List ℕ) × (cs ≡ before ++ c ∷ rest) × GoesOn levels nested before × NeverWell levels nested (before ++ c ∷ [])
+Front levels nested cs = (m : Syntax) × (before : List ℕ) × (c : ℕ) × (rest : List ℕ) × (cs ≡ before ++ c ∷ rest) × GoesOn levels nested before × Always levels nested m (before ++ c ∷ [])
 
 -- the first front that never can
 walk : (levels : ℕ) (nested : Bool) (before rest : List ℕ) → GoesOn levels nested before → Front levels nested (before ++ rest) ⊎ GoesOn levels nested (before ++ rest)
 walk levels nested before [] goes = inr (subst (GoesOn levels nested) (sym (append-nil before)) goes)
 walk levels nested before (c ∷ rest) goes = elim (decide levels nested (before ++ c ∷ [])) [
-  | inr never_ ↦ inl (before, c, rest, refl, goes, never_)
+  | inr (m, always) ↦ inl (m, before, c, rest, refl, goes, always)
   | inl on ↦
       let e : (before ++ c ∷ []) ++ rest ≡ before ++ c ∷ rest = append_assoc before (c ∷ []) rest in
       let P : List ℕ → Type 0 = λ x. Front levels nested x ⊎ GoesOn levels nested x in
@@ -152,8 +161,19 @@ empty_goes : (levels : ℕ) (nested : Bool) → GoesOn levels nested []
 unfolding first first_at after_gaps
 empty_goes levels nested = ([], λ size. refl)
 
+fault_of : {a b : Syntax} → malformed a ≡ malformed b → a ≡ b
+fault_of e = cc
+
+-- the front's fault is the text's
+front_fault : (size levels : ℕ) (nested : Bool) (cs before rest : List ℕ) (c : ℕ) (m k : Syntax) → cs ≡ before ++ c ∷ rest → Always levels nested k (before ++ c ∷ []) → first size levels nested cs ≡ malformed m → k ≡ m
+front_fault size levels nested cs before rest c m k joined always e =
+    let there : first size levels nested cs ≡ malformed k = ap (first size levels nested) (joined ∙ sym (append_assoc before (c ∷ []) rest)) ∙ always size rest in
+    fault_of (sym there ∙ e)
+
 pub fault_at_front : FaultAtFront
 fault_at_front size levels nested cs m shut e = elim (walk levels nested [] cs (empty_goes levels nested)) [
-  | inl front ↦ inl front
+  | inl (k, before, c, rest, joined, goes, always) ↦
+      let same : k ≡ m = front_fault size levels nested cs before rest c m k joined always e in
+      inl (before, c, rest, joined, goes, subst (λ x. Always levels nested x (before ++ c ∷ [])) same always)
   | inr goes ↦ inr (hangs_if size levels nested cs m shut e goes, goes)
 ]

@@ -18,6 +18,8 @@ pub mod LongerKinds
 pub mod LongerPieces
 pub mod LongerTurns
 pub mod LongerWords
+pub mod Newlines
+pub mod NewlinesWords
 pub mod Placed
 pub mod Scans
 pub mod Single

@@ -115,7 +115,7 @@ tail_loose [] h = refl
 tail_loose (d ∷ s) h = absurd cc
 
 module _ (n big : ℕ) (y : List ℕ) (inner long : Inner) (inside : Inside inner) (inside_long : Inside long) (nests : Nested y inner long) where
-  named_loose : (cs name rest : List ℕ) → firm rest ≡ false → Loose firm (named n inner cs name rest)
+  pub named_loose : (cs name rest : List ℕ) → firm rest ≡ false → Loose firm (named n inner cs name rest)
   named_loose cs name [] h = refl
   named_loose cs name (c ∷ d ∷ rest) h = absurd cc
   named_loose cs name (c ∷ []) h = elim (cases_Bool (c == open_paren)) [
@@ -156,7 +156,7 @@ module _ (n big : ℕ) (y : List ℕ) (inner long : Inner) (inside : Inside inne
   piece_of_kept m kind.Variable c t = some_turn y (c ∷ t) _ _ (variable_kept c t)
   piece_of_kept m kind.Plain c t = λ h. same_turn _ _ _ (plain_longer m (c ∷ t) y h)
 
-  piece_over : (m : Mode) (t : List ℕ) → Short t → Over (piece_at n inner m t)
+  pub piece_over : (m : Mode) (t : List ℕ) → Short t → Over (piece_at n inner m t)
   unfolding piece_at kind_of
   piece_over (mode.Bare nested) _ nothing = refl
   piece_over mode.Quoted _ nothing = refl
@@ -174,7 +174,7 @@ module _ (n big : ℕ) (y : List ℕ) (inner long : Inner) (inside : Inside inne
     | inr other ↦ over_turn y (c ∷ t) _ _ (piece_over m (c ∷ t) (unsettled c t other))
   ]
 
-  pieces_go : (m : Mode) → Goes y (piece_at n inner m) (piece_at big long m)
+  pub pieces_go : (m : Mode) → Goes y (piece_at n inner m) (piece_at big long m)
   pieces_go m = record { kept = piece_kept m; over = λ t h. piece_over m t (not_firm t h); forward = piece_forward n inner inside m }
 
   pub pieces_kept : (m : Mode) (t : List ℕ) → Kept some y t (pieces_at n inner m t) (pieces_at big long m (t ++ y))

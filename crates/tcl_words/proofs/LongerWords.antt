@@ -48,7 +48,7 @@ mere_open false _ mere_colon = refl
 mere_open true _ mere_backslash = refl
 mere_open false _ mere_backslash = refl
 
-ends_backslash : (nested : Bool) (y : List ℕ) → ends_word nested (92 ∷ y) ≡ begins newline y
+pub ends_backslash : (nested : Bool) (y : List ℕ) → ends_word nested (92 ∷ y) ≡ begins newline y
 ends_backslash true y = refl
 ends_backslash false y = refl
 
@@ -65,7 +65,7 @@ closed_kept y cs m nested w v rest s hangs = elim (cases_Bool (firm rest)) [
   | inr other ↦ closed_mere y cs m nested w v rest (mere rest other s) hangs
 ]
 
-closed_loose : (m : Syntax) (nested : Bool) (w : Shape) (rest : List ℕ) → some rest ≡ false → Loose firm (closed m nested w rest)
+pub closed_loose : (m : Syntax) (nested : Bool) (w : Shape) (rest : List ℕ) → some rest ≡ false → Loose firm (closed m nested w rest)
 closed_loose m nested w [] s = refl
 closed_loose m nested w (c ∷ rest) s = absurd cc
 
@@ -90,7 +90,7 @@ over_bind : {A B : Type 0} (r : Result (A × List ℕ) Syntax) (f : A × List �
 over_bind (Err m) f h k = h
 over_bind {A = A} {B = B} (Ok p) f h k = let P : List ℕ → Type 0 = λ t. Over (f (p.0, t)) in subst P (sym h) (k p.0)
 
-over_loose : {A : Type 0} (r : Result (A × List ℕ) Syntax) → Over r → Loose firm r
+pub over_loose : {A : Type 0} (r : Result (A × List ℕ) Syntax) → Over r → Loose firm r
 over_loose (Ok p) h = ap firm h
 over_loose (Err m) h = h
 
@@ -100,7 +100,7 @@ closing_kept y cs (Err m) long h = same_bind y cs m (long >>= λ found. Ok found
 closing_kept y cs (Ok (x, [])) long h = λ k. true_not_false (is_open MissingBracket) refl k
 closing_kept {A = A} y cs (Ok (x, c ∷ s)) long h = (refl, ap (λ (r : Result (A × List ℕ) Syntax). (r >>= λ found. Ok found.1) >>= closing) (h refl).1)
 
-nothing_loose : (t : List ℕ) → some t ≡ false → firm t ≡ false
+pub nothing_loose : (t : List ℕ) → some t ≡ false → firm t ≡ false
 nothing_loose [] h = refl
 nothing_loose (c ∷ t) h = absurd cc
 
@@ -143,33 +143,33 @@ module _ (n big levels : ℕ) (y : List ℕ) (nests : Nested y (inner_at n level
       (λ p e h x. closed_kept y (c ∷ t) AfterQuote nested _ _ p.1 h (quoted_hangs c t p e)) (λ p e h. closed_loose AfterQuote nested _ p.1 h)
   word_of_kept nested expands form.Bare c t = bare_kept nested expands (c ∷ t)
 
-  bare_over : (nested expands : Bool) (t : List ℕ) → firm t ≡ false → Over (word_of n inner nested expands form.Bare t)
+  pub bare_over : (nested expands : Bool) (t : List ℕ) → firm t ≡ false → Over (word_of n inner nested expands form.Bare t)
   bare_over nested expands t h = over_bind (pieces_at n inner (mode.Bare nested) t) _ (pieces_over n big y inner long inside inside_long nests (mode.Bare nested) t h) (λ x. refl)
 
-  word_over : (nested : Bool) (t : List ℕ) → Mere t → Over (word_at n inner nested t)
+  pub word_over : (nested : Bool) (t : List ℕ) → Mere t → Over (word_at n inner nested t)
   unfolding word_at
   word_over nested _ mere_colon = bare_over nested false (58 ∷ []) refl
   word_over nested _ mere_backslash = bare_over nested false (92 ∷ []) refl
 
   -- `{*}` at the end of the text is a braced word
-  star_over : (nested : Bool) → Loose firm (word_at n inner nested (123 ∷ 42 ∷ 125 ∷ []))
+  pub star_over : (nested : Bool) → Loose firm (word_at n inner nested (123 ∷ 42 ∷ 125 ∷ []))
   unfolding word_at braced_at at_brace
   star_over nested = let (x, e) = inside_fine (place n (125 ∷ [])) (before (42 ∷ 125 ∷ []) (125 ∷ [])) in rw e refl
 
-  brace_open : (nested : Bool) → Over (word_at n inner nested (123 ∷ []))
+  pub brace_open : (nested : Bool) → Over (word_at n inner nested (123 ∷ []))
   unfolding word_at braced_at at_brace
   brace_open nested = refl
 
-  star_open : (nested : Bool) → Over (word_at n inner nested (123 ∷ 42 ∷ []))
+  pub star_open : (nested : Bool) → Over (word_at n inner nested (123 ∷ 42 ∷ []))
   unfolding word_at braced_at at_brace
   star_open nested = refl
 
-  marked_mere : (nested : Bool) (t : List ℕ) → Mere t → Loose firm (word_at n inner nested (123 ∷ 42 ∷ 125 ∷ t))
+  pub marked_mere : (nested : Bool) (t : List ℕ) → Mere t → Loose firm (word_at n inner nested (123 ∷ 42 ∷ 125 ∷ t))
   unfolding word_at
   marked_mere nested _ mere_colon = rw (mere_open nested (58 ∷ []) mere_colon) (over_loose _ (bare_over nested true (58 ∷ []) refl))
   marked_mere nested _ mere_backslash = rw (mere_open nested (92 ∷ []) mere_backslash) (over_loose _ (bare_over nested true (92 ∷ []) refl))
 
-  mark_firm : (nested : Bool) (t : List ℕ) → firm t ≡ true → Kept firm y (123 ∷ 42 ∷ 125 ∷ t) (word_at n inner nested (123 ∷ 42 ∷ 125 ∷ t)) (word_at big long nested (123 ∷ 42 ∷ 125 ∷ (t ++ y)))
+  pub mark_firm : (nested : Bool) (t : List ℕ) → firm t ≡ true → Kept firm y (123 ∷ 42 ∷ 125 ∷ t) (word_at n inner nested (123 ∷ 42 ∷ 125 ∷ t)) (word_at big long nested (123 ∷ 42 ∷ 125 ∷ (t ++ y)))
   unfolding word_at
   mark_firm nested [] h = absurd cc
   mark_firm nested (c ∷ t) h =
@@ -214,7 +214,7 @@ module _ (n big levels : ℕ) (y : List ℕ) (nests : Nested y (inner_at n level
       rw (ends_longer nested (c ∷ t) y h)
       (same_cond (KeptTurn {A = Shape} y (c ∷ t)) (ends_word nested (c ∷ t)) _ _ _ _ (λ k. refl) (some_turn y (c ∷ t) (word_at n inner nested (c ∷ t)) (word_at big long nested (c ∷ (t ++ y))) (word_kept nested c t)))
 
-  from_over : (nested : Bool) (t : List ℕ) → firm t ≡ false → Over (word_from n inner nested t)
+  pub from_over : (nested : Bool) (t : List ℕ) → firm t ≡ false → Over (word_from n inner nested t)
   from_over nested [] h = refl
   from_over nested (c ∷ t) h =
       let m = mere (c ∷ t) h refl in
@@ -227,18 +227,18 @@ module _ (n big levels : ℕ) (y : List ℕ) (nests : Nested y (inner_at n level
     | inr other ↦ over_turn y t _ _ (from_over nested (after_blanks t) other)
   ]
 
-  one_over : (nested : Bool) (t : List ℕ) → Mere t → Over (word_from n inner nested (after_blanks t))
+  pub one_over : (nested : Bool) (t : List ℕ) → Mere t → Over (word_from n inner nested (after_blanks t))
   unfolding after_blanks
   one_over nested _ mere_colon = from_over nested (58 ∷ []) refl
   one_over nested _ mere_backslash = from_over nested (92 ∷ []) refl
 
-  next_over : (nested : Bool) (t : List ℕ) → firm t ≡ false → Over (next_word n inner nested t)
+  pub next_over : (nested : Bool) (t : List ℕ) → firm t ≡ false → Over (next_word n inner nested t)
   unfolding next_word after_blanks
   next_over nested [] h = refl
   next_over nested (c ∷ []) h = one_over nested (c ∷ []) (mere (c ∷ []) h refl)
   next_over nested (c ∷ d ∷ t) h = absurd cc
 
-  words_go : (nested : Bool) → Goes y (next_word n inner nested) (next_word big long nested)
+  pub words_go : (nested : Bool) → Goes y (next_word n inner nested) (next_word big long nested)
   words_go nested = record { kept = next_kept nested; over = next_over nested; forward = word_forward n inner inside nested }
 
   pub words_kept : (nested : Bool) (t : List ℕ) → Kept some y t (words_at n inner nested t) (words_at big long nested (t ++ y))
@@ -257,7 +257,7 @@ module _ (n big levels : ℕ) (y : List ℕ) (nests : Nested y (inner_at n level
       rw (ends_longer nested (c ∷ t) y h)
       (same_cond (KeptTurn {A = List Shape} y (c ∷ t)) (ends_word nested (c ∷ t)) _ _ _ _ (λ k. refl) (command_turn y (c ∷ t) (words_at n inner nested (c ∷ t)) (words_at big long nested (c ∷ (t ++ y))) (words_kept nested (c ∷ t))))
 
-  command_over : (nested : Bool) (t : List ℕ) → firm t ≡ false → Over (command_from n inner nested t)
+  pub command_over : (nested : Bool) (t : List ℕ) → firm t ≡ false → Over (command_from n inner nested t)
   command_over nested [] h = refl
   command_over nested (c ∷ t) h =
       rw (mere_open nested (c ∷ t) (mere (c ∷ t) h refl)) (over_bind (words_at n inner nested (c ∷ t)) _ (words_over nested (c ∷ t) h) (λ x. refl))
@@ -274,12 +274,12 @@ module _ (n big levels : ℕ) (y : List ℕ) (nests : Nested y (inner_at n level
   gaps_mere nested _ mere_colon = command_over nested (58 ∷ []) refl
   gaps_mere nested _ mere_backslash = command_over nested (92 ∷ []) refl
 
-  first_over : (nested : Bool) (t : List ℕ) → firm t ≡ false → Over (first_at n inner nested t)
+  pub first_over : (nested : Bool) (t : List ℕ) → firm t ≡ false → Over (first_at n inner nested t)
   unfolding first_at after_gaps
   first_over nested [] h = refl
   first_over nested (c ∷ t) h = gaps_mere nested (c ∷ t) (mere (c ∷ t) h refl)
 
-  commands_kept : (nested : Bool) (t : List ℕ) → Kept some y t (commands_at n inner nested t) (commands_at big long nested (t ++ y))
+  pub commands_kept : (nested : Bool) (t : List ℕ) → Kept some y t (commands_at n inner nested t) (commands_at big long nested (t ++ y))
   unfolding commands_at
   commands_kept nested t =
       turns_kept y (first_at n inner nested) (first_at big long nested) (record { kept = first_kept nested; over = first_over nested; forward = first_forward n inner inside nested })

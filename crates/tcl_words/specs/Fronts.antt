@@ -37,17 +37,17 @@ is_well (command words rest) = true
 abbrev pub GoesOn : ℕ → Bool → List ℕ → Type 0
 GoesOn levels nested cs = (more : List ℕ) × ((size : ℕ) → is_well (first size levels nested (cs ++ more)) ≡ true)
 
--- However the text goes on, its first command is malformed.
-abbrev pub NeverWell : ℕ → Bool → List ℕ → Type 0
-NeverWell levels nested cs = (size : ℕ) (more : List ℕ) → is_well (first size levels nested (cs ++ more)) ≡ false
+-- However the text goes on, this is the fault of its first command.
+abbrev pub Always : ℕ → Bool → Syntax → List ℕ → Type 0
+Always levels nested m cs = (size : ℕ) (more : List ℕ) → first size levels nested (cs ++ more) ≡ malformed m
 
 -- A text in which something is open can go on.
 abbrev pub OpenGoesOn : Type 0
 OpenGoesOn = (size levels : ℕ) (nested : Bool) (cs : List ℕ) (m : Syntax) → is_open m ≡ true → first size levels nested cs ≡ malformed m → GoesOn levels nested cs
 
--- Extra characters and too deep nesting are faults of a front: before the front's last character the text can still go
--- on, and with it never. Or a backslash that ends the text, directly behind what closed a word, is the extra character.
+-- Extra characters and too deep nesting are the fault of a front: before its last character the text can still go on,
+-- and behind it never. Or a backslash that ends the text, directly behind what closed a word, is the extra character.
 abbrev pub FaultAtFront : Type 0
 FaultAtFront = (size levels : ℕ) (nested : Bool) (cs : List ℕ) (m : Syntax) → is_open m ≡ false → first size levels nested cs ≡ malformed m
-    → ((before : List ℕ) × (c : ℕ) × (rest : List ℕ) × (cs ≡ before ++ c ∷ rest) × GoesOn levels nested before × NeverWell levels nested (before ++ c ∷ []))
+    → ((before : List ℕ) × (c : ℕ) × (rest : List ℕ) × (cs ≡ before ++ c ∷ rest) × GoesOn levels nested before × Always levels nested m (before ++ c ∷ []))
     ⊎ (Hangs m cs × GoesOn levels nested cs)

@@ -48,7 +48,7 @@ pub fn open_goes_on()
     ensures { OpenGoesOn }
 {}
 
-/// Extra characters and too deep nesting are faults of the shortest front that never can go on so.
+/// Extra characters and too deep nesting are the fault of the shortest front that can't go on so, whatever follows it.
 pub fn fault_at_front()
     ensures { FaultAtFront }
 {}
