@@ -37,11 +37,18 @@ well_some z (Ok (Some words, rest)) h = refl
 well_some z (Ok (None, rest)) h = absurd h
 well_some z (Err m) h = absurd h
 
-pub open_goes_on : OpenGoesOn
+-- a front of a text that can go on can go on
+goes_back : (levels : ℕ) (nested : Bool) (cs end : List ℕ) → GoesOn levels nested (cs ++ end) → GoesOn levels nested cs
+goes_back levels nested cs end (more, h) = (end ++ more, λ size. ap (λ (x : List ℕ). is_well (first size levels nested x)) (sym (append_assoc cs end more)) ∙ h size)
+
+open_goes : (size levels : ℕ) (nested : Bool) (cs : List ℕ) (m : Syntax) → is_open m ≡ true → first size levels nested cs ≡ malformed m → GoesOn levels nested cs
 unfolding first
-open_goes_on size levels nested cs m o e =
+open_goes size levels nested cs m o e =
     let (more, fills) = first_open size levels (filled size levels) nested cs m (was_malformed _ m e) o in
     (more ++ 59 ∷ [], λ big. well_some _ (first_at big (inner_at big levels) nested (cs ++ (more ++ 59 ∷ []))) (fills big 59 [] (at_semicolon nested)))
+
+pub open_goes_on : OpenGoesOn
+open_goes_on size levels nested cs m o e front rest joined = goes_back levels nested front rest (subst (GoesOn levels nested) joined (open_goes size levels nested cs m o e))
 
 -- a text whose last character is a newline doesn't end in a backslash
 last_of : List ℕ → ℕ
@@ -104,13 +111,9 @@ unfolding first
 can_go size levels nested cs (Ok (None, rest)) e = inl ([], λ big. no_command big levels nested cs (first_none size levels (filled size levels) nested cs rest e).0)
 can_go size levels nested cs (Ok (Some x, rest)) e = let (open_, s, read, same) = first_some size levels (filled size levels) nested cs x rest e in inl (command_goes_on size levels nested cs x s open_ read)
 can_go size levels nested cs (Err m) e = elim (cases_Bool (is_open m)) [
-  | inl here ↦ inl (open_goes_on size levels nested cs m here (ap first_of e))
+  | inl here ↦ inl (open_goes size levels nested cs m here (ap first_of e))
   | inr other ↦ inr (m, other, refl)
 ]
-
--- a text that can go on behind a newline can go on
-goes_back : (levels : ℕ) (nested : Bool) (cs end : List ℕ) → GoesOn levels nested (cs ++ end) → GoesOn levels nested cs
-goes_back levels nested cs end (more, h) = (end ++ more, λ size. ap (λ (x : List ℕ). is_well (first size levels nested x)) (sym (append_assoc cs end more)) ∙ h size)
 
 newline_put : (levels : ℕ) (nested : Bool) (cs : List ℕ) (m : Syntax) (r : Result (Option (List Shape) × List ℕ) Syntax) → is_open m ≡ false → r ≡ Err m
     → Still Over r (first_at 0 (inner_at 0 levels) nested (cs ++ 10 ∷ [])) → (first_at 0 (inner_at 0 levels) nested (cs ++ 10 ∷ []) ≡ Err m) ⊎ Over (first_at 0 (inner_at 0 levels) nested (cs ++ 10 ∷ []))

@@ -1,4 +1,4 @@
--- Laws of a malformed text as it is written on: what is a fault of its front stays one.
+-- Laws of malformed texts and their fronts: what more can mend, and what nothing can.
 use Rattle.std.specs.Prelude.{◌≡◌, ◌⊎◌, ℕ, Bool, true, false, ◌==◌, List, [], ◌∷◌, ◌++◌}
 use Rattle.tcl_chars.specs.Characters.{newline, backslash, quote, close_brace}
 use Rattle.tcl_chars.specs.Place.{begins}
@@ -41,9 +41,9 @@ GoesOn levels nested cs = (more : List ℕ) × ((size : ℕ) → is_well (first 
 abbrev pub Always : ℕ → Bool → Syntax → List ℕ → Type 0
 Always levels nested m cs = (size : ℕ) (more : List ℕ) → first size levels nested (cs ++ more) ≡ malformed m
 
--- A text in which something is open can go on.
+-- A text in which something is open can go on, and each of its fronts can.
 abbrev pub OpenGoesOn : Type 0
-OpenGoesOn = (size levels : ℕ) (nested : Bool) (cs : List ℕ) (m : Syntax) → is_open m ≡ true → first size levels nested cs ≡ malformed m → GoesOn levels nested cs
+OpenGoesOn = (size levels : ℕ) (nested : Bool) (cs : List ℕ) (m : Syntax) → is_open m ≡ true → first size levels nested cs ≡ malformed m → (front rest : List ℕ) → cs ≡ front ++ rest → GoesOn levels nested front
 
 -- Extra characters and too deep nesting are the fault of a front: before its last character the text can still go on,
 -- and behind it never. Or a backslash that ends the text, directly behind what closed a word, is the extra character.

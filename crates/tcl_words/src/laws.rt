@@ -38,17 +38,18 @@ pub fn name_longest()
     ensures { NameLongest }
 {}
 
-/// Extra characters and too deep nesting stay the fault, however the text goes on.
+/// Extra characters and too deep nesting stay the fault, however the text goes on. But a backslash that ends the text
+/// directly behind a closing brace or quote may become a backslash-newline.
 pub fn fault_stays()
     ensures { FaultStays }
 {}
 
-/// A text in which something is open can go on so that its first command is well formed.
+/// A text in which something is open, and each of its fronts, can go on so that its first command is well formed.
 pub fn open_goes_on()
     ensures { OpenGoesOn }
 {}
 
-/// Extra characters and too deep nesting are the fault of the shortest front that can't go on so, whatever follows it.
+/// Extra characters and too deep nesting are the fault of the shortest front that can't go on so, whatever follows.
 pub fn fault_at_front()
     ensures { FaultAtFront }
 {}
