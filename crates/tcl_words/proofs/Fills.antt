@@ -33,9 +33,6 @@ pub leaves_ok : {A : Type 0} (z : List ℕ) (r : Result (A × List ℕ) Syntax) 
 leaves_ok z (Ok p) h = (p.0, ap (λ (t : List ℕ). Ok (p.0, t)) h)
 leaves_ok z (Err m) h = absurd h
 
-pub leaves_of : {A : Type 0} (z : List ℕ) (r : Result (A × List ℕ) Syntax) (x : A) → r ≡ Ok (x, z) → Leaves z r
-leaves_of {A = A} z r x e = let P : Result (A × List ℕ) Syntax → Type 0 = λ q. Leaves z q in subst P (sym e) refl
-
 pub some_ok : {A : Type 0} (z : List ℕ) (r : Result (Option A × List ℕ) Syntax) → LeavesSome z r → (x : A) × (r ≡ Ok (Some x, z))
 some_ok z (Ok (Some x, rest)) h = (x, ap (λ (t : List ℕ). Ok (Some x, t)) h)
 some_ok z (Ok (None, rest)) h = absurd h

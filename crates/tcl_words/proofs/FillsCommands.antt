@@ -9,18 +9,16 @@ use Rattle.tcl_chars.proofs.Turns.{Shrinks, shorter, one_turn, last_turn, bad_tu
 use Rattle.tcl_words.specs.declared.blanks.Gap.{Gap}
 use Rattle.tcl_words.specs.declared.blanks.Gap.TheVariants as gap
 use Rattle.tcl_words.specs.declared.fault.Syntax.{Syntax}
-use Rattle.tcl_words.specs.declared.front.Mode.TheVariants as mode
 use Rattle.tcl_words.specs.Complete.{is_open}
 use Rattle.tcl_words.specs.Parts.{Shape}
-use Rattle.tcl_words.specs.Words.{after_blanks, after_gaps, ends_word, kind_of, after_command, Inner, inner_at, piece_at, pieces_at, word_at, next_word, words_at, first_at}
+use Rattle.tcl_words.specs.Words.{after_blanks, after_gaps, ends_word, after_command, Inner, inner_at, word_at, next_word, words_at, first_at}
 use Rattle.tcl_words.proofs.Calm.{calm_backslash, blanks_calm, gaps_calm}
 use Rattle.tcl_words.proofs.Ends.{forward_shrinks, if_ok}
-use Rattle.tcl_words.proofs.Fills.{Leaves, LeavesSome, leaves_bind, some_bind, some_ok, turn_then, turn_last}
-use Rattle.tcl_words.proofs.FillsPieces.{Filled, over_same, over_behind, kept_turn, then_pieces}
+use Rattle.tcl_words.proofs.Fills.{Leaves, LeavesSome, some_bind, some_ok, turn_then, turn_last}
+use Rattle.tcl_words.proofs.FillsPieces.{Filled, over_same, over_behind, kept_turn}
 use Rattle.tcl_words.proofs.FillsWords.{Stop, stop_calm, stop_ends, stop_blanks, backslash_blanks, ends_colon, ends_backslash, WordFills, word_fill, colon_at, backslash_at}
 use Rattle.tcl_words.proofs.Forward.{word_forward, inner_inside}
 use Rattle.tcl_words.proofs.Longer.{some, firm, blanks_longer, gaps_longer, ends_longer}
-use Rattle.tcl_words.proofs.LongerKinds.{colon_plain, backslash_kind, plain_colon}
 use Rattle.tcl_words.proofs.LongerPieces.{firm_some}
 use Rattle.tcl_words.proofs.LongerTurns.{Over}
 use Rattle.tcl_words.proofs.LongerWords.{Mere, mere_colon, mere_backslash, mere, mere_open, inner_nested, next_kept}
@@ -64,10 +62,6 @@ from_some false g rest after x (Err m) e = absurd cc
 pub command_bind : {A : Type 0} (z : List ℕ) (r : Result (A × List ℕ) Syntax) → Leaves z r → LeavesSome (after_command z) (r >>= λ x. Ok (Some x.0, after_command x.1))
 command_bind z (Ok p) h = ap after_command h
 command_bind z (Err m) h = absurd h
-
-no_err : {A : Type 0} (z : List ℕ) (r : Result (A × List ℕ) Syntax) (f : Syntax) → Leaves z r → r ≡ Err f → ⊥
-no_err z (Ok p) f h e = absurd cc
-no_err z (Err m) f h e = absurd h
 
 pub open_some : (nested : Bool) (t : List ℕ) → ends_word nested t ≡ false → some t ≡ true
 open_some nested [] e = absurd cc
@@ -121,27 +115,6 @@ module _ (n levels : ℕ) (below : Filled n levels) where
   abbrev long : ℕ → Inner
   long big = inner_at big levels
 
-  -- ---- a colon, or a backslash, that is all of the text is a word
-
-  mere_piece : (nested : Bool) (t : List ℕ) → Mere t → LeavesSome [] (piece_at n inner (mode.Bare nested) t)
-  unfolding piece_at
-  mere_piece nested _ mere_colon = rw (colon_plain (mode.Bare nested)) (plain_colon (mode.Bare nested))
-  mere_piece nested _ mere_backslash = rw (backslash_kind (mode.Bare nested)) refl
-
-  no_piece : (nested : Bool) → Leaves [] (pieces_at n inner (mode.Bare nested) [])
-  unfolding pieces_at piece_at kind_of
-  no_piece nested = turn_last (piece_at n inner (mode.Bare nested)) [] [] refl
-
-  mere_word : (nested : Bool) (t : List ℕ) → Mere t → Leaves [] (word_at n inner nested t)
-  unfolding word_at
-  mere_word nested _ mere_colon = leaves_bind [] [] (pieces_at n inner (mode.Bare nested) (58 ∷ [])) _ (then_pieces n levels below (mode.Bare nested) n (58 ∷ []) [] [] (mere_piece nested (58 ∷ []) mere_colon) (no_piece nested)) (λ x. refl)
-  mere_word nested _ mere_backslash = leaves_bind [] [] (pieces_at n inner (mode.Bare nested) (92 ∷ [])) _ (then_pieces n levels below (mode.Bare nested) n (92 ∷ []) [] [] (mere_piece nested (92 ∷ []) mere_backslash) (no_piece nested)) (λ x. refl)
-
-  mere_next : (nested : Bool) (t : List ℕ) → Mere t → LeavesSome [] (next_word n inner nested t)
-  unfolding next_word after_blanks
-  mere_next nested _ mere_colon = rw (mere_open nested (58 ∷ []) mere_colon) (some_bind [] (word_at n inner nested (58 ∷ [])) (mere_word nested (58 ∷ []) mere_colon))
-  mere_next nested _ mere_backslash = rw (mere_open nested (92 ∷ []) mere_backslash) (some_bind [] (word_at n inner nested (92 ∷ [])) (mere_word nested (92 ∷ []) mere_backslash))
-
   -- ---- words one after another
 
   word_shrinks : (nested : Bool) (big : ℕ) → Shrinks (next_word big (long big) nested)
@@ -154,13 +127,6 @@ module _ (n levels : ℕ) (below : Filled n levels) where
   no_word : (nested : Bool) (big d : ℕ) (z : List ℕ) → Stop nested d → Leaves (d ∷ z) (words_at big (long big) nested (d ∷ z))
   unfolding words_at next_word
   no_word nested big d z s = turn_last (next_word big (long big) nested) (d ∷ z) (d ∷ z) (rw (stop_blanks nested d z s, stop_ends nested d z s) refl)
-
-  no_words : (nested : Bool) → Leaves [] (words_at n inner nested [])
-  unfolding words_at next_word after_blanks
-  no_words nested = turn_last (next_word n inner nested) [] [] refl
-
-  mere_words : (nested : Bool) (t : List ℕ) → Mere t → Leaves [] (words_at n inner nested t)
-  mere_words nested t m = then_words nested n t [] [] (mere_next nested t m) (no_words nested)
 
   abbrev NextFills : Bool → List ℕ → Type 0
   NextFills nested cs = (more : List ℕ) × ((big d : ℕ) (z : List ℕ) → Stop nested d → LeavesSome (d ∷ z) (next_word big (long big) nested (cs ++ (more ++ d ∷ z))))

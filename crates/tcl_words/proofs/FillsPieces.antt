@@ -265,9 +265,6 @@ module _ (n levels : ℕ) (below : Filled n levels) where
 
   -- ---- pieces one after another
 
-  abbrev LongPieces : Mode → ℕ → List ℕ → Result (List Part × List ℕ) Syntax
-  LongPieces m big t = pieces_at big (long big) m t
-
   abbrev pub PiecesFill : Mode → List ℕ → Type 0
   PiecesFill m t = (more : List ℕ) × ((big d : ℕ) (z : List ℕ) → Ender m d → Leaves (d ∷ z) (pieces_at big (long big) m (t ++ (more ++ d ∷ z))))
 

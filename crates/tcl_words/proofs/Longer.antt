@@ -1,6 +1,6 @@
 -- What is looked at and scanned is the same where the text goes on, if enough of it is left.
-use Rattle.std.proofs.Common.{◌≡◌, ℕ, ◌+◌, ◌-◌, Bool, true, false, cond, not, ◌&&◌, ◌||◌, ◌==◌, List, [], ◌∷◌, ◌++◌, Result, Ok, Err, refl, sym, subst, ◌∙◌, inl, inr}
-use Rattle.std.proofs.lemmas.Bool.{cases_Bool, eqb-true}
+use Rattle.std.proofs.Common.{◌≡◌, ℕ, ◌+◌, ◌-◌, Bool, true, false, cond, not, ◌&&◌, ◌||◌, ◌==◌, List, [], ◌∷◌, ◌++◌, Result, Ok, Err, refl, sym, ◌∙◌, inl, inr}
+use Rattle.std.proofs.lemmas.Bool.{cases_Bool}
 use Rattle.tcl_chars.specs.Characters.{newline, backslash, semicolon, number_sign, colon, open_brace, close_brace}
 use Rattle.tcl_chars.specs.Classes.{is_word_space, is_name_char}
 use Rattle.tcl_words.specs.declared.blanks.Gap.{Gap}
@@ -8,7 +8,7 @@ use Rattle.tcl_words.specs.declared.blanks.Gap.TheVariants as gap
 use Rattle.tcl_words.specs.declared.fault.Syntax.{Syntax}
 use Rattle.tcl_words.specs.Complete.{is_open}
 use Rattle.tcl_words.specs.Words.{after_blanks, after_gaps, ends_word, after_name, at_variable_brace, at_brace}
-use Rattle.tcl_words.proofs.Bracketed.{same_cond, and_false}
+use Rattle.tcl_words.proofs.Bracketed.{same_cond}
 use Rattle.tcl_words.proofs.Ends.{if_cond}
 
 abbrev pub some : List ℕ → Bool
@@ -92,18 +92,6 @@ pub ends_longer : (nested : Bool) (t y : List ℕ) → firm t ≡ true → ends_
 ends_longer nested [] y h = absurd cc
 ends_longer nested (c ∷ []) y h = rw (not_backslash c h) refl
 ends_longer nested (c ∷ d ∷ t) y h = refl
-
--- a word doesn't end at a colon, nor at a backslash that ends the text
-pub ended_firm : (nested : Bool) (t : List ℕ) → some t ≡ true → ends_word nested t ≡ true → firm t ≡ true
-ended_firm nested [] s e = absurd cc
-ended_firm nested (c ∷ d ∷ t) s e = refl
-ended_firm nested (c ∷ []) s e = elim (cases_Bool (c == colon)) [
-  | inl here ↦ let P : ℕ → Type 0 = λ x. ends_word nested (x ∷ []) ≡ true in let f : P 58 = subst P (eqb-true c 58 here) e in absurd (let g : ((nested && false) || false) ≡ true = f in let h : (false || false) ≡ true = rw (and_false nested) at g in cc)
-  | inr other ↦ elim (cases_Bool (c == backslash)) [
-    | inl here ↦ let P : ℕ → Type 0 = λ x. ends_word nested (x ∷ []) ≡ true in let f : P 92 = subst P (eqb-true c 92 here) e in absurd (let g : ((nested && false) || false) ≡ true = f in let h : (false || false) ≡ true = rw (and_false nested) at g in cc)
-    | inr plain ↦ rw (other, plain) refl
-  ]
-]
 
 -- ---- scans for a character that closes
 

@@ -54,10 +54,6 @@ pub open_bind : {B D : Type 0} (q : Result B Syntax) (g : B → Result D Syntax)
 open_bind (Ok p) g h = absurd h
 open_bind (Err m) g h = h
 
-pub open_over : {A : Type 0} (q : Result (A × List ℕ) Syntax) → Open q → Over q
-open_over (Ok p) h = absurd h
-open_over (Err m) h = h
-
 pub open_left : {A : Type 0} (q : Result (A × List ℕ) Syntax) → Open q → Left q
 open_left (Ok p) h = absurd h
 open_left (Err m) h = h
