@@ -5,11 +5,8 @@ use Rattle.tcl_chan.specs.Faults.{write_failures}
 use Rattle.tcl_chan.specs.Writing.{WroteFront}
 use Rattle.tcl_chan.specs.declared.fault.ChanFault.{ChanFault}
 use Rattle.tcl_chan.specs.declared.fault.ChanFault.TheVariants.{Write}
+use Rattle.tcl_chan.proofs.Puts.{put_put}
 use Rattle.tcl_shell.specs.Lines.{Said}
-
-put_put : (old : Option (List ℕ)) (a b : List ℕ) → put (put old a) b ≡ put old (a ++ b)
-put_put None a b = refl
-put_put (Some x) a b = ap Some (append_assoc x a b)
 
 front_here : (old new : Option (List ℕ)) (a b : List ℕ) → WroteFront old new a → WroteFront old new (a ++ b)
 front_here old new a b w = record { front = w.front; rest = w.rest ++ b; whole = ap (λ t. t ++ b) w.whole ∙ append_assoc w.front w.rest b; written = w.written }

@@ -97,10 +97,10 @@ inside_text size cs =
     (λ x t e. tiles_text size cs x.0 x.1 t ∙ ap (λ r. texts x.0 ++ r) e ∙ append-nil (texts x.0))
 
 -- the text between its marks, the mark at its end, and what is left
-abbrev Between : ℕ → List ℕ → List Part → List ℕ → Type 0
+abbrev pub Between : ℕ → List ℕ → List Part → List ℕ → Type 0
 Between close cs ps rest = cs ≡ texts ps ++ close ∷ rest
 
-braced_text : (size : ℕ) (cs : List ℕ) → IfOk (braced_at size cs) (λ x. Between close_brace (tail cs) x.0 x.1)
+pub braced_text : (size : ℕ) (cs : List ℕ) → IfOk (braced_at size cs) (λ x. Between close_brace (tail cs) x.0 x.1)
 unfolding braced_at
 braced_text size cs =
     if_bind (λ close. (begins close_brace close ≡ true) × EndsWith (tail cs) close) (λ x. Between close_brace (tail cs) x.0 x.1) (at_brace false 0 (tail cs)) _
@@ -144,7 +144,7 @@ module _ (size levels : ℕ) where
   unfolding piece_at
   piece_stops m cs = piece_of_stops m (kind_of m cs) cs refl
 
-  pieces_text : (m : Mode) (cs : List ℕ) → IfOk (pieces_at size inner m cs) (λ x. (cs ≡ texts x.0 ++ x.1) × (ends_pieces m x.1 ≡ true))
+  pub pieces_text : (m : Mode) (cs : List ℕ) → IfOk (pieces_at size inner m cs) (λ x. (cs ≡ texts x.0 ++ x.1) × (ends_pieces m x.1 ≡ true))
   unfolding pieces_at
   pieces_text m cs =
       let step = piece_at size inner m in
@@ -152,7 +152,7 @@ module _ (size levels : ℕ) where
       (stops (λ r. ends_pieces m r ≡ true) step cs (forward_shrinks step (piece_forward size inner (inner_inside size levels) m)) (piece_stops m))
       (λ x t e. (tiles_text size cs x.0 x.1 t, e))
 
-  quoted_text : (cs : List ℕ) → IfOk (quoted_at size inner cs) (λ x. Between quote (tail cs) x.0 x.1)
+  pub quoted_text : (cs : List ℕ) → IfOk (quoted_at size inner cs) (λ x. Between quote (tail cs) x.0 x.1)
   unfolding quoted_at
   quoted_text cs =
       if_bind (λ x. (tail cs ≡ texts x.0 ++ x.1) × (begins quote x.1 ≡ true)) (λ x. Between quote (tail cs) x.0 x.1) (pieces_at size inner mode.Quoted (tail cs)) _ (pieces_text mode.Quoted (tail cs))
@@ -231,11 +231,11 @@ blanks_front (c ∷ d ∷ cs) = elim (cases_Bool (is_word_space c)) [
 ]
 
 -- what a turn's word is written as
-abbrev OneWord : Bool → List ℕ → Option Shape → List ℕ → Type 0
+abbrev pub OneWord : Bool → List ℕ → Option Shape → List ℕ → Type 0
 OneWord nested cs None rest = Words nested cs [] rest
 OneWord nested cs (Some w) rest = (front : List ℕ) × (only_blanks front ≡ true) × (cs ≡ front ++ (word_text w ++ rest)) × (ends_word nested rest ≡ true)
 
-next_written : (size levels : ℕ) (nested : Bool) (cs : List ℕ) → IfOk (next_word size (inner_at size levels) nested cs) (λ t. OneWord nested cs t.0 t.1)
+pub next_written : (size levels : ℕ) (nested : Bool) (cs : List ℕ) → IfOk (next_word size (inner_at size levels) nested cs) (λ t. OneWord nested cs t.0 t.1)
 unfolding next_word
 next_written size levels nested cs =
     let f = blanks_front cs in

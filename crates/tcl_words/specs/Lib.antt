@@ -1,5 +1,6 @@
 pub mod Complete
 pub mod First
+pub mod Fronts
 pub mod Laws
 pub mod Parts
 pub mod Syntax

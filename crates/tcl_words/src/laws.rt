@@ -1,5 +1,6 @@
 //! Laws of the definitions: functions that do nothing, whose contracts speak of the definitions alone.
 
+ghost use Rattle.tcl_words.specs.Fronts.{FaultAtFront, FaultStays, OpenGoesOn};
 ghost use Rattle.tcl_words.specs.Laws.{BraceMatches, BracketAlone, CommentEnds, FirstSpelled, NameLongest, OneReading, PiecesTile, WordsSpelled};
 
 /// The text in a bracket, read alone, has the same commands as inside, with the same places.
@@ -35,6 +36,22 @@ pub fn comment_ends()
 /// The name of a variable is the longest front of the text that is one.
 pub fn name_longest()
     ensures { NameLongest }
+{}
+
+/// Extra characters and too deep nesting stay the fault, however the text goes on. But a backslash that ends the text
+/// directly behind a closing brace or quote may become a backslash-newline.
+pub fn fault_stays()
+    ensures { FaultStays }
+{}
+
+/// A text in which something is open, and each of its fronts, can go on so that its first command is well formed.
+pub fn open_goes_on()
+    ensures { OpenGoesOn }
+{}
+
+/// Extra characters and too deep nesting are the fault of the shortest front that can't go on so, whatever follows.
+pub fn fault_at_front()
+    ensures { FaultAtFront }
 {}
 
 /// A text has one reading: two parses of it are the same.

@@ -1,0 +1,5 @@
+use Rattle.tcl_words.proofs.Fronts.{fault_at_front}
+use Rattle.tcl_words.proofs.laws.fault_at_front.Goals as goal
+
+pub returns : goal.returns
+returns c = fault_at_front
