@@ -78,16 +78,11 @@ fn finished<'a>(alloc: Global, frame: Frame<'a>, x: Tree<'a>) -> Result<Tree<'a>
 {
     match frame {
         Frame::Unary(op) => Ok(Tree::Unary(op, Box::new(alloc, x)?)),
-        Frame::Power(left) => Ok(Tree::Power(Box::new(alloc, left)?, Box::new(alloc, x)?)),
+        Frame::Power(left) => Ok(Tree::Power(left, Box::new(alloc, x)?)),
         Frame::Chain(level, first, parts, op) => {
-            let parts = push_part(parts, op, x)?;
-            Ok(Tree::Chain(level, Box::new(alloc, first)?, parts))
+            Ok(Tree::Chain(level, first, push_part(parts, op, x)?))
         }
-        Frame::Third(condition, then) => Ok(Tree::Choice(
-            Box::new(alloc, condition)?,
-            Box::new(alloc, then)?,
-            Box::new(alloc, x)?,
-        )),
+        Frame::Third(condition, then) => Ok(Tree::Choice(condition, then, Box::new(alloc, x)?)),
         Frame::Second(_) | Frame::Paren | Frame::Call(_, _, _) => Ok(x),
     }
 }
@@ -191,19 +186,19 @@ fn add<'a>(
 {
     let level = level_of(op);
     match stack.pop() {
-        None => stack.push(Frame::Chain(level, x, Vec::new(alloc), op)),
+        None => stack.push(Frame::Chain(level, Box::new(alloc, x)?, Vec::new(alloc), op)),
         Some(Frame::Chain(open, first, parts, last)) => {
             if open == level {
                 let parts = push_part(parts, last, x)?;
                 stack.push(Frame::Chain(open, first, parts, op))
             } else {
                 stack.push(Frame::Chain(open, first, parts, last))?;
-                stack.push(Frame::Chain(level, x, Vec::new(alloc), op))
+                stack.push(Frame::Chain(level, Box::new(alloc, x)?, Vec::new(alloc), op))
             }
         }
         Some(frame) => {
             stack.push(frame)?;
-            stack.push(Frame::Chain(level, x, Vec::new(alloc), op))
+            stack.push(Frame::Chain(level, Box::new(alloc, x)?, Vec::new(alloc), op))
         }
     }
 }
@@ -264,12 +259,16 @@ fn at_comma<'a>(x: Tree<'a>, stack: &mut Stack<'a>) -> Result<State<'a>, ReadFau
     }
 }
 
-fn at_colon<'a>(x: Tree<'a>, stack: &mut Stack<'a>) -> Result<State<'a>, ReadFault<ExprSyntax<'a>>>
+fn at_colon<'a>(
+    alloc: Global,
+    x: Tree<'a>,
+    stack: &mut Stack<'a>,
+) -> Result<State<'a>, ReadFault<ExprSyntax<'a>>>
     ensures { Steps result (stack_of stack.new.frames.items) (machine.at_colon (view x.entry) (stack_of stack.old.frames.items)) }
 {
     match stack.pop() {
         Some(Frame::Second(condition)) => {
-            stack.push(Frame::Third(condition, x))?;
+            stack.push(Frame::Third(condition, Box::new(alloc, x)?))?;
             Ok(State::Wants(Place::Operand))
         }
         _ => Err(ReadFault::Bad(ExprSyntax::MissingOperator)),
@@ -289,9 +288,13 @@ fn at_operator<'a>(
             add(alloc, op, x, stack)?;
             Ok(State::Wants(Place::Operand))
         }
-        Token::Symbol(Symbol::Power) => open_with(Place::Operand, Frame::Power(x), stack),
-        Token::Symbol(Symbol::Question) => open_with(Place::Operand, Frame::Second(x), stack),
-        Token::Symbol(Symbol::Colon) => at_colon(x, stack),
+        Token::Symbol(Symbol::Power) => {
+            open_with(Place::Operand, Frame::Power(Box::new(alloc, x)?), stack)
+        }
+        Token::Symbol(Symbol::Question) => {
+            open_with(Place::Operand, Frame::Second(Box::new(alloc, x)?), stack)
+        }
+        Token::Symbol(Symbol::Colon) => at_colon(alloc, x, stack),
         Token::Symbol(Symbol::Comma) => at_comma(x, stack),
         Token::Symbol(Symbol::Close) => at_close(alloc, x, stack),
         _ => Err(ReadFault::Bad(ExprSyntax::MissingOperator)),
