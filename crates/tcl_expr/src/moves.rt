@@ -1,6 +1,6 @@
 //! One step of the parser: what a token does to what is open.
 
-ghost use Rattle.std.specs.Prelude.{◌≡◌, ◌≤◌, ◌∷◌, ◌++◌, [], map, IfOk};
+ghost use Rattle.std.specs.Prelude.{◌≡◌, ◌≤◌, List, ◌∷◌, ◌++◌, [], map, IfOk};
 ghost use Rattle.tcl_expr.specs.Expr as expr;
 ghost use Rattle.tcl_expr.specs.ExprFault.{inside};
 ghost use Rattle.tcl_expr.specs.Faults as faults;
@@ -175,6 +175,19 @@ fn at_operand<'a>(
     }
 }
 
+/// Opens parts round an operator, of which x is the first.
+fn open_chain<'a>(
+    alloc: Global,
+    op: BinaryOp,
+    x: Tree<'a>,
+    stack: &mut Stack<'a>,
+) -> Result<(), AllocError>
+    ensures { IfOk result (λ _. stack_of stack.new.frames.items ≡ machine.in_chain (expr.level_of op) (view x.entry) [] op ∷ stack_of stack.old.frames.items) }
+{
+    let first = Box::new(alloc, x)?;
+    stack.push(Frame::Chain(level_of(op), first, Vec::new(alloc), op))
+}
+
 /// A binary operator behind an operand.
 fn add<'a>(
     alloc: Global,
@@ -184,22 +197,16 @@ fn add<'a>(
 ) -> Result<(), AllocError>
     ensures { IfOk result (λ _. stack_of stack.new.frames.items ≡ machine.add op (view x.entry) (stack_of stack.old.frames.items)) }
 {
-    let level = level_of(op);
     match stack.pop() {
-        None => stack.push(Frame::Chain(level, Box::new(alloc, x)?, Vec::new(alloc), op)),
-        Some(Frame::Chain(open, first, parts, last)) => {
-            if open == level {
-                let parts = push_part(parts, last, x)?;
-                stack.push(Frame::Chain(open, first, parts, op))
-            } else {
-                stack.push(Frame::Chain(open, first, parts, last))?;
-                stack.push(Frame::Chain(level, Box::new(alloc, x)?, Vec::new(alloc), op))
-            }
+        Some(Frame::Chain(level, first, parts, last)) if level == level_of(op) => {
+            let parts = push_part(parts, last, x)?;
+            stack.push(Frame::Chain(level, first, parts, op))
         }
         Some(frame) => {
             stack.push(frame)?;
-            stack.push(Frame::Chain(level, Box::new(alloc, x)?, Vec::new(alloc), op))
+            open_chain(alloc, op, x, stack)
         }
+        None => open_chain(alloc, op, x, stack),
     }
 }
 
@@ -225,6 +232,22 @@ fn miscount<'a>(function: Function, name: Span<'a>, count: usize) -> Option<Expr
     None
 }
 
+/// A call whose last argument has been read.
+fn closed_call<'a>(
+    function: Function,
+    name: Span<'a>,
+    arguments: Vec<Tree<'a>>,
+    x: Tree<'a>,
+) -> Result<State<'a>, ReadFault<ExprSyntax<'a>>>
+    ensures { (s : List machine.Held) → Steps result s (machine.at_close (view x.entry) (machine.in_call function (stretch_of name.entry) (map view arguments.entry.items) ∷ s)) }
+{
+    let arguments = push_argument(arguments, x)?;
+    match miscount(function, name, arguments.len()) {
+        Some(fault) => Err(ReadFault::Bad(fault)),
+        None => Ok(State::Has(Tree::Call(function, name, arguments))),
+    }
+}
+
 fn at_close<'a>(
     alloc: Global,
     x: Tree<'a>,
@@ -234,13 +257,7 @@ fn at_close<'a>(
 {
     match stack.pop() {
         Some(Frame::Paren) => Ok(State::Has(Tree::Group(Box::new(alloc, x)?))),
-        Some(Frame::Call(function, name, arguments)) => {
-            let arguments = push_argument(arguments, x)?;
-            match miscount(function, name, arguments.len()) {
-                Some(fault) => Err(ReadFault::Bad(fault)),
-                None => Ok(State::Has(Tree::Call(function, name, arguments))),
-            }
-        }
+        Some(Frame::Call(function, name, arguments)) => closed_call(function, name, arguments, x),
         Some(Frame::Second(_)) => Err(ReadFault::Bad(ExprSyntax::MissingOperator)),
         _ => Err(ReadFault::Bad(ExprSyntax::Parenthesis)),
     }
