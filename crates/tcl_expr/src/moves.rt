@@ -232,7 +232,7 @@ fn miscount<'a>(function: Function, name: Span<'a>, count: usize) -> Option<Expr
     None
 }
 
-/// A call whose last argument has been read.
+/// What a call comes to whose last argument has been read, whatever is open round it.
 fn closed_call<'a>(
     function: Function,
     name: Span<'a>,
