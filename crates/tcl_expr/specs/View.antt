@@ -67,10 +67,10 @@ step_of p = (p.0, view p.1)
 
 abbrev pub held_of : Frame → Held
 held_of (frame.Unary u) = in_unary u
-held_of (frame.Power e) = in_power (view e)
-held_of (frame.Chain q e xs o) = in_chain q (view e) (map step_of xs.items) o
-held_of (frame.Second c) = in_second (view c)
-held_of (frame.Third c e) = in_third (view c) (view e)
+held_of (frame.Power e) = in_power (view e.value)
+held_of (frame.Chain q e xs o) = in_chain q (view e.value) (map step_of xs.items) o
+held_of (frame.Second c) = in_second (view c.value)
+held_of (frame.Third c e) = in_third (view c.value) (view e.value)
 held_of frame.Paren = in_group
 held_of (frame.Call f s es) = in_call f (stretch_of s) (map view es.items)
 

@@ -13,13 +13,13 @@ use tcl_words::Span;
 pub(crate) enum Frame<'a> {
     Unary(UnaryOp),
     /// The left operand of `**`.
-    Power(Tree<'a>),
+    Power(Box<Tree<'a>>),
     /// The level, the parts, and the operator behind the last.
-    Chain(u8, Tree<'a>, Vec<(BinaryOp, Tree<'a>)>, BinaryOp),
+    Chain(u8, Box<Tree<'a>>, Vec<(BinaryOp, Tree<'a>)>, BinaryOp),
     /// The condition of a `?:` whose second operand is open.
-    Second(Tree<'a>),
+    Second(Box<Tree<'a>>),
     /// The first two operands of a `?:` whose third is open.
-    Third(Tree<'a>, Tree<'a>),
+    Third(Box<Tree<'a>>, Box<Tree<'a>>),
     Paren,
     /// A function, its name as it stands, and the arguments that have ended.
     Call(Function, Span<'a>, Vec<Tree<'a>>),

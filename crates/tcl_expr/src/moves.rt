@@ -1,6 +1,6 @@
 //! One step of the parser: what a token does to what is open.
 
-ghost use Rattle.std.specs.Prelude.{◌≡◌, ◌≤◌, ◌∷◌, ◌++◌, [], map, IfOk};
+ghost use Rattle.std.specs.Prelude.{◌≡◌, ◌≤◌, List, ◌∷◌, ◌++◌, [], map, IfOk};
 ghost use Rattle.tcl_expr.specs.Expr as expr;
 ghost use Rattle.tcl_expr.specs.ExprFault.{inside};
 ghost use Rattle.tcl_expr.specs.Faults as faults;
@@ -78,16 +78,11 @@ fn finished<'a>(alloc: Global, frame: Frame<'a>, x: Tree<'a>) -> Result<Tree<'a>
 {
     match frame {
         Frame::Unary(op) => Ok(Tree::Unary(op, Box::new(alloc, x)?)),
-        Frame::Power(left) => Ok(Tree::Power(Box::new(alloc, left)?, Box::new(alloc, x)?)),
+        Frame::Power(left) => Ok(Tree::Power(left, Box::new(alloc, x)?)),
         Frame::Chain(level, first, parts, op) => {
-            let parts = push_part(parts, op, x)?;
-            Ok(Tree::Chain(level, Box::new(alloc, first)?, parts))
+            Ok(Tree::Chain(level, first, push_part(parts, op, x)?))
         }
-        Frame::Third(condition, then) => Ok(Tree::Choice(
-            Box::new(alloc, condition)?,
-            Box::new(alloc, then)?,
-            Box::new(alloc, x)?,
-        )),
+        Frame::Third(condition, then) => Ok(Tree::Choice(condition, then, Box::new(alloc, x)?)),
         Frame::Second(_) | Frame::Paren | Frame::Call(_, _, _) => Ok(x),
     }
 }
@@ -180,6 +175,19 @@ fn at_operand<'a>(
     }
 }
 
+/// Opens parts round an operator, of which x is the first.
+fn open_chain<'a>(
+    alloc: Global,
+    op: BinaryOp,
+    x: Tree<'a>,
+    stack: &mut Stack<'a>,
+) -> Result<(), AllocError>
+    ensures { IfOk result (λ _. stack_of stack.new.frames.items ≡ machine.in_chain (expr.level_of op) (view x.entry) [] op ∷ stack_of stack.old.frames.items) }
+{
+    let first = Box::new(alloc, x)?;
+    stack.push(Frame::Chain(level_of(op), first, Vec::new(alloc), op))
+}
+
 /// A binary operator behind an operand.
 fn add<'a>(
     alloc: Global,
@@ -189,22 +197,16 @@ fn add<'a>(
 ) -> Result<(), AllocError>
     ensures { IfOk result (λ _. stack_of stack.new.frames.items ≡ machine.add op (view x.entry) (stack_of stack.old.frames.items)) }
 {
-    let level = level_of(op);
     match stack.pop() {
-        None => stack.push(Frame::Chain(level, x, Vec::new(alloc), op)),
-        Some(Frame::Chain(open, first, parts, last)) => {
-            if open == level {
-                let parts = push_part(parts, last, x)?;
-                stack.push(Frame::Chain(open, first, parts, op))
-            } else {
-                stack.push(Frame::Chain(open, first, parts, last))?;
-                stack.push(Frame::Chain(level, x, Vec::new(alloc), op))
-            }
+        Some(Frame::Chain(level, first, parts, last)) if level == level_of(op) => {
+            let parts = push_part(parts, last, x)?;
+            stack.push(Frame::Chain(level, first, parts, op))
         }
         Some(frame) => {
             stack.push(frame)?;
-            stack.push(Frame::Chain(level, x, Vec::new(alloc), op))
+            open_chain(alloc, op, x, stack)
         }
+        None => open_chain(alloc, op, x, stack),
     }
 }
 
@@ -230,6 +232,22 @@ fn miscount<'a>(function: Function, name: Span<'a>, count: usize) -> Option<Expr
     None
 }
 
+/// What a call comes to whose last argument has been read, whatever is open round it.
+fn closed_call<'a>(
+    function: Function,
+    name: Span<'a>,
+    arguments: Vec<Tree<'a>>,
+    x: Tree<'a>,
+) -> Result<State<'a>, ReadFault<ExprSyntax<'a>>>
+    ensures { (s : List machine.Held) → Steps result s (machine.at_close (view x.entry) (machine.in_call function (stretch_of name.entry) (map view arguments.entry.items) ∷ s)) }
+{
+    let arguments = push_argument(arguments, x)?;
+    match miscount(function, name, arguments.len()) {
+        Some(fault) => Err(ReadFault::Bad(fault)),
+        None => Ok(State::Has(Tree::Call(function, name, arguments))),
+    }
+}
+
 fn at_close<'a>(
     alloc: Global,
     x: Tree<'a>,
@@ -239,13 +257,7 @@ fn at_close<'a>(
 {
     match stack.pop() {
         Some(Frame::Paren) => Ok(State::Has(Tree::Group(Box::new(alloc, x)?))),
-        Some(Frame::Call(function, name, arguments)) => {
-            let arguments = push_argument(arguments, x)?;
-            match miscount(function, name, arguments.len()) {
-                Some(fault) => Err(ReadFault::Bad(fault)),
-                None => Ok(State::Has(Tree::Call(function, name, arguments))),
-            }
-        }
+        Some(Frame::Call(function, name, arguments)) => closed_call(function, name, arguments, x),
         Some(Frame::Second(_)) => Err(ReadFault::Bad(ExprSyntax::MissingOperator)),
         _ => Err(ReadFault::Bad(ExprSyntax::Parenthesis)),
     }
@@ -264,12 +276,16 @@ fn at_comma<'a>(x: Tree<'a>, stack: &mut Stack<'a>) -> Result<State<'a>, ReadFau
     }
 }
 
-fn at_colon<'a>(x: Tree<'a>, stack: &mut Stack<'a>) -> Result<State<'a>, ReadFault<ExprSyntax<'a>>>
+fn at_colon<'a>(
+    alloc: Global,
+    x: Tree<'a>,
+    stack: &mut Stack<'a>,
+) -> Result<State<'a>, ReadFault<ExprSyntax<'a>>>
     ensures { Steps result (stack_of stack.new.frames.items) (machine.at_colon (view x.entry) (stack_of stack.old.frames.items)) }
 {
     match stack.pop() {
         Some(Frame::Second(condition)) => {
-            stack.push(Frame::Third(condition, x))?;
+            stack.push(Frame::Third(condition, Box::new(alloc, x)?))?;
             Ok(State::Wants(Place::Operand))
         }
         _ => Err(ReadFault::Bad(ExprSyntax::MissingOperator)),
@@ -289,9 +305,13 @@ fn at_operator<'a>(
             add(alloc, op, x, stack)?;
             Ok(State::Wants(Place::Operand))
         }
-        Token::Symbol(Symbol::Power) => open_with(Place::Operand, Frame::Power(x), stack),
-        Token::Symbol(Symbol::Question) => open_with(Place::Operand, Frame::Second(x), stack),
-        Token::Symbol(Symbol::Colon) => at_colon(x, stack),
+        Token::Symbol(Symbol::Power) => {
+            open_with(Place::Operand, Frame::Power(Box::new(alloc, x)?), stack)
+        }
+        Token::Symbol(Symbol::Question) => {
+            open_with(Place::Operand, Frame::Second(Box::new(alloc, x)?), stack)
+        }
+        Token::Symbol(Symbol::Colon) => at_colon(alloc, x, stack),
         Token::Symbol(Symbol::Comma) => at_comma(x, stack),
         Token::Symbol(Symbol::Close) => at_close(alloc, x, stack),
         _ => Err(ReadFault::Bad(ExprSyntax::MissingOperator)),

@@ -1,35 +1,19 @@
-//! White space, and the runs of letters and digits. expr(n), Operands.
+//! The runs of letters and digits. expr(n), Operands.
 
 ghost use Rattle.std.specs.Prelude.{◌≡◌};
 ghost use Rattle.std.specs.Str.{chars};
 ghost use Rattle.tcl_chars.specs.Place.{EndsWith};
 ghost use Rattle.tcl_chars.specs.Truth.{truth_of};
 ghost use Rattle.tcl_chars.specs.declared.numbers.Dialect.TheVariants.{Tcl86};
-ghost use Rattle.tcl_chars.specs.Whole as whole;
 ghost use Rattle.tcl_expr.specs.Tokens as spec;
 ghost use Rattle.tcl_words.specs.Parts.{stretch_of};
 ghost use Rattle.tcl_words.specs.Words.{stretch};
 
 use crate::token::{BinaryOp, Function};
 use tcl_chars::{
-    Dialect, Truth, before, begins, is_list_space, is_name_char, place, read_truth, split_first,
-    tail,
+    Dialect, Truth, before, begins, is_name_char, place, read_truth, split_first, tail,
 };
 use tcl_words::Span;
-
-/// A text without the white space in front of it.
-pub(crate) fn skip_space(text: &str) -> &str
-    ensures { chars result.now ≡ whole.skip_space (chars text.now) }
-{
-    let mut rest = text;
-    while let Some((c, after)) = split_first(rest) {
-        if !is_list_space(c) {
-            return rest;
-        }
-        rest = after;
-    }
-    rest
-}
 
 fn is_run_char(c: char) -> bool
     ensures { result ≡ spec.is_run_char c }

@@ -10,12 +10,12 @@ ghost use Rattle.tcl_words.specs.Words as words;
 
 use crate::operators::{prefix, symbol};
 use crate::runs::{
-    after_run, begins_letter, begins_run, begins_signed, function_of, says_something, skip_space,
-    span, word_operator,
+    after_run, begins_letter, begins_run, begins_signed, function_of, says_something, span,
+    word_operator,
 };
 use crate::token::{Leaf, Symbol, Token};
 use std::alloc::{AllocError, Global};
-use tcl_chars::{before, begins, is_name_char, place, split_first, tail};
+use tcl_chars::{before, begins, is_name_char, place, skip_space, split_first, tail};
 use tcl_words::{Operand, parse_operand};
 
 /// The token that a run is, and what follows it.

@@ -4,7 +4,7 @@ use crate::token::{BinaryOp, Function, Leaf, UnaryOp};
 use tcl_words::Span;
 
 /// An expression. It keeps what its operands are spelled as, with their places in bytes from the text's beginning.
-/// However long the text is, nothing in it stands in more than a few hundred others. expr(n).
+/// However long the text is, nothing in it stands in more than some three thousand others. expr(n).
 #[derive(Debug, Drop)]
 pub enum Tree<'a> {
     Operand(Leaf<'a>),

@@ -50,6 +50,8 @@ fn each_kind(rt: HostRuntime) -> Result<(), Fail> {
         ("abs(", "1", ")", 200),
         ("max(1, ", "1", ")", 200),
         ("- ", "1", "", 200),
+        ("+", "$x", "", 200),
+        ("~ ", "1", "", 200),
         ("!", "1", "", 200),
         ("2 ** ", "1", "", 200),
         ("1 ? ", "1", " : 0", 200),
@@ -90,6 +92,18 @@ fn kinds_together(rt: HostRuntime) -> Result<(), Fail> {
     Ok(())
 }
 
+/// The deepest tree: in each of 200 parentheses stand a `?:`, an operator of each level and the left operand of `**`.
+#[test]
+fn deepest(rt: HostRuntime) -> Result<(), Fail> {
+    check(
+        &rt,
+        "1||1&&1|1^1&1 in 1 eq 1==1<1<<1+1*(",
+        "1",
+        ")**1?1:1",
+        200,
+    )
+}
+
 /// What has ended is open no more.
 #[test]
 fn side_by_side(rt: HostRuntime) -> Result<(), Fail> {
@@ -114,6 +128,7 @@ fn other_faults_at_the_last_level(rt: HostRuntime) -> Result<(), Fail> {
     let alloc = rt.alloc();
     for (middle, wanted) in [
         ("f(1)", "unknown math function \"f\""),
+        ("f()", "unknown math function \"f\""),
         ("abs(1)", "nesting too deep"),
         ("abc", "invalid bareword \"abc\""),
         ("* 1", "missing operand"),
@@ -121,7 +136,18 @@ fn other_faults_at_the_last_level(rt: HostRuntime) -> Result<(), Fail> {
         ("1 ? 2", "nesting too deep"),
         ("1 ** (", "nesting too deep"),
         ("{a", "missing close-brace"),
+        ("${a", "missing close-brace for variable name"),
         ("[a", "nesting too deep"),
+        ("\"[a", "nesting too deep"),
+        ("$a(b", "nesting too deep"),
+        ("- 1", "nesting too deep"),
+        ("", "missing operand"),
+        ("1 (", "missing operator"),
+        ("1 abs(", "missing operator"),
+        ("1 f(", "missing operator"),
+        ("1 [", "missing operator"),
+        ("1 , 2", "missing operator"),
+        ("1 : 2", "missing operator"),
     ] {
         let text = nested(alloc, 200, "(", middle, ")")?;
         let found = parse(alloc, &text)?;

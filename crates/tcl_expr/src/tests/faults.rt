@@ -40,6 +40,10 @@ fn barewords(rt: HostRuntime) -> Result<(), Fail> {
         ("1 + ]", "invalid bareword \"]\""),
         ("é", "invalid bareword \"é\""),
         ("(\\n", "invalid bareword \"\\\""),
+        ("08(1)", "invalid bareword \"08\""),
+        ("3.(", "invalid bareword \"3.\""),
+        ("$\"a", "invalid bareword \"$\""),
+        ("max(1, $ [", "invalid bareword \"$\""),
     ] {
         check(&rt, text, wanted)?;
     }
@@ -49,8 +53,37 @@ fn barewords(rt: HostRuntime) -> Result<(), Fail> {
 #[test]
 fn missing_operands(rt: HostRuntime) -> Result<(), Fail> {
     for text in [
-        "1 +", "* 1", "1 + * 2", "()", "(", "1 + )", "?", "1 ? : 2", "1 ? 2 :", "abs(1,)",
-        "abs(,1)", "!=1", "-", "1 ** ", "&& 1", "max(1,", "!",
+        "1 +",
+        "* 1",
+        "1 + * 2",
+        "()",
+        "(",
+        "1 + )",
+        "?",
+        "1 ? : 2",
+        "1 ? 2 :",
+        "abs(1,)",
+        "abs(,1)",
+        "!=1",
+        "-",
+        "1 ** ",
+        "&& 1",
+        "max(1,",
+        "!",
+        "1 ? ",
+        "(1 ? )",
+        "max(1 ? , 2)",
+        "1 ? 2 : )",
+        "max(1 + )",
+        "max(- )",
+        "min(",
+        "(1 + ",
+        ", 1",
+        ": 1",
+        ") 1",
+        "** 2",
+        "1 *** 2",
+        "1 << < 2",
     ] {
         check(&rt, text, "missing operand")?;
     }
@@ -86,6 +119,18 @@ fn missing_operators(rt: HostRuntime) -> Result<(), Fail> {
         "1 ? 2 : 3 : 4",
         "5(1)",
         "$a b",
+        "1 f(2)",
+        "1 abs()",
+        "1 $",
+        "1 \"a",
+        "1 $a(",
+        "1 ! = 2",
+        "1 = = 2",
+        "1 ? 2, 3",
+        "abs(1 ? 2)",
+        "((1 ? 2)",
+        "1 ? (2 : 3) : 4",
+        "(1, 2",
     ] {
         check(&rt, text, "missing operator")?;
     }
@@ -117,6 +162,9 @@ fn functions(rt: HostRuntime) -> Result<(), Fail> {
         ("eq (1)", "unknown math function \"eq\""),
         ("a.b(", "unknown math function \"a.b\""),
         ("Abs(1)", "unknown math function \"Abs\""),
+        ("f()", "unknown math function \"f\""),
+        ("f(", "unknown math function \"f\""),
+        ("1 + f ({", "unknown math function \"f\""),
         ("abs()", "too few arguments for math function \"abs\""),
         ("max( )", "too few arguments for math function \"max\""),
         ("1 + int()", "too few arguments for math function \"int\""),
@@ -166,6 +214,33 @@ fn the_first_token_counts(rt: HostRuntime) -> Result<(), Fail> {
         ("[a) + )", "missing close-bracket"),
         ("(1 + 2 * abc", "invalid bareword \"abc\""),
         ("1) + ", "unbalanced parentheses"),
+    ] {
+        check(&rt, text, wanted)?;
+    }
+    Ok(())
+}
+
+/// The examples of expr(n) that are no whole numbers, or call functions on others.
+#[test]
+fn examples_of_the_manual(rt: HostRuntime) -> Result<(), Fail> {
+    for (text, wanted) in [
+        ("8.2 + 6", "invalid bareword \"8.2\""),
+        ("3.1 + $a", "invalid bareword \"3.1\""),
+        ("5 / 4.0", "invalid bareword \"4.0\""),
+        (
+            "5 / ( [string length \"abcd\"] + 0.0 )",
+            "invalid bareword \"0.0\"",
+        ),
+        ("20.0/5.0", "invalid bareword \"20.0\""),
+        ("sin($x+$y)", "unknown math function \"sin\""),
+        ("hypot($x,$y)", "unknown math function \"hypot\""),
+        (
+            " ($x**2 - $y**2) / exp($x**2 + $y**2) ",
+            "unknown math function \"exp\"",
+        ),
+        (" $radius * cos($angle) ", "unknown math function \"cos\""),
+        (" atan2($y, $x) ", "unknown math function \"atan2\""),
+        (" int(100 * rand()) ", "unknown math function \"rand\""),
     ] {
         check(&rt, text, wanted)?;
     }

@@ -69,8 +69,12 @@ fn examples_of_the_manual(rt: HostRuntime) -> Result<(), Fail> {
             "(((($x ** 2) - ($y ** 2))) / max((($x ** 2) + ($y ** 2))))",
         ),
         (
-            "[a $::e(S)] &&\n [b $::e(S)]",
-            "([a $::e(S)] && [b $::e(S)])",
+            "[info exists ::env(SOME_ENV_VAR)] &&\n [string is true -strict $::env(SOME_ENV_VAR)]",
+            "([info exists ::env(SOME_ENV_VAR)] && [string is true -strict $::env(SOME_ENV_VAR)])",
+        ),
+        (
+            "[tcl::mathfunc::sin [expr {$x+$y}]]",
+            "[tcl::mathfunc::sin [expr {$x+$y}]]",
         ),
     ] {
         check(&rt, text, wanted)?;
@@ -89,6 +93,16 @@ fn grouping(rt: HostRuntime) -> Result<(), Fail> {
         ("-2 ** 2", "(-2 ** 2)"),
         ("- 2 ** 2", "((- 2) ** 2)"),
         ("2 ** - 1", "(2 ** (- 1))"),
+        ("!2 ** 2", "((! 2) ** 2)"),
+        ("~2 ** 2", "((~ 2) ** 2)"),
+        ("+ 2 ** 2", "((+ 2) ** 2)"),
+        ("2 ** ! 2 ** 3", "(2 ** ((! 2) ** 3))"),
+        ("2 ** ~ 2 ** +3", "(2 ** ((~ 2) ** (+ 3)))"),
+        (
+            "1 ** 2 ? 3 ** 4 : 5 ** 6",
+            "((1 ** 2) ? (3 ** 4) : (5 ** 6))",
+        ),
+        ("- 1 ? - 2 : - 3", "((- 1) ? (- 2) : (- 3))"),
         ("!~- +1", "(! (~ (- (+ 1))))"),
         ("! !1", "(! (! 1))"),
         ("1 ? 2 : 3 ? 4 : 5", "(1 ? 2 : (3 ? 4 : 5))"),
