@@ -4,7 +4,7 @@ use Rattle.tcl_chan.specs.Devices.{one_more}
 use Rattle.tcl_chan.specs.Worlds.{stdout, stderr}
 use Rattle.tcl_chan.specs.declared.reading.Reader.{Reader}
 use Rattle.tcl_chan.specs.declared.world.World.{World}
-use Rattle.tcl_interp.specs.Shown.{Counted, Leaves}
+use Rattle.tcl_interp.specs.Shown.{Counted, RunCounted, Leaves}
 
 module _ {R W E : Type 0} (to_come : R → Option (List ℕ)) (outs : W → ℕ) (errs : E → ℕ) where
   pub leaves_same : (w : World R W E Reader) → Leaves to_come outs errs false w w
@@ -18,6 +18,17 @@ module _ {R W E : Type 0} (to_come : R → Option (List ℕ)) (outs : W → ℕ)
   counted false o o' o'' e e' e'' p q = (q.0 ∙ p.0, q.1 ∙ p.1)
   counted true o o' o'' e e' e'' p (inl q) = inl (q.0 ∙ ap one_more p.0, q.1 ∙ p.1)
   counted true o o' o'' e e' e'' p (inr q) = inr (q.0 ∙ p.0, q.1 ∙ ap one_more p.1)
+
+  -- after a run: what an evaluation counts, and then what the flushes count
+
+  pub run_counted : (io : Bool) (o o' : W) (e e' : E) → Counted outs errs io o e o' e' → RunCounted outs errs io o e o' e'
+  run_counted false o o' e e' h = h
+  run_counted true o o' e e' h = inl h
+
+  pub counted_run : (io : Bool) (o o' o'' : W) (e e' e'' : E) → Counted outs errs false o e o' e' → RunCounted outs errs io o' e' o'' e'' → RunCounted outs errs io o e o'' e''
+  counted_run false o o' o'' e e' e'' p q = counted false o o' o'' e e' e'' p q
+  counted_run true o o' o'' e e' e'' p (inl q) = inl (counted true o o' o'' e e' e'' p q)
+  counted_run true o o' o'' e e' e'' p (inr q) = inr (q.0 ∙ ap one_more p.0, q.1 ∙ ap one_more p.1)
 
   pub leaves_trans : (io : Bool) (u v w : World R W E Reader) → Leaves to_come outs errs false u v → Leaves to_come outs errs io v w → Leaves to_come outs errs io u w
   leaves_trans io u v w p q = record {

@@ -2,12 +2,12 @@
 ghost use Rattle.std.specs.Prelude.{◌≡◌, IfOk, false, ℕ, List, Option, is_err, map as each};
 ghost use Rattle.std.specs.FinMap as map;
 ghost use Rattle.std.specs.Str.{chars};
-ghost use Rattle.tcl_chan.specs.Worlds.{stdout, stderr};
+ghost use Rattle.tcl_chan.specs.Worlds.{stdout, stderr, SameDevices};
 ghost use Rattle.tcl_meaning.specs.Effects.{Gives};
 ghost use Rattle.tcl_meaning.specs.Run.{run_script, first_state, run_with_args, args_put, args_error};
 ghost use Rattle.tcl_interp.specs.Outcomes.{Ends, outcome_is_io, outcome_fails};
 ghost use Rattle.tcl_interp.specs.Reports.{Reports};
-ghost use Rattle.tcl_interp.specs.Shown.{Leaves, Counted};
+ghost use Rattle.tcl_interp.specs.Shown.{RunCounted};
 
 use crate::host::{Config, Outcome};
 use crate::interp::Interp;
@@ -26,19 +26,22 @@ pub struct Report {
     pub interp: Option<Interp>,
 }
 
-// Flushes both outputs, up to the first that fails.
+// Flushes both outputs, the second too where the first fails.
 fn flush_both<R: Input, W: Output, E: Output>(
     world: &mut World<'_, '_, '_, R, W, E>,
 ) -> Result<(), ChanFault>
-    ensures leaves { Leaves R.to_come W.failed_calls E.failed_calls (is_err result) world.old world.new }
+    ensures devices { SameDevices world.old world.new }
+    ensures failures { RunCounted W.failed_calls E.failed_calls (is_err result) (stdout world.old) (stderr world.old) (stdout world.new) (stderr world.new) }
     ensures out { W.written (stdout world.new) ≡ W.written (stdout world.old) }
     ensures err { E.written (stderr world.new) ≡ E.written (stderr world.old) }
 {
-    world.flush(Out::Stdout)?;
-    world.flush(Out::Stderr)
+    let first = world.flush(Out::Stdout);
+    world.flush(Out::Stderr)?;
+    first
 }
 
 // Evaluates a script and flushes both outputs.
+#[tactic(auto, using(crate::proofs::Leaving::run_counted, crate::proofs::Leaving::counted_run))]
 fn run_in<R: Input, W: Output, E: Output>(
     interp: &mut Interp,
     world: &mut World<'_, '_, '_, R, W, E>,
@@ -49,7 +52,8 @@ fn run_in<R: Input, W: Output, E: Output>(
     ensures run { Ends result (run_script (chars script.now) (first_state interp.old.globals (W.written (stdout world.old)) (E.written (stderr world.old)) budget))
         interp.new.globals (W.written (stdout world.new)) (E.written (stderr world.new)) }
     ensures fails { interp.new.failed ≡ outcome_fails result }
-    ensures leaves { Leaves R.to_come W.failed_calls E.failed_calls (outcome_is_io result) world.old world.new }
+    ensures devices { SameDevices world.old world.new }
+    ensures failures { RunCounted W.failed_calls E.failed_calls (outcome_is_io result) (stdout world.old) (stderr world.old) (stdout world.new) (stderr world.new) }
 {
     let outcome = interp.eval(world, script, budget);
     if outcome_fails(&outcome) {
@@ -94,7 +98,7 @@ fn run_named<R: Input, W: Output, E: Output>(
     budget: u64,
 ) -> Report
     ensures report { Reports result (run_script (chars script.now) (first_state (args_put (chars name.now)) (W.written out.old) (E.written err.old) budget)) (W.written out.new) (E.written err.new) }
-    ensures failures { Counted W.failed_calls E.failed_calls (outcome_is_io result.outcome) out.old err.old out.new err.new }
+    ensures failures { RunCounted W.failed_calls E.failed_calls (outcome_is_io result.outcome) out.old err.old out.new err.new }
 {
     let Ok(mut interp) = prepared(alloc, name) else {
         return Report {
@@ -152,7 +156,7 @@ pub fn run<R: Input, W: Output, E: Output>(
     budget: u64,
 ) -> Report
     ensures report { Reports result (run_with_args (chars script.now) (each (λ a. chars a.now) args.now) (W.written out.old) (E.written err.old) budget) (W.written out.new) (E.written err.new) }
-    ensures failures { Counted W.failed_calls E.failed_calls (outcome_is_io result.outcome) out.old err.old out.new err.new }
+    ensures failures { RunCounted W.failed_calls E.failed_calls (outcome_is_io result.outcome) out.old err.old out.new err.new }
 {
     match args {
         [] => run_named(alloc, script, "", reader, out, err, budget),

@@ -1,5 +1,5 @@
 -- What the program does, put together from the calls that it makes.
-use Rattle.std.proofs.Common.{◌≡◌, ℕ, ◌-◌, ◌<◌, suc, zero, Bool, true, false, List, [], ◌∷◌, length, take, drop, map, Option, Some, None, option_map, refl, sym, ap, subst, ◌∙◌, arith, Bor, slice_index_or}
+use Rattle.std.proofs.Common.{◌≡◌, ℕ, ◌-◌, ◌<◌, suc, zero, Bool, true, false, List, [], ◌∷◌, length, take, drop, map, Option, Some, None, option_map, refl, sym, ap, subst, ◌∙◌, arith, Bor, slice_index_or, inl, inr}
 use Rattle.std.specs.FinMap as finmap
 use Rattle.std.specs.Str.{chars, IsUtf8}
 use Rattle.std.proofs.lemmas.List.{length-drop}
@@ -13,7 +13,7 @@ use Rattle.tcl_meaning.proofs.Runs.{out_same}
 use Rattle.tcl_interp.specs.Interps.{Shows}
 use Rattle.tcl_interp.specs.Outcomes.{outcome_is_io}
 use Rattle.tcl_interp.specs.Reports.{Reports, ReportsBy}
-use Rattle.tcl_interp.specs.Shown.{Counted, set_state}
+use Rattle.tcl_interp.specs.Shown.{RunCounted, set_state}
 use Rattle.tcl_interp.specs.declared.host.Outcome.{Outcome}
 use Rattle.tcl_interp.specs.declared.host.Outcome.TheVariants as outcome
 use Rattle.tcl_interp.specs.declared.whole.Report.{Report}
@@ -42,14 +42,16 @@ ran_nothing script args budget status out err out' err' same answers says = rw s
 })
 
 -- the failures that devices count, as they tell them
-pub counted_told : {W E : Type 0} (outs : W → ℕ) (errs : E → ℕ) (io : Bool) (out out' : W) (err err' : E) → Counted outs errs io out err out' err' → Counted (λ n. n) (λ n. n) io (outs out) (errs err) (outs out') (errs err')
-counted_told outs errs true out out' err err' h = h
+pub counted_told : {W E : Type 0} (outs : W → ℕ) (errs : E → ℕ) (io : Bool) (out out' : W) (err err' : E) → RunCounted outs errs io out err out' err' → RunCounted (λ n. n) (λ n. n) io (outs out) (errs err) (outs out') (errs err')
+counted_told outs errs true out out' err err' (inl (inl h)) = inl (inl h)
+counted_told outs errs true out out' err err' (inl (inr h)) = inl (inr h)
+counted_told outs errs true out out' err err' (inr h) = inr h
 counted_told outs errs false out out' err err' h = h
 
 -- a run that is reported
 
 module _ (got : Got Completion) (status : ℕ) (out err out' before err' : Told) where
-  reported : (o : Outcome) (shows : Option Shows) → ReportsBy o shows got out'.bytes before.bytes → Counted (λ n. n) (λ n. n) (outcome_is_io o) out.failed err.failed out'.failed before.failed → status ≡ status_of o → SaidIf (line_of o) before err' → Ran got status out err out' err'
+  reported : (o : Outcome) (shows : Option Shows) → ReportsBy o shows got out'.bytes before.bytes → RunCounted (λ n. n) (λ n. n) (outcome_is_io o) out.failed err.failed out'.failed before.failed → status ≡ status_of o → SaidIf (line_of o) before err' → Ran got status out err out' err'
   reported o (Some interp) h counted answers says = record { outcome = o; variables = interp.globals; before = before; ends = h.ends; failures = counted; answers = answers; says = says }
   reported o None h counted answers says =
       let m = h.memory in
@@ -58,12 +60,12 @@ module _ (got : Got Completion) (status : ℕ) (out err out' before err' : Told)
         variables = finmap.empty;
         before = before;
         ends = record { out = h.out_begins; err = h.err_begins };
-        failures = subst (λ x. Counted (λ n. n) (λ n. n) (outcome_is_io x) out.failed err.failed out'.failed before.failed) m counted;
+        failures = subst (λ x. RunCounted (λ n. n) (λ n. n) (outcome_is_io x) out.failed err.failed out'.failed before.failed) m counted;
         answers = answers ∙ ap status_of m;
         says = subst (λ x. SaidIf (line_of x) before err') m says;
       }
 
-  pub ran : (report : Report) → Reports report got out'.bytes before.bytes → Counted (λ n. n) (λ n. n) (outcome_is_io report.outcome) out.failed err.failed out'.failed before.failed → status ≡ status_of report.outcome → SaidIf (line_of report.outcome) before err' → Ran got status out err out' err'
+  pub ran : (report : Report) → Reports report got out'.bytes before.bytes → RunCounted (λ n. n) (λ n. n) (outcome_is_io report.outcome) out.failed err.failed out'.failed before.failed → status ≡ status_of report.outcome → SaidIf (line_of report.outcome) before err' → Ran got status out err out' err'
   ran report h = reported report.outcome report.interp h
 
 -- what is answered for a file and the words from its name on
@@ -92,7 +94,7 @@ module _ (budget : ℕ) (ws : List (Bor (List ℕ))) (file : Option (Bor (List �
   pub refused_file : (bytes : Bor (List ℕ)) (status : ℕ) → file ≡ Some bytes → IsUtf8 bytes.now → out' ≡ out → status ≡ status_of outcome.Memory → SaidIf (line_of outcome.Memory) err err' → RunsFile budget (texts ws) (option_map (λ f. f.now) file) status out err out' err'
   refused_file bytes status e u same answers says = good_file bytes status e u (ran_nothing (joined (chars bytes.now)) (map (λ w. chars w.now) ws) budget status out err out' err' same answers says)
 
-  pub read_file : (bytes : Bor (List ℕ)) (script : List ℕ) (status : ℕ) (between before : Told) (report : Report) → file ≡ Some bytes → IsUtf8 bytes.now → script ≡ joined (chars bytes.now) → out' ≡ between → Reports report (run_with_args script (map (λ w. chars w.now) ws) out.bytes err.bytes budget) between.bytes before.bytes → Counted (λ n. n) (λ n. n) (outcome_is_io report.outcome) out.failed err.failed between.failed before.failed → status ≡ status_of report.outcome → SaidIf (line_of report.outcome) before err' → RunsFile budget (texts ws) (option_map (λ f. f.now) file) status out err out' err'
+  pub read_file : (bytes : Bor (List ℕ)) (script : List ℕ) (status : ℕ) (between before : Told) (report : Report) → file ≡ Some bytes → IsUtf8 bytes.now → script ≡ joined (chars bytes.now) → out' ≡ between → Reports report (run_with_args script (map (λ w. chars w.now) ws) out.bytes err.bytes budget) between.bytes before.bytes → RunCounted (λ n. n) (λ n. n) (outcome_is_io report.outcome) out.failed err.failed between.failed before.failed → status ≡ status_of report.outcome → SaidIf (line_of report.outcome) before err' → RunsFile budget (texts ws) (option_map (λ f. f.now) file) status out err out' err'
   read_file bytes script status between before report e u is same h counted answers says =
       let got = run_with_args script (map (λ w. chars w.now) ws) out.bytes err.bytes budget in
       let whole = ran got status out err between before err' report h counted answers says in

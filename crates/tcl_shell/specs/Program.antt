@@ -9,7 +9,7 @@ use Rattle.tcl_meaning.specs.Effects.{Got}
 use Rattle.tcl_meaning.specs.Run.{run_with_args}
 use Rattle.tcl_meaning.specs.State.{Variables}
 use Rattle.tcl_interp.specs.Outcomes.{Ends, outcome_is_io}
-use Rattle.tcl_interp.specs.Shown.{Counted}
+use Rattle.tcl_interp.specs.Shown.{RunCounted}
 use Rattle.tcl_interp.specs.declared.host.Outcome.{Outcome}
 use Rattle.tcl_interp.specs.declared.host.Outcome.TheVariants as outcome
 use Rattle.tcl_shell.specs.Lines.{Told, Said, SaidIf, usage, unread, not_utf8, message_line, budget_spent, out_of_memory, broken}
@@ -62,7 +62,7 @@ pub record Ran (got : Got Completion) (status : ℕ) (out err out' err' : Told) 
   -- standard error before that line
   pub before : Told
   pub ends : Ends outcome got variables out'.bytes before.bytes
-  pub failures : Counted (λ n. n) (λ n. n) (outcome_is_io outcome) out.failed err.failed out'.failed before.failed
+  pub failures : RunCounted (λ n. n) (λ n. n) (outcome_is_io outcome) out.failed err.failed out'.failed before.failed
   pub answers : status ≡ status_of outcome
   pub says : SaidIf (line_of outcome) before err'
 

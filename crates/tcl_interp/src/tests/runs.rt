@@ -3,6 +3,7 @@
 use super::setting::{holds, is_done};
 use crate::{Outcome, Report, run};
 use std::test::Fail;
+use tcl_chan::device::Output;
 use tcl_chan::faulty::FaultyOutput;
 use tcl_chan::memory::{MemoryInput, MemoryOutput};
 
@@ -58,21 +59,25 @@ fn arguments_come_with_lists(rt: HostRuntime) -> Result<(), Fail> {
 #[test]
 fn a_failed_flush_fails_the_run(rt: HostRuntime) -> Result<(), Fail> {
     let alloc = rt.alloc();
-    let mut input = MemoryInput::new(b"");
-    let mut out = FaultyOutput::new(MemoryOutput::new(alloc, 9)?, 0, 1);
-    let mut err = MemoryOutput::new(alloc, 9)?;
-    let Report { outcome, interp } = run(
-        alloc,
-        "puts x",
-        &["a.tcl"],
-        &mut input,
-        &mut out,
-        &mut err,
-        5,
-    );
-    assert!(rt; matches!(outcome, Outcome::Io));
-    assert_eq!(rt; out.inner().bytes(), b"x\n".as_slice());
-    let interp = interp.expect(&rt, "an interpreter");
-    assert!(rt; interp.is_failed());
+    // both outputs are flushed, also where the first flush fails
+    for (fail_out, fail_err) in [(1, 0), (0, 1), (1, 1)] {
+        let mut input = MemoryInput::new(b"");
+        let mut out = FaultyOutput::new(MemoryOutput::new(alloc, 9)?, 0, fail_out);
+        let mut err = FaultyOutput::new(MemoryOutput::new(alloc, 9)?, 0, fail_err);
+        let Report { outcome, interp } = run(
+            alloc,
+            "puts x",
+            &["a.tcl"],
+            &mut input,
+            &mut out,
+            &mut err,
+            5,
+        );
+        assert!(rt; matches!(outcome, Outcome::Io));
+        assert_eq!(rt; out.inner().bytes(), b"x\n".as_slice());
+        assert_eq!(rt; (out.failures(), err.failures()), (fail_out, fail_err));
+        let interp = interp.expect(&rt, "an interpreter");
+        assert!(rt; interp.is_failed());
+    }
     Ok(())
 }
