@@ -9,8 +9,6 @@ mod fault;
 mod indices;
 pub mod laws;
 mod numbers;
-#[cfg(test)]
-mod tests;
 mod texts;
 mod truths;
 

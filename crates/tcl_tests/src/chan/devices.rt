@@ -1,11 +1,11 @@
 //! The devices by themselves.
-use crate::device::{Broken, Input, Output};
-use crate::faulty::{FaultyInput, FaultyOutput};
-use crate::memory::{MemoryInput, MemoryOutput};
-use crate::pieces::OneByte;
-use crate::standard::{StandardInput, StandardOutput};
 use std::io::{self, ErrorKind, Read, Write};
 use std::test::Fail;
+use tcl_chan::device::{Broken, Input, Output};
+use tcl_chan::faulty::{FaultyInput, FaultyOutput};
+use tcl_chan::memory::{MemoryInput, MemoryOutput};
+use tcl_chan::pieces::OneByte;
+use tcl_chan::standard::{StandardInput, StandardOutput};
 
 #[test]
 fn memory_is_read_in_order(rt: HostRuntime) {

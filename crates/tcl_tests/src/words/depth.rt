@@ -1,7 +1,7 @@
 //! How deep and how large a text may be.
-use crate::tests::shown::shown;
-use crate::{Parsed, Syntax, parse_first};
+use super::shown::shown;
 use std::test::Fail;
+use tcl_words::{Parsed, Syntax, parse_first};
 
 /// So many openers, a word and so many closers behind `puts `.
 fn nested(rt: &HostRuntime, open: &str, close: &str, levels: u32) -> Result<String, Fail> {

@@ -1,9 +1,9 @@
 //! Commands from a place on, operands, and whether a text is complete.
-use crate::tests::shown::{operand_shown, shown};
-use crate::{begins_operand, is_complete, parse_command, parse_operand};
+use super::shown::{operand_shown, shown};
 use std::test::Fail;
+use tcl_words::{begins_operand, is_complete, parse_command, parse_operand};
 
-static FROM_A_PLACE: [(&str, usize, bool, &str); 17] = [
+static FROM_A_PLACE: [(&str, usize, bool, &str); 30] = [
     (" ; ] a", 0, true, "End 3"),
     ("a]b", 0, true, "<0:a> 1"),
     ("{a}]", 0, true, "{1:a} 3"),
@@ -26,6 +26,24 @@ static FROM_A_PLACE: [(&str, usize, bool, &str); 17] = [
     ("a \"[b $c(d)]\"", 2, false, "\"3:[b $c(d)]=4:b $c(d)\" 13"),
     ("😀;😀", 5, false, "<5:😀> 9"),
     ("a # b", 2, false, "End 5"),
+    ("puts [a b]", 6, true, "<6:a> <8:b> 9"),
+    ("puts [ ; ]", 6, true, "End 9"),
+    ("puts []", 6, true, "End 6"),
+    ("puts [a;b c]", 8, true, "<8:b> <10:c> 11"),
+    ("puts [a\nb]", 7, true, "<8:b> 9"),
+    ("puts [a\\\n]", 6, true, "<6:a> 9"),
+    ("puts [# ]\n]", 6, true, "End 10"),
+    ("é [a]]", 4, true, "<4:a> 5"),
+    (
+        "x [set y [z 1]]",
+        3,
+        true,
+        "<3:set> <7:y> <9:[z 1]=10:z 1> 14",
+    ),
+    ("x [set y \"]\"]", 3, true, "<3:set> <7:y> \"10:]\" 12"),
+    ("x [{a}b]", 3, true, "extra characters after close-brace"),
+    ("x [a {b]", 3, true, "missing close-brace"),
+    ("puts [a b", 6, true, "<6:a> <8:b> 9"),
 ];
 
 /// `nested`: is the text read as inside brackets?

@@ -2,8 +2,8 @@
 ghost use Rattle.std.specs.Prelude.{None, Some};
 ghost use Rattle.tcl_chan.specs.Memories.{bytes_left};
 
-use crate::device::{Broken, Input};
-use crate::memory::MemoryInput;
+use tcl_chan::device::{Broken, Input};
+use tcl_chan::memory::MemoryInput;
 
 /// An input of bytes in memory that gives none past a chosen place before it has given all up to there.
 #[derive(Drop)]

@@ -1,6 +1,6 @@
 //! Parses as texts.
-use crate::{Form, Operand, Parsed, Piece, Span, Word};
 use std::test::Fail;
+use tcl_words::{Form, Operand, Parsed, Piece, Span, Word};
 
 /// A stretch, as its place and its text.
 fn add_span(out: &mut String, span: &Span<'_>) -> Result<(), Fail> {

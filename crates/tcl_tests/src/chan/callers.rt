@@ -2,12 +2,12 @@
 ghost use Rattle.std.specs.Prelude.{◌≡◌, ◌++◌, [], OnOk, Some};
 ghost use Rattle.tcl_chan.specs.Devices.{put};
 
-use crate::device::{Input, Output};
-use crate::fault::{ChanFault, Out};
-use crate::memory::{MemoryInput, MemoryOutput};
-use crate::world::World;
 use std::alloc::Global;
 use std::test::Fail;
+use tcl_chan::device::{Input, Output};
+use tcl_chan::fault::{ChanFault, Out};
+use tcl_chan::memory::{MemoryInput, MemoryOutput};
+use tcl_chan::world::World;
 
 /// Writes both texts, the second one to standard error, and flushes.
 fn write_both<R: Input, W: Output, E: Output>(

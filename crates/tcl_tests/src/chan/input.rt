@@ -1,16 +1,16 @@
 //! Rows of input: the bytes, and what the calls answer, over a device that gives all it has, over one that gives a byte a
 //! call, and over those that cut at one place.
-use crate::device::Input;
-use crate::fault::ChanFault;
-use crate::faulty::FaultyInput;
-use crate::memory::{MemoryInput, MemoryOutput};
-use crate::pieces::OneByte;
-use crate::tests::cuts::{CutInput, Resuming};
-use crate::world::World;
+use super::cuts::{CutInput, Resuming};
 use std::alloc::Global;
 use std::rc::RcStr;
 use std::string::String;
 use std::test::Fail;
+use tcl_chan::device::Input;
+use tcl_chan::fault::ChanFault;
+use tcl_chan::faulty::FaultyInput;
+use tcl_chan::memory::{MemoryInput, MemoryOutput};
+use tcl_chan::pieces::OneByte;
+use tcl_chan::world::World;
 
 /// What four calls of `gets` answer, each with `!` where the end was met by then and `;` else.
 fn lines<R: Input>(alloc: Global, input: &mut R) -> Result<String, ChanFault> {

@@ -1,8 +1,8 @@
 //! Large texts: a long chain stays flat, so neither the parser nor a drop goes deep.
 
-use crate::{Tree, parse_expr};
 use std::alloc::{AllocError, Global};
 use std::test::Fail;
+use tcl_expr::{Tree, parse_expr};
 
 fn chain(alloc: Global, n: usize, part: &str) -> Result<String, AllocError> {
     let mut text = String::new(alloc);

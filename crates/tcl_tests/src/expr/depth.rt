@@ -1,10 +1,10 @@
 //! Levels: 200 may stand in one another.
 
 use super::show::parse;
-use crate::{ExprSyntax, parse_expr};
 use std::alloc::{AllocError, Global};
 use std::process::Abort;
 use std::test::Fail;
+use tcl_expr::{ExprSyntax, parse_expr};
 
 /// The opening text so many times, the middle, and the closing text as often.
 fn nested(

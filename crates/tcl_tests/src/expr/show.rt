@@ -1,10 +1,8 @@
 //! A parse, written out with parentheses round each operator: a Tcl expression of the same value.
 
-use crate::token::Leaf;
-use crate::tree::Tree;
-use crate::{ExprSyntax, parse_expr};
 use std::alloc::{AllocError, Global};
 use std::test::Fail;
+use tcl_expr::{ExprSyntax, Leaf, Tree, parse_expr};
 use tcl_words::{Form, Piece, Word};
 
 fn show_piece(out: &mut String, piece: &Piece<'_>) -> Result<(), AllocError> {

@@ -1,10 +1,10 @@
 //! The program's words, statuses and lines.
-use crate::{file_word, tool};
 use std::alloc::Global;
 use std::process::Abort;
 use std::test::Fail;
 use tcl_chan::faulty::FaultyOutput;
 use tcl_chan::memory::{MemoryInput, MemoryOutput};
+use tcl_shell::{file_word, tool};
 
 #[test]
 fn files(rt: HostRuntime) {

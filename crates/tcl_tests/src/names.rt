@@ -1,7 +1,7 @@
 //! Maps from a few names, one of which isn't ASCII.
-use crate::NameMap;
 use std::alloc::{AllocError, Global};
 use std::test::Fail;
+use tcl_names::NameMap;
 
 fn letters(alloc: Global) -> Result<NameMap<u8>, AllocError> {
     let mut letters = NameMap::new(alloc);

@@ -1,11 +1,11 @@
 //! What scripts put out and answer, and what they cost.
 
 use super::setting::{eval_over, fresh, holds, is_done};
-use crate::Outcome;
 use std::alloc::Global;
 use std::process::Abort;
 use std::test::Fail;
 use tcl_chan::memory::{MemoryInput, MemoryOutput};
+use tcl_interp::Outcome;
 
 // A script, and how it ends.
 #[derive(Clone, Copy)]

@@ -1,10 +1,10 @@
 //! What the tests share.
 
-use crate::{Config, HostFault, Interp, Outcome};
 use std::alloc::Global;
 use tcl_chan::device::{Input, Output};
 use tcl_chan::world::World;
 use tcl_chars::{Dialect, Fault};
+use tcl_interp::{Config, HostFault, Interp, Outcome};
 
 /// An interpreter without variables.
 pub(crate) fn fresh(alloc: Global) -> Result<Interp, Fault> {

@@ -1,11 +1,11 @@
 //! Whole runs.
 
 use super::setting::{holds, is_done};
-use crate::{Outcome, Report, run};
 use std::test::Fail;
 use tcl_chan::device::Output;
 use tcl_chan::faulty::FaultyOutput;
 use tcl_chan::memory::{MemoryInput, MemoryOutput};
+use tcl_interp::{Outcome, Report, run};
 
 #[test]
 fn a_run_knows_its_name(rt: HostRuntime) -> Result<(), Fail> {

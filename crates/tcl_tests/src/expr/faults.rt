@@ -1,9 +1,9 @@
 //! Texts that are no expressions: each row of the table, alone and in competition with another.
 
 use super::show::{named, parse};
-use crate::parse_expr;
 use std::process::Abort;
 use std::test::Fail;
+use tcl_expr::parse_expr;
 
 fn check<R: Abort + AllocGlobal>(rt: &R, text: &str, wanted: &str) -> Result<(), Fail> {
     let found = parse(rt.alloc(), text)?;

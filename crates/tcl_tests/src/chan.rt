@@ -1,3 +1,4 @@
+//! Devices, and what a world reads and writes over them.
 mod callers;
 mod cuts;
 mod devices;

@@ -1,8 +1,8 @@
 //! What a host reads and writes.
 
 use super::setting::{fresh, holds};
-use crate::{HostFault, VarFault};
 use std::test::Fail;
+use tcl_interp::{HostFault, VarFault};
 
 #[test]
 fn a_host_reads_what_it_writes(rt: HostRuntime) -> Result<(), Fail> {

@@ -1,8 +1,8 @@
 //! Rows that the language's own shell answers the same way.
-use crate::{append_element, split, write};
 use std::rc::RcStr;
 use std::test::Fail;
 use tcl_chars::Fault;
+use tcl_list::{append_element, split, write};
 
 /// Does the text read as these elements?
 fn reads(rt: &HostRuntime, text: &str, wanted: &[&str]) -> Result<bool, Fail> {

@@ -1,11 +1,11 @@
 //! Answers from the language's manual.
-use crate::{
+use std::rc::RcStr;
+use std::test::Fail;
+use tcl_chars::{
     Arith, Dialect, Fault, Index, Op, Truth, UnOp, Whole, backslash, before, begins, binary,
     is_blank, is_list_space, is_name_char, is_word_space, place, place_of, push, push_text,
     read_index, read_truth, read_whole, skip_space, split_first, tail, unary,
 };
-use std::rc::RcStr;
-use std::test::Fail;
 
 #[test]
 fn classes(rt: HostRuntime) {

@@ -1,12 +1,12 @@
 //! Rows of output: what is written, over devices that take all, a byte a call, or fail.
-use crate::device::{Input, Output};
-use crate::fault::{ChanFault, Out};
-use crate::faulty::FaultyOutput;
-use crate::memory::{MemoryInput, MemoryOutput};
-use crate::pieces::OneByte;
-use crate::world::World;
 use std::alloc::{AllocError, Global};
 use std::test::Fail;
+use tcl_chan::device::{Input, Output};
+use tcl_chan::fault::{ChanFault, Out};
+use tcl_chan::faulty::FaultyOutput;
+use tcl_chan::memory::{MemoryInput, MemoryOutput};
+use tcl_chan::pieces::OneByte;
+use tcl_chan::world::World;
 
 /// What four calls of `puts` answer.
 type Answers = [Result<(), ChanFault>; 4];

@@ -1,10 +1,10 @@
 //! An interpreter whose output fails.
 
 use super::setting::{eval_over, fresh};
-use crate::{HostFault, Outcome};
 use std::test::Fail;
 use tcl_chan::faulty::FaultyOutput;
 use tcl_chan::memory::{MemoryInput, MemoryOutput};
+use tcl_interp::{HostFault, Outcome};
 
 #[test]
 fn a_failed_write_ends_all(rt: HostRuntime) -> Result<(), Fail> {

@@ -1,7 +1,7 @@
 //! First commands of whole texts, by the manual's rules.
-use crate::parse_first;
-use crate::tests::shown::shown;
+use super::shown::shown;
 use std::test::Fail;
+use tcl_words::parse_first;
 
 fn first(rt: &HostRuntime, text: &str) -> Result<String, Fail> {
     let parsed = parse_first(rt.alloc(), text, 200)?;
