@@ -34,15 +34,6 @@ impl From<AllocError> for Fault {
     }
 }
 
-// A parser is refused for want of memory alone.
-impl From<tcl_chars::Fault> for Fault {
-    ghost from_gives = { λ _ f. f ≡ fault.Memory };
-
-    fn from(_refused: tcl_chars::Fault) -> Fault {
-        Fault::Memory
-    }
-}
-
 impl From<ChanFault> for Fault {
     ghost from_gives = { λ e f. f ≡ fault_by e };
 
