@@ -5,10 +5,10 @@ use Rattle.std.specs.Prelude.{OnOk, OnErr}
 use Rattle.std.specs.Str.{chars}
 use Rattle.std.specs.Rc.{rc_str_bytes}
 use Rattle.std.specs.declared.rc.RcStr.{RcStr}
-use Rattle.tcl_chars.specs.Reading.{◌>>=◌}
-use Rattle.tcl_chars.specs.declared.fault.Fault.{Fault}
-use Rattle.tcl_chars.specs.declared.fault.Fault.TheVariants as fault
-use Rattle.tcl_list.specs.Texts.{text_of, Stops, Writes}
+use Rattle.tcl_chars.specs.Reading.{◌>>=◌, Fails}
+use Rattle.tcl_chars.specs.declared.fault.ReadFault.{ReadFault}
+use Rattle.tcl_chars.specs.declared.fault.ReadFault.TheVariants as fault
+use Rattle.tcl_list.specs.Texts.{text_of, WritesBehind}
 
 pub says : {Z E : Type 0} (r : Result (RcStr Z) E) (bs cs : List ℕ) → IfOk r (λ s. rc_str_bytes s ≡ bs) → chars bs ≡ cs → IfOk r (λ s. text_of s ≡ cs)
 says (Ok s) bs cs h e = ap chars h ∙ e
@@ -20,16 +20,16 @@ in_three m0 m1 m2 m3 a x b e0 e1 e2 e3 =
     e3 ∙ ap (λ t. t ++ b) (e2 ∙ ap (λ t. t ++ x) (e1 ∙ ap (λ t. t ++ a) e0)) ∙ append_assoc a x b
 
 -- a fault of the first reading is a fault of the two
-pub stops_before : {A B : Type 0} (e : Fault) (r : Result A (List ℕ)) (next : A → Result B (List ℕ)) → Stops e r → Stops e (r >>= next)
-stops_before (fault.Error m) r next h = ap (λ t. t >>= next) h
-stops_before fault.Memory r next h = tt
+pub fails_before : {A B E : Type 0} (e : ReadFault E) (r : Result A E) (next : A → Result B E) → Fails e r → Fails e (r >>= next)
+fails_before (fault.Bad m) r next h = ap (λ t. t >>= next) h
+fails_before fault.Memory r next h = tt
 
 -- a writer of one part
-pub wrote : {X E : Type 0} (r : Result X E) (old new said : List ℕ) → OnOk r (chars new ≡ chars old ++ said) → OnErr r (new ≡ old) → Writes (chars old) (chars new) said r
+pub wrote : {X E : Type 0} (r : Result X E) (old new said : List ℕ) → OnOk r (chars new ≡ chars old ++ said) → OnErr r (new ≡ old) → WritesBehind (chars old) (chars new) said r
 wrote (Ok x) old new said h same = h
 wrote (Err e) old new said h same = record { more = []; joined = ap chars same ∙ sym (append-nil (chars old)) }
 
 -- a part written behind another
-pub wrote_behind : {X E : Type 0} (r : Result X E) (old mid new front said : List ℕ) → mid ≡ old ++ front → Writes mid new said r → Writes old new (front ++ said) r
+pub wrote_behind : {X E : Type 0} (r : Result X E) (old mid new front said : List ℕ) → mid ≡ old ++ front → WritesBehind mid new said r → WritesBehind old new (front ++ said) r
 wrote_behind (Ok x) old mid new front said m h = h ∙ ap (λ t. t ++ said) m ∙ append_assoc old front said
 wrote_behind (Err e) old mid new front said m h = record { more = front ++ h.more; joined = h.joined ∙ ap (λ t. t ++ h.more) m ∙ append_assoc old front h.more }

@@ -6,7 +6,7 @@ use Rattle.tcl_list.specs.Elements.{braced, elements_of}
 use Rattle.tcl_list.specs.Faults.{unmatched_brace}
 use Rattle.tcl_list.specs.FirstFault.{ListFault}
 use Rattle.tcl_list.specs.FirstFault as fault
-use Rattle.tcl_list.specs.Laws.{ReadingIsSpelling, FaultIsFirst, OneReading, ReadingOrFault}
+use Rattle.tcl_list.specs.Laws.{ReadingIsSpelling, FaultIsFirst, OneList, ReadingOrFault}
 use Rattle.tcl_list.specs.Spelling.{Reads}
 use Rattle.tcl_list.specs.Spelling as spelling
 use Rattle.tcl_list.specs.declared.reading.Closed.TheVariants as closed
@@ -48,8 +48,8 @@ fault_is_first cs m = (λ e. subst (ListOf cs) e (list_of cs), faults_back cs m)
 same_ok : (es fs : List (List ℕ)) (r : Result (List (List ℕ)) (List ℕ)) → r ≡ Ok es → r ≡ Ok fs → es ≡ fs
 same_ok es fs r e f = cc
 
-pub one_reading : OneReading
-one_reading cs es fs a b = same_ok es fs (elements_of cs) (reads_back cs es a) (reads_back cs fs b)
+pub one_list : OneList
+one_list cs es fs a b = same_ok es fs (elements_of cs) (reads_back cs es a) (reads_back cs fs b)
 
 never_both : (es : List (List ℕ)) (m : List ℕ) (r : Result (List (List ℕ)) (List ℕ)) → r ≡ Ok es → r ≡ Err m → ⊥
 never_both es m r e f = cc

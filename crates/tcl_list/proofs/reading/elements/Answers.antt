@@ -5,15 +5,15 @@ use Rattle.std.specs.Str.{chars}
 use Rattle.tcl_chars.specs.Reading.{all_turns}
 use Rattle.tcl_chars.proofs.Turns.{goes_on, shorter}
 use Rattle.tcl_list.specs.Elements.{next_element}
-use Rattle.tcl_list.specs.Texts.{text_of}
+use Rattle.tcl_list.specs.Texts.{text_of, in_characters}
 use Rattle.tcl_list.proofs.Forward.{next_shrinks}
 use Rattle.tcl_list.proofs.Parts.{list_stops, list_done}
-use Rattle.tcl_list.proofs.reading.split.Goals as goal
+use Rattle.tcl_list.proofs.reading.elements.Goals as goal
 
 pub returns-in_err-element : goal.returns-in_err-element
 returns-in_err-element c =
     let p = err_from_is_err_and c.from_residual.result c.from_residual.ensures.1 in
-    rw (p.1, p.2) (list_stops c.in_err-element.field-0.0 (map text_of c.elements.elements.items) (chars c.elements.rest.now) (chars c.args.text.now) c.in_err-element.ensures c.elements.invariant.same)
+    rw (p.1, p.2) (list_stops (in_characters c.in_err-element.field-0.0) (map text_of c.elements.elements.items) (chars c.elements.rest.now) (chars c.args.text.now) c.in_err-element.ensures c.elements.invariant.same)
 
 pub returns-in-None : goal.returns-in-None
 returns-in-None c =

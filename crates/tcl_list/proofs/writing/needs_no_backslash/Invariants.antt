@@ -2,13 +2,13 @@ use Rattle.std.proofs.Common.{◌≡◌, length}
 use denote.Text.{Utf8}
 use denote.Shadow.{shadow}
 use Rattle.std.specs.Str.{chars}
-use Rattle.tcl_list.specs.Written.{is_plain}
-use Rattle.tcl_list.proofs.writing.is_plain.Given as goal
+use Rattle.tcl_list.specs.Written.{needs_no_backslash}
+use Rattle.tcl_list.proofs.writing.needs_no_backslash.Given as goal
 
 abbrev pub invariant-loop-c : goal.invariant-loop-c
 invariant-loop-c l = record {
   text : shadow (Utf8 l.rest);
-  same : is_plain (chars l.rest) ≡ is_plain (chars l.text);
+  same : needs_no_backslash (chars l.rest) ≡ needs_no_backslash (chars l.text);
 }
 
 abbrev pub decreases-loop-c : goal.decreases-loop-c

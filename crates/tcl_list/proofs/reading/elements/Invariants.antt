@@ -5,7 +5,7 @@ use Rattle.std.specs.Str.{chars}
 use Rattle.tcl_chars.specs.Reading.{with_front, all_turns}
 use Rattle.tcl_list.specs.Elements.{next_element}
 use Rattle.tcl_list.specs.Texts.{text_of}
-use Rattle.tcl_list.proofs.reading.split.Given as goal
+use Rattle.tcl_list.proofs.reading.elements.Given as goal
 
 abbrev pub invariant-elements : goal.invariant-elements
 invariant-elements l = record {
