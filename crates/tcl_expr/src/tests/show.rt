@@ -5,6 +5,7 @@ use crate::tree::Tree;
 use crate::{ExprSyntax, parse_expr};
 use std::alloc::{AllocError, Global};
 use std::test::Fail;
+use tcl_chars::Dialect;
 use tcl_words::{Form, Piece, Word};
 
 fn show_piece(out: &mut String, piece: &Piece<'_>) -> Result<(), AllocError> {
@@ -104,7 +105,7 @@ pub(super) fn shown(alloc: Global, tree: &Tree<'_>) -> Result<String, AllocError
 
 /// The tree of a text, written out, or what its fault says.
 pub(super) fn parse(alloc: Global, text: &str) -> Result<String, Fail> {
-    match parse_expr(alloc, text)? {
+    match parse_expr(alloc, text, Dialect::Tcl86)? {
         Ok(tree) => Ok(shown(alloc, &tree)?),
         Err(fault) => Ok(fault.message(alloc)?),
     }
