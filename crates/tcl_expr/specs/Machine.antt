@@ -1,5 +1,6 @@
 -- The parser's steps.
 use Rattle.std.specs.Prelude.{ℕ, suc, ◌==◌, nat_lt, false, List, [], ◌∷◌, ◌++◌, length, Option, Some, None, Result, Ok, Err, if◌then◌else◌}
+use Rattle.tcl_chars.specs.declared.numbers.Dialect.{Dialect}
 use Rattle.tcl_words.specs.Parts.{Stretch}
 use Rattle.tcl_expr.specs.declared.token.UnaryOp.{UnaryOp}
 use Rattle.tcl_expr.specs.declared.token.BinaryOp.{BinaryOp}
@@ -169,5 +170,5 @@ abbrev pub parsed : List Token → Result Expr ExprFault
 parsed ts = run (wants place.Start []) ts
 
 -- the expression that a text is, or its fault
-unfoldable pub expression_of : List ℕ → Result Expr ExprFault
-expression_of text = parsed (tokens text)
+unfoldable pub expression_of : Dialect → List ℕ → Result Expr ExprFault
+expression_of dialect text = parsed (tokens dialect text)

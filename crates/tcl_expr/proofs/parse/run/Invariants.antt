@@ -15,7 +15,7 @@ invariant-tokens l = let st = state_of l.state (stack_of l.stack.frames.items) i
   text : shadow (Utf8 l.left);
   ends : EndsWith (chars l.text) (chars l.left);
   state : IsState st;
-  same : run st (left_tokens (length l.text) st (chars l.left)) ≡ expression_of (chars l.text);
+  same : run st (left_tokens l.fn.dialect (length l.text) st (chars l.left)) ≡ expression_of l.fn.dialect (chars l.text);
 }
 
 abbrev pub decreases-tokens : goal.decreases-tokens
