@@ -97,7 +97,7 @@ fn behind_backslash(c: char) -> Option<char>
     }
 }
 
-/// WritesBehind the characters of an element, behind backslashes where they need them.
+/// Writes the characters of an element, behind backslashes where they need them.
 fn push_escaped(text: &mut String, element: &str) -> Result<(), AllocError>
     ensures { WritesBehind (chars (string_bytes text.old)) (chars (string_bytes text.new))
         (all_escaped (chars element.now)) result }
