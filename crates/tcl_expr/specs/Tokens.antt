@@ -14,8 +14,8 @@ use Rattle.tcl_words.specs.declared.fault.Syntax.{Syntax}
 use Rattle.tcl_words.specs.First.{operand, begins_operand, most_levels}
 use Rattle.tcl_words.specs.Parts.{Stretch, Shape}
 use Rattle.tcl_words.specs.Words.{stretch}
-use Rattle.tcl_expr.specs.declared.state.Place.{Place}
-use Rattle.tcl_expr.specs.declared.state.Place.TheVariants as place
+use Rattle.tcl_expr.specs.declared.state.Wanted.{Wanted}
+use Rattle.tcl_expr.specs.declared.state.Wanted.TheVariants as wanted
 use Rattle.tcl_expr.specs.declared.token.UnaryOp.{UnaryOp}
 use Rattle.tcl_expr.specs.declared.token.UnaryOp.TheVariants as unary
 use Rattle.tcl_expr.specs.declared.token.BinaryOp.{BinaryOp}
@@ -26,7 +26,7 @@ use Rattle.tcl_expr.specs.declared.token.Symbol.{Symbol}
 use Rattle.tcl_expr.specs.declared.token.Symbol.TheVariants as symbol
 use Rattle.tcl_expr.specs.Expr.{literal, word}
 use Rattle.tcl_expr.specs.ExprFault.{ExprFault}
-use Rattle.tcl_expr.specs.Faults.{Opened, reach, there, row, after, wanted}
+use Rattle.tcl_expr.specs.Faults.{Opened, wants_operand, open_at, after, wanted_after, lowest}
 use Rattle.tcl_expr.specs.Token.{Token, Operand, Malformed, Bareword, Call, UnknownCall, Unary, Open, Binary, Power, Question, Colon, Comma, Close, Stray}
 
 -- ---- runs
@@ -222,10 +222,6 @@ next_token dialect size wants levels cs =
 
 -- ---- the tokens of a text
 
-abbrev pub wants_operand : Place → Bool
-wants_operand place.Operator = false
-wants_operand p = true
-
 abbrev pub unless_faulty : Option ExprFault → List Token → List Token
 unless_faulty (Some m) ts = []
 unless_faulty None ts = ts
@@ -236,16 +232,15 @@ with_token (Some x) more = more x.0 x.1
 
 -- The tokens of what is left of a text of `size` bytes, where these are open: up to the end or to the first that has a
 -- fault. They are at most n.
-unfoldable pub tokens_from : ℕ → Dialect → ℕ → Place → List Opened → List ℕ → List Token
+unfoldable pub tokens_from : ℕ → Dialect → ℕ → Wanted → List Opened → List ℕ → List Token
 tokens_from zero dialect size p os cs = []
 tokens_from (suc n) dialect size p os cs =
     with_token (next_token dialect size (wants_operand p) (most_levels - length os) cs) (λ t rest.
-    let now = there p (reach t) os in
-    t ∷ unless_faulty (row p now t) (tokens_from n dialect size (wanted t) (after t now) rest))
+    t ∷ unless_faulty (lowest p os (Some t)) (tokens_from n dialect size (wanted_after t) (after t (open_at p t os)) rest))
 
 -- each takes a character at least
-unfoldable pub tokens_at : Dialect → ℕ → Place → List Opened → List ℕ → List Token
+unfoldable pub tokens_at : Dialect → ℕ → Wanted → List Opened → List ℕ → List Token
 tokens_at dialect size p os cs = tokens_from (suc (length cs)) dialect size p os cs
 
 unfoldable pub tokens : Dialect → List ℕ → List Token
-tokens dialect text = tokens_at dialect (bytes text) place.Start [] text
+tokens dialect text = tokens_at dialect (bytes text) wanted.Start [] text

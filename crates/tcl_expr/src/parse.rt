@@ -2,7 +2,7 @@
 
 ghost use Rattle.std.specs.Prelude.{◌≡◌, IfOk, MatchResult, Some};
 ghost use Rattle.std.specs.Str.{chars};
-ghost use Rattle.tcl_expr.specs.Faults.{fault_of};
+ghost use Rattle.tcl_expr.specs.Faults.{expr_fault};
 ghost use Rattle.tcl_expr.specs.Gives.{Finishes, result_view};
 ghost use Rattle.tcl_expr.specs.Grammar.{IsTree};
 ghost use Rattle.tcl_expr.specs.Machine.{expression_of};
@@ -12,7 +12,7 @@ ghost use Rattle.tcl_expr.specs.View.{view, fault_view};
 use crate::fault::ExprSyntax;
 use crate::moves::{finish, step};
 use crate::stack::Stack;
-use crate::state::{Place, State};
+use crate::state::{State, Wanted};
 use crate::tokens::next_token;
 use crate::tree::Tree;
 use std::alloc::{AllocError, Global};
@@ -26,7 +26,7 @@ fn run<'a>(
     ensures { Finishes result (expression_of dialect (chars text.now)) }
 {
     let mut stack = Stack::new(alloc);
-    let mut state = State::Wants(Place::Start);
+    let mut state = State::Wants(Wanted::Start);
     let mut left = text;
     'tokens: loop {
         let found = next_token(
@@ -59,7 +59,7 @@ pub fn parse_expr(
     text: &str,
     dialect: Dialect,
 ) -> Result<Result<Tree<'_>, ExprSyntax<'_>>, AllocError>
-    ensures grammar { IfOk result (λ r. MatchResult r (λ t. IsTree (tokens dialect (chars text.now)) (view t)) (λ m. fault_of (tokens dialect (chars text.now)) ≡ Some (fault_view m))) }
+    ensures grammar { IfOk result (λ r. MatchResult r (λ t. IsTree (tokens dialect (chars text.now)) (view t)) (λ m. expr_fault (tokens dialect (chars text.now)) ≡ Some (fault_view m))) }
     ensures reading { IfOk result (λ r. result_view r ≡ expression_of dialect (chars text.now)) }
 {
     match run(alloc, text, dialect) {

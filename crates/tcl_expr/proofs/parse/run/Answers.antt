@@ -3,7 +3,7 @@ use Rattle.std.specs.Str.{chars}
 use Rattle.std.proofs.lemmas.Result.{err_from_is_err_and}
 use Rattle.std.proofs.lemmas.Str.{encodes-chars}
 use Rattle.tcl_chars.specs.Place.{bytes}
-use Rattle.tcl_expr.specs.Gives.{state_of}
+use Rattle.tcl_expr.specs.Gives.{state_view}
 use Rattle.tcl_expr.specs.Machine.{expression_of}
 use Rattle.tcl_expr.specs.View.{stack_of, token_of}
 use Rattle.tcl_expr.proofs.Lexing.{run_more, run_stops, ends_parse, state_more, found_by, begins_parse, state_begins}
@@ -27,7 +27,7 @@ returns-in-None c =
     let found = rw c.in-None.is at c.in_ok-found.ensures in
     let s = stack_of c.tokens.stack.frames.items in
     let here = found_by c.args.dialect (length c.args.text.now) c.room.result c.wants_operand.result c.tokens.state s (chars c.tokens.left.now) _ c.wants_operand.ensures c.room.ensures found in
-    ends_parse c.args.dialect (length c.args.text.now) c.finish.result (state_of c.tokens.state s) (chars c.tokens.left.now) (expression_of c.args.dialect (chars c.args.text.now)) here c.finish.ensures c.tokens.invariant.same
+    ends_parse c.args.dialect (length c.args.text.now) c.finish.result (state_view c.tokens.state s) (chars c.tokens.left.now) (expression_of c.args.dialect (chars c.args.text.now)) here c.finish.ensures c.tokens.invariant.same
 
 pub returns-in_err-state-in-Some : goal.returns-in_err-state-in-Some
 returns-in_err-state-in-Some c =
@@ -35,7 +35,7 @@ returns-in_err-state-in-Some c =
     let s = stack_of c.tokens.stack.frames.items in
     let here = found_by c.args.dialect (length c.args.text.now) c.room.result c.wants_operand.result c.tokens.state s (chars c.tokens.left.now) _ c.wants_operand.ensures c.room.ensures found in
     let p = err_from_is_err_and c.from_residual-in_err-state-in-Some.result c.from_residual-in_err-state-in-Some.ensures.1 in
-    rw (p.1, p.2) (run_stops c.args.dialect (length c.args.text.now) c.in_err-state-in-Some.field-0.0 (state_of c.tokens.state s) (token_of c.in-Some.token) (chars c.tokens.left.now) (chars c.in-Some.after.now) (expression_of c.args.dialect (chars c.args.text.now)) here c.in_err-state-in-Some.ensures c.tokens.invariant.same)
+    rw (p.1, p.2) (run_stops c.args.dialect (length c.args.text.now) c.in_err-state-in-Some.field-0.0 (state_view c.tokens.state s) (token_of c.in-Some.token) (chars c.tokens.left.now) (chars c.in-Some.after.now) (expression_of c.args.dialect (chars c.args.text.now)) here c.in_err-state-in-Some.ensures c.tokens.invariant.same)
 
 pub tokens-smaller : goal.tokens-smaller
 tokens-smaller c =
@@ -49,8 +49,8 @@ tokens-preserved c =
     let after = c.in-Some.after.now in
     let found = rw c.in-Some.is at c.in_ok-found.ensures in
     let s = stack_of c.tokens.stack.frames.items in
-    let st = state_of c.tokens.state s in
-    let now = state_of c.in_ok-state-in-Some.state (stack_of c.step.new.stack.frames.items) in
+    let st = state_view c.tokens.state s in
+    let now = state_view c.in_ok-state-in-Some.state (stack_of c.step.new.stack.frames.items) in
     let here = found_by c.args.dialect (length text) c.room.result c.wants_operand.result c.tokens.state s (chars left) _ c.wants_operand.ensures c.room.ensures found in
     record {
       text = search rules;
