@@ -33,13 +33,13 @@ part_shorter p ps =
 
 -- ---- what the test finds is a match
 
-record Rest (test : Text → Bool) (t : Text) : Type 0 where
-  front : Text
-  rest : Text
-  joined : t ≡ front ++ rest
-  passes : test rest ≡ true
+pub record Rest (test : Text → Bool) (t : Text) : Type 0 where
+  pub front : Text
+  pub rest : Text
+  pub joined : t ≡ front ++ rest
+  pub passes : test rest ≡ true
 
-found_rest : (test : Text → Bool) (t : Text) → some_rest test t ≡ true → Rest test t
+pub found_rest : (test : Text → Bool) (t : Text) → some_rest test t ≡ true → Rest test t
 found_rest test [] h = record { front = []; rest = []; joined = refl; passes = h }
 found_rest test (c ∷ cs) h =
     elim (cases_Bool (test (c ∷ cs))) [
@@ -92,7 +92,7 @@ pub glob_is_match : GlobIsMatch
 unfolding glob
 glob_is_match ps t = (λ m. is_found (length ps) ps t m (omega arith), is_match (length ps) ps t)
 
-same_truth : (a b : Bool) → (a ≡ true → b ≡ true) → (b ≡ true → a ≡ true) → a ≡ b
+pub same_truth : (a b : Bool) → (a ≡ true → b ≡ true) → (b ≡ true → a ≡ true) → a ≡ b
 same_truth true b h k = sym (h refl)
 same_truth false true h k = k refl
 same_truth false false h k = refl
@@ -125,8 +125,5 @@ unfolding glob
 no_text p ps n = cond-false _ _ _ (ne_eqb p star n)
 
 pub at_part : (p c : ℕ) (ps t : Text) → p ≢ star → glob (p ∷ ps) (c ∷ t) ≡ (takes (first_part p ps).0 c && glob (first_part p ps).1 t)
-at_part p c ps t n = step ∙ ap (λ b. takes (first_part p ps).0 c && b) (enough (length ps) (first_part p ps).1 t (part_shorter p ps))
-  where
-    step : glob (p ∷ ps) (c ∷ t) ≡ (takes (first_part p ps).0 c && glob_within (length ps) (first_part p ps).1 t)
-    unfolding glob
-    step = cond-false _ _ _ (ne_eqb p star n)
+unfolding glob
+at_part p c ps t n = cond-false _ _ _ (ne_eqb p star n) ∙ ap (λ b. takes (first_part p ps).0 c && b) (enough (length ps) (first_part p ps).1 t (part_shorter p ps))
