@@ -15,8 +15,8 @@ mod pages;
 mod tests;
 mod value;
 mod variables;
-mod whole;
+mod report;
 
 pub use host::{Config, HostFault, HostVar, Outcome, VarFault};
 pub use interp::Interp;
-pub use whole::{Report, run};
+pub use report::{Report, run};
