@@ -34,15 +34,6 @@ impl From<AllocError> for EvalFault {
     }
 }
 
-// A parser is refused for want of memory alone.
-impl From<tcl_chars::Fault> for EvalFault {
-    ghost from_gives = { λ _ f. f ≡ fault.Memory };
-
-    fn from(_refused: tcl_chars::Fault) -> EvalFault {
-        EvalFault::Memory
-    }
-}
-
 impl From<ChanFault> for EvalFault {
     ghost from_gives = { λ e f. f ≡ fault_by e };
 

@@ -11,8 +11,6 @@ mod lookup;
 mod names;
 mod outcome;
 mod pages;
-#[cfg(test)]
-mod tests;
 mod value;
 mod variables;
 mod report;

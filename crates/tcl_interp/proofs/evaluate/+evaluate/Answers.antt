@@ -45,23 +45,23 @@ eval_script-returns-in_err-failure-in-Bad-clause-run g t c =
 
 pub eval_script-returns-in-End-clause-run : goal.eval_script-returns-in-End-clause-run
 eval_script-returns-in-End-clause-run g t c =
-    let e = parsed_end _ _ _ _ c.in_ok-parse_first.ensures.first c.in-End.is in
+    let e = parsed_end _ _ _ _ c.in_ok-parse_first.ensures c.in-End.is in
     c.commands.invariant.1.same ∙ script_end _ _ _ _ e.rest c.commands.invariant.1.shallow e.is
 
 pub eval_script-returns-in-Bad-clause-run : goal.eval_script-returns-in-Bad-clause-run
 eval_script-returns-in-Bad-clause-run g t c =
-    let e = parsed_bad _ _ _ _ c.in_ok-parse_first.ensures.first c.in-Bad.is in
+    let e = parsed_bad _ _ _ _ c.in_ok-parse_first.ensures c.in-Bad.is in
     c.commands.invariant.1.same ∙ script_bad _ _ _ _ c.in-Bad.fault c.commands.invariant.1.shallow e
     ∙ ap (λ k. Gives k (shown g.W.Output.written g.E.Output.written c.commands.state c.commands.world)) (sym (c.in_ok-failure-in-Bad.ensures ∙ ap failure c.text.ensures.text))
 
 pub eval_script-returns-then-state-eq0-clause-run : goal.eval_script-returns-then-state-eq0-clause-run
 eval_script-returns-then-state-eq0-clause-run g t c =
-    let e = parsed_command _ _ c.in-Command.words c.in-Command.after _ c.in_ok-parse_first.ensures.first c.in-Command.is in
+    let e = parsed_command _ _ c.in-Command.words c.in-Command.after _ c.in_ok-parse_first.ensures c.in-Command.is in
     c.commands.invariant.1.same ∙ script_broke _ _ _ _ _ e.rest c.commands.invariant.1.shallow e.is c.if-state-eq0.true
 
 pub eval_script-eval_command-requires : goal.eval_script-eval_command-requires
 eval_script-eval_command-requires g t c =
-    let e = parsed_command _ _ c.in-Command.words c.in-Command.after _ c.in_ok-parse_first.ensures.first c.in-Command.is in
+    let e = parsed_command _ _ c.in-Command.words c.in-Command.after _ c.in_ok-parse_first.ensures c.in-Command.is in
     let nests : WordsNest levels_read (map shape_of c.as_slice.result.now) = rw c.as_slice.ensures.value (first_nests levels_read (chars c.commands.rest.now) _ e.rest e.is) in
     search rules
 
@@ -70,7 +70,7 @@ eval_script-returns-in_err-done-in-Command-clause-run g t c =
     let p = err_from_is_err_and c.from_residual-in_err-done-in-Command.result c.from_residual-in_err-done-in-Command.ensures.1 in
     let d = c.args.depth in
     let ws = map shape_of c.in-Command.words.items in
-    let e = parsed_command _ _ c.in-Command.words c.in-Command.after _ c.in_ok-parse_first.ensures.first c.in-Command.is in
+    let e = parsed_command _ _ c.in-Command.words c.in-Command.after _ c.in_ok-parse_first.ensures c.in-Command.is in
     let r = script_paid d _ _ _ ws e.rest c.commands.invariant.1.shallow e.is (omega arith) c.commands.invariant.1.same in
     rw (p.1, p.2) (fault_bind (run_command d ws) (λ k. rest_by d e.rest k.code k.result) _ _ r (rw c.as_slice.ensures.value at c.in_err-done-in-Command.ensures.run))
 
@@ -78,7 +78,7 @@ pub eval_script-returns-in-Error-clause-run : goal.eval_script-returns-in-Error-
 eval_script-returns-in-Error-clause-run g t c =
     let d = c.args.depth in
     let ws = map shape_of c.in-Command.words.items in
-    let e = parsed_command _ _ c.in-Command.words c.in-Command.after _ c.in_ok-parse_first.ensures.first c.in-Command.is in
+    let e = parsed_command _ _ c.in-Command.words c.in-Command.after _ c.in_ok-parse_first.ensures c.in-Command.is in
     let r = script_paid d _ _ _ ws e.rest c.commands.invariant.1.shallow e.is (omega arith) c.commands.invariant.1.same in
     sequence_ends d ws e.rest (completion_of c.in_ok-done-in-Command.done) r (rw c.as_slice.ensures.value at c.in_ok-done-in-Command.ensures.run) c.in-Error.is
 
@@ -86,7 +86,7 @@ pub eval_script-commands-preserved : goal.eval_script-commands-preserved
 eval_script-commands-preserved g t c =
     let d = c.args.depth in
     let ws = map shape_of c.in-Command.words.items in
-    let e = parsed_command _ _ c.in-Command.words c.in-Command.after _ c.in_ok-parse_first.ensures.first c.in-Command.is in
+    let e = parsed_command _ _ c.in-Command.words c.in-Command.after _ c.in_ok-parse_first.ensures c.in-Command.is in
     let r = script_paid d _ _ _ ws e.rest c.commands.invariant.1.shallow e.is (omega arith) c.commands.invariant.1.same in
     let left : chars c.range_from-rest.result.now ≡ e.rest = ap chars c.range_from-rest.ensures.value ∙ e.left in (
       search rules,

@@ -2,8 +2,7 @@ use Rattle.std.proofs.Common.{◌++◌, ap, ◌∙◌}
 use Rattle.std.specs.Str.{chars}
 use Rattle.std.specs.String.{string_bytes}
 use Rattle.std.proofs.lemmas.Str.{chars-nil}
-use Rattle.tcl_list.proofs.Calls.{says, in_three}
-use Rattle.tcl_list.proofs.Messages.{chars_instead}
+use Rattle.tcl_list.proofs.Messages.{says, in_three, chars_instead}
 use Rattle.tcl_list.proofs.faults.followed_by.Goals as goal
 
 pub returns : goal.returns

@@ -1,5 +1,4 @@
-use Rattle.tcl_list.proofs.Calls.{says}
-use Rattle.tcl_list.proofs.Messages.{chars_unmatched_quote}
+use Rattle.tcl_list.proofs.Messages.{says, chars_unmatched_quote}
 use Rattle.tcl_list.proofs.faults.unmatched_quote.Goals as goal
 
 pub returns : goal.returns

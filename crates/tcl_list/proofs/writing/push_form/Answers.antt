@@ -1,4 +1,4 @@
-use Rattle.tcl_list.proofs.Calls.{wrote}
+use Rattle.tcl_list.proofs.Writers.{wrote}
 use Rattle.tcl_list.proofs.Messages.{chars_empty_braces}
 use Rattle.tcl_list.proofs.writing.push_form.Goals as goal
 

@@ -1,0 +1,6 @@
+//! Devices, and what a world reads and writes over them.
+mod callers;
+mod cuts;
+mod devices;
+mod input;
+mod output;
