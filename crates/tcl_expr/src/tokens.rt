@@ -56,10 +56,9 @@ fn word_token<'a>(
     ensures rest { IfOk result (λ p. chars p.1.now ≡ (spec.word_token (operand (length text.now) levels (chars here.now))).1) }
 {
     let from = place(text.len(), here);
-    match parse_operand(alloc, text, from, levels) {
-        Ok(Operand::Found(word, at)) => Ok((Token::Operand(Leaf::Word(word)), &text[at..])),
-        Ok(Operand::Bad(fault)) => Ok((Token::Malformed(fault), "")),
-        Err(_) => Err(AllocError),
+    match parse_operand(alloc, text, from, levels)? {
+        Operand::Found(word, at) => Ok((Token::Operand(Leaf::Word(word)), &text[at..])),
+        Operand::Bad(fault) => Ok((Token::Malformed(fault), "")),
     }
 }
 
