@@ -13,8 +13,8 @@ mod outcome;
 mod pages;
 mod value;
 mod variables;
-mod whole;
+mod report;
 
 pub use host::{Config, HostFault, HostVar, Outcome, VarFault};
 pub use interp::Interp;
-pub use whole::{Report, run};
+pub use report::{Report, run};

@@ -1,5 +1,6 @@
 -- An element in braces, read as a word.
 use Rattle.std.proofs.Common.{◌≡◌, ℕ, zero, suc, ◌==◌, Bool, true, false, ◌&&◌, ◌||◌, List, [], ◌∷◌, ◌++◌, Option, Some, None, Result, Ok, Err, sym, ap, ◌∙◌, subst, refl, arith, inl, inr}
+use Rattle.std.specs.Prelude.{◌↔◌}
 use Rattle.std.specs.Option.{option_map_or}
 use Rattle.std.proofs.lemmas.Bool.{cases_Bool, eqb-true, ne_eqb, false≢true, true≢false}
 use Rattle.std.proofs.lemmas.List.{append-nil}
@@ -8,6 +9,7 @@ use Rattle.tcl_chars.specs.Place.{before, place}
 use Rattle.tcl_chars.specs.Reading.{with_front, all_turns}
 use Rattle.tcl_chars.proofs.Turns.{last_turn, one_turn}
 use Rattle.tcl_list.specs.Braces.{mark_of, hides, counted, is_balanced, to_close}
+use Rattle.tcl_list.specs.Laws.{SameBraceCloses}
 use Rattle.tcl_list.specs.OneCommand.{plain_value, IsWord}
 use Rattle.tcl_list.specs.Written.{is_continued}
 use Rattle.tcl_list.proofs.Complete.{closes, before_rest}
@@ -58,6 +60,13 @@ unfolding at_brace
 same_brace hidden depth [] = refl
 same_brace hidden depth (c ∷ cs) =
     one_mark hidden depth c cs ∙ same_mark c cs (hides (mark_of hidden c)) (counted (mark_of hidden c) depth) (λ m. same_brace (hides (mark_of hidden c)) m cs)
+
+found_same : (rest : List ℕ) (o : Option (List ℕ)) → (o ≡ Some rest) ↔ (or_missing o ≡ Ok rest)
+found_same rest None = (λ e. absurd cc, λ e. absurd cc)
+found_same rest (Some r) = (λ e. cc, λ e. cc)
+
+pub same_brace_closes : SameBraceCloses
+same_brace_closes cs rest = rw (same_brace false 0 cs) (found_same rest (to_close false 0 cs))
 
 at_end : (e rest : List ℕ) → is_balanced e ≡ true → at_brace false 0 (e ++ close_brace ∷ rest) ≡ Ok (close_brace ∷ rest)
 at_end e rest h = same_brace false 0 (e ++ close_brace ∷ rest) ∙ ap or_missing (closes false 0 e rest h)

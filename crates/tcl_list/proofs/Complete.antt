@@ -10,9 +10,9 @@ use Rattle.tcl_chars.specs.Place.{before}
 use Rattle.tcl_chars.specs.Reading.{◌>>=◌, with_front}
 use Rattle.tcl_chars.proofs.Turns.{last_turn, one_turn}
 use Rattle.tcl_list.specs.Braces.{mark_of, hides, counted, balances, is_balanced, to_close}
-use Rattle.tcl_list.specs.Elements.{ends, letter, letters, up_to_space, followed, quoted, braced, element, element_in, next_element}
+use Rattle.tcl_list.specs.Elements.{ends, letter, letters, up_to_space, followed, quoted, braced, element, first_element, next_element}
 use Rattle.tcl_list.specs.Faults.{followed_by}
-use Rattle.tcl_list.specs.Spelling.{Letters, none, plain, escaped, EndsAt, Spells}
+use Rattle.tcl_list.specs.Spelling.{Letters, none, plain, escaped, ElementEnds, Spells}
 use Rattle.tcl_list.specs.FirstFault.{HasNoSpace}
 use Rattle.tcl_list.specs.Spelling as spelling
 use Rattle.tcl_list.specs.declared.reading.Closed.{Closed}
@@ -24,7 +24,7 @@ use Rattle.tcl_list.proofs.Parts.{quote_closed, brace_closed}
 
 -- ---- letters
 
-pub letter_at_end : (end : End) (rest : List ℕ) → EndsAt end rest → letter end rest ≡ Ok (None, rest)
+pub letter_at_end : (end : End) (rest : List ℕ) → ElementEnds end rest → letter end rest ≡ Ok (None, rest)
 letter_at_end end [] h = refl
 letter_at_end end (c ∷ cs) h = cond-true _ _ _ h
 
@@ -38,7 +38,7 @@ letter_plain end c cs h n = cond-false _ _ _ h ∙ cond-false _ _ _ (ne_eqb c ba
 pub letter_escaped : (end : End) (c : ℕ) (cs : List ℕ) → c ≡ backslash → letter end (c ∷ cs) ≡ Ok (Some (escape (c ∷ cs)).0, drop (escape (c ∷ cs)).1 (c ∷ cs))
 letter_escaped end c cs e = cond-false _ _ _ (backslash_goes_on end c e) ∙ cond-true _ _ _ (eq-eqb c backslash e)
 
-pub letters_read : (end : End) (cs said rest : List ℕ) → Letters end cs said rest → EndsAt end rest → letters end cs ≡ Ok (said, rest)
+pub letters_read : (end : End) (cs said rest : List ℕ) → Letters end cs said rest → ElementEnds end rest → letters end cs ≡ Ok (said, rest)
 unfolding letters
 letters_read end _ _ _ (none rest) h = last_turn (letter end) rest rest (letter_at_end end rest h)
 letters_read end _ _ _ (plain c cs said rest e n l) h =
@@ -72,16 +72,16 @@ braced_read cs e rest h is =
 
 -- ---- what follows
 
-followed_read : (close : Closed) (e rest : List ℕ) → EndsAt Space rest → followed close e rest ≡ Ok (e, rest)
+followed_read : (close : Closed) (e rest : List ℕ) → ElementEnds Space rest → followed close e rest ≡ Ok (e, rest)
 followed_read close e [] h = refl
 followed_read close e (c ∷ cs) h = cond-true _ _ _ h
 
-word_is : (x rest : List ℕ) → HasNoSpace x → EndsAt Space rest → up_to_space (x ++ rest) ≡ x
+word_is : (x rest : List ℕ) → HasNoSpace x → ElementEnds Space rest → up_to_space (x ++ rest) ≡ x
 word_is [] [] s h = refl
 word_is [] (c ∷ cs) s h = cond-true _ _ _ h
 word_is (c ∷ x) rest s h = cond-false _ _ _ s.0 ∙ ap (λ t. c ∷ t) (word_is x rest s.1 h)
 
-pub followed_bad : (close : Closed) (e : List ℕ) (d : ℕ) (x rest : List ℕ) → HasNoSpace (d ∷ x) → EndsAt Space rest → followed close e (d ∷ (x ++ rest)) ≡ Err (followed_by close (d ∷ x))
+pub followed_bad : (close : Closed) (e : List ℕ) (d : ℕ) (x rest : List ℕ) → HasNoSpace (d ∷ x) → ElementEnds Space rest → followed close e (d ∷ (x ++ rest)) ≡ Err (followed_by close (d ∷ x))
 followed_bad close e d x rest s h = cond-false _ _ _ s.0 ∙ ap (λ t. Err (followed_by close t)) (word_is (d ∷ x) rest s h)
 
 -- ---- elements
@@ -97,7 +97,7 @@ at_other c cs b q = cond-false _ _ _ (ne_eqb c open_brace b) ∙ cond-false _ _ 
 
 starts : (c : ℕ) (cs : List ℕ) → is_list_space c ≡ false → next_element (c ∷ cs) ≡ (element c cs >>= λ x. Ok (Some x.0, x.1))
 unfolding next_element
-starts c cs s = ap element_in (cond-false _ _ _ s)
+starts c cs s = ap first_element (cond-false _ _ _ s)
 
 pub brace_is_solid : (c : ℕ) → c ≡ open_brace → is_list_space c ≡ false
 brace_is_solid c e = ap is_list_space e

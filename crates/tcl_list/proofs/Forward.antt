@@ -10,12 +10,12 @@ use Rattle.tcl_chars.specs.Reading.{◌>>=◌, all_turns}
 use Rattle.tcl_chars.specs.Whole.{skip_space}
 use Rattle.tcl_chars.proofs.Turns.{Turned, Shrinks, turns_le, turns_lt}
 use Rattle.tcl_list.specs.Braces.{to_close}
-use Rattle.tcl_list.specs.Elements.{ends, letter, letters, followed, unquoted, quoted, unbraced, braced, element, element_in, next_element}
+use Rattle.tcl_list.specs.Elements.{ends, letter, letters, followed, unquoted, quoted, unbraced, braced, element, first_element, next_element}
 use Rattle.tcl_list.specs.declared.reading.Closed.{Closed}
 use Rattle.tcl_list.specs.declared.reading.Closed.TheVariants as closed
 use Rattle.tcl_list.specs.declared.reading.End.{End}
 use Rattle.tcl_list.specs.declared.reading.End.TheVariants.{Space, Quote}
-use Rattle.tcl_list.proofs.Closing.{close_ends}
+use Rattle.tcl_list.proofs.BraceEnds.{close_ends}
 
 -- ---- an escape takes a character at least
 
@@ -131,7 +131,7 @@ found_less : (n m : ℕ) (r : Result (List ℕ × List ℕ) (List ℕ)) → With
 found_less n m (Ok x) h l = omega arith
 found_less n m (Err e) h l = tt
 
-in_each : (n : ℕ) (start : List ℕ) → length start ≤ n → ((c : ℕ) (cs : List ℕ) → start ≡ c ∷ cs → is_list_space c ≡ false) → AfterElement n (element_in start)
+in_each : (n : ℕ) (start : List ℕ) → length start ≤ n → ((c : ℕ) (cs : List ℕ) → start ≡ c ∷ cs → is_list_space c ≡ false) → AfterElement n (first_element start)
 in_each n [] h k = omega arith
 in_each n (c ∷ cs) h k = found_less n (length cs) (element c cs) (element_within c cs (k c cs refl)) (omega arith)
 

@@ -4,7 +4,7 @@ use Rattle.std.proofs.lemmas.Bool.{cond-true}
 use Rattle.tcl_chars.specs.Classes.{is_list_space}
 use Rattle.tcl_chars.specs.Reading.{◌>>=◌, Reading, with_front, all_turns}
 use Rattle.tcl_chars.proofs.Turns.{Shrinks, last_turn, bad_turn, one_turn}
-use Rattle.tcl_list.specs.Elements.{element_in, next_element, elements_of}
+use Rattle.tcl_list.specs.Elements.{first_element, next_element, elements_of}
 use Rattle.tcl_list.proofs.Forward.{next_shrinks}
 
 -- two texts with the same first turn
@@ -19,7 +19,7 @@ same_list cs ds e = ap (λ t. t >>= λ x. Ok x.0) (same_from next_element cs ds 
 
 pub past_space : (c : ℕ) (cs : List ℕ) → is_list_space c ≡ true → elements_of (c ∷ cs) ≡ elements_of cs
 unfolding next_element
-past_space c cs s = same_list (c ∷ cs) cs (ap element_in (cond-true _ _ _ s))
+past_space c cs s = same_list (c ∷ cs) cs (ap first_element (cond-true _ _ _ s))
 
 pub no_elements : elements_of [] ≡ Ok []
 unfolding elements_of next_element

@@ -10,7 +10,7 @@ use Rattle.tcl_chars.specs.Reading.{Reading, with_front}
 use Rattle.tcl_chars.proofs.Turns.{last_turn, one_turn}
 use Rattle.tcl_list.specs.Braces.{is_balanced}
 use Rattle.tcl_list.specs.OneCommand.{AreWords, ends_command, OneCommand, NextCommand}
-use Rattle.tcl_list.specs.Written.{is_special, is_plain, is_continued, is_comment, form_of, behind_backslash, backslashed, all_escaped, spelled, written_element, appended, written_behind, written}
+use Rattle.tcl_list.specs.Written.{is_special, needs_no_backslash, is_continued, is_comment, element_form, behind_backslash, backslashed, all_escaped, spelled, written_element, appended, written_behind, written}
 use Rattle.tcl_list.proofs.BareWord.{backslash_no_end, bare_word, sign_word, starts}
 use Rattle.tcl_list.proofs.BracedWord.{Word, braced_word, or_no}
 use Rattle.tcl_words.specs.declared.fault.Syntax.{Syntax}
@@ -73,7 +73,7 @@ isnt false h = refl
 plain_alone : (c : ℕ) → not (is_list_space c || is_special c) ≡ true → behind_backslash c ≡ None
 plain_alone c h = grind (arith, nat_tests)
 
-plain_same : (cs : List ℕ) → is_plain cs ≡ true → all_escaped cs ≡ cs
+plain_same : (cs : List ℕ) → needs_no_backslash cs ≡ true → all_escaped cs ≡ cs
 plain_same [] h = refl
 plain_same (c ∷ cs) h =
     let both = and_parts _ _ h in
@@ -101,7 +101,7 @@ module _ (size levels : ℕ) (nested : Bool) where
   sign at_first cs rest h =
       record { read = sign_word size levels nested cs rest h; goes_on = backslash_no_end nested number_sign (all_escaped cs ++ rest) refl; no_comment = and_false at_first }
 
-  bare : (at_first : Bool) (c : ℕ) (cs rest : List ℕ) → is_plain (c ∷ cs) ≡ true → is_comment at_first (c ∷ cs) ≡ false → ends_word nested rest ≡ true → Element at_first ((c ∷ cs) ++ rest) (c ∷ cs) rest
+  bare : (at_first : Bool) (c : ℕ) (cs rest : List ℕ) → needs_no_backslash (c ∷ cs) ≡ true → is_comment at_first (c ∷ cs) ≡ false → ends_word nested rest ≡ true → Element at_first ((c ∷ cs) ++ rest) (c ∷ cs) rest
   bare at_first c cs rest p n h =
       let same = plain_same (c ∷ cs) p in
       subst (λ t. Element at_first (t ++ rest) (c ∷ cs) rest) same (letters at_first c cs rest (ap (λ t. at_first && begins number_sign (t ++ rest)) same ∙ n) h)
@@ -120,10 +120,10 @@ module _ (size levels : ℕ) (nested : Bool) where
       let is : c ≡ number_sign = eqb-true c number_sign (and_parts _ _ n).1 in
       subst (λ x. Element at_first (backslash ∷ (all_escaped (x ∷ cs) ++ rest)) (x ∷ cs) rest) (sym is) (sign at_first cs rest h)
 
-  form_read : (at_first : Bool) (e rest : List ℕ) → ends_word nested rest ≡ true → Element at_first (spelled (form_of at_first e) at_first e ++ rest) e rest
+  form_read : (at_first : Bool) (e rest : List ℕ) → ends_word nested rest ≡ true → Element at_first (spelled (element_form at_first e) at_first e ++ rest) e rest
   form_read at_first [] rest h = braces at_first [] rest refl refl h
   form_read at_first (c ∷ cs) rest h =
-      cond_both (is_plain (c ∷ cs) && not (is_comment at_first (c ∷ cs))) _ _ (λ f. Element at_first (spelled f at_first (c ∷ cs) ++ rest) (c ∷ cs) rest)
+      cond_both (needs_no_backslash (c ∷ cs) && not (is_comment at_first (c ∷ cs))) _ _ (λ f. Element at_first (spelled f at_first (c ∷ cs) ++ rest) (c ∷ cs) rest)
       (λ b. let both = and_parts _ _ b in bare at_first c cs rest both.0 (isnt (is_comment at_first (c ∷ cs)) both.1) h)
       (λ _. cond_both (is_balanced (c ∷ cs) && not (is_continued (c ∷ cs))) _ _ (λ f. Element at_first (spelled f at_first (c ∷ cs) ++ rest) (c ∷ cs) rest)
       (λ b. let both = and_parts _ _ b in braces at_first (c ∷ cs) rest both.0 (isnt (is_continued (c ∷ cs)) both.1) h)

@@ -6,12 +6,12 @@ use Rattle.tcl_list.specs.Elements.{braced, elements_of}
 use Rattle.tcl_list.specs.Faults.{unmatched_brace}
 use Rattle.tcl_list.specs.FirstFault.{ListFault}
 use Rattle.tcl_list.specs.FirstFault as fault
-use Rattle.tcl_list.specs.Laws.{ReadingIsSpelling, FaultIsFirst, OneReading, ReadingOrFault}
+use Rattle.tcl_list.specs.Laws.{ReadingIsSpelling, FaultIsFirst, OneList, ReadingOrFault}
 use Rattle.tcl_list.specs.Spelling.{Reads}
 use Rattle.tcl_list.specs.Spelling as spelling
 use Rattle.tcl_list.specs.declared.reading.Closed.TheVariants as closed
 use Rattle.tcl_list.specs.declared.reading.End.TheVariants.{Quote}
-use Rattle.tcl_list.proofs.Closer.{Found, found_close}
+use Rattle.tcl_list.proofs.BraceFound.{Found, found_close}
 use Rattle.tcl_list.proofs.Complete.{letters_read, braced_read, followed_bad, at_brace, at_quote, brace_is_solid, quote_is_solid, lost, spelled_next}
 use Rattle.tcl_list.proofs.Lists.{past_space, no_elements, one_more_read, one_more_bad, one_fault}
 use Rattle.tcl_list.proofs.Parts.{quote_open, quote_closed, brace_open}
@@ -48,8 +48,8 @@ fault_is_first cs m = (λ e. subst (ListOf cs) e (list_of cs), faults_back cs m)
 same_ok : (es fs : List (List ℕ)) (r : Result (List (List ℕ)) (List ℕ)) → r ≡ Ok es → r ≡ Ok fs → es ≡ fs
 same_ok es fs r e f = cc
 
-pub one_reading : OneReading
-one_reading cs es fs a b = same_ok es fs (elements_of cs) (reads_back cs es a) (reads_back cs fs b)
+pub one_list : OneList
+one_list cs es fs a b = same_ok es fs (elements_of cs) (reads_back cs es a) (reads_back cs fs b)
 
 never_both : (es : List (List ℕ)) (m : List ℕ) (r : Result (List (List ℕ)) (List ℕ)) → r ≡ Ok es → r ≡ Err m → ⊥
 never_both es m r e f = cc

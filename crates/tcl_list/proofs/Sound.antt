@@ -12,13 +12,13 @@ use Rattle.tcl_list.specs.Elements.{ends, letter, letters, up_to_space, followed
 use Rattle.tcl_list.specs.Faults.{followed_by}
 use Rattle.tcl_list.specs.FirstFault.{HasNoSpace, ListFault}
 use Rattle.tcl_list.specs.FirstFault as fault
-use Rattle.tcl_list.specs.Spelling.{Letters, none, plain, escaped, EndsAt, Spells, Reads}
+use Rattle.tcl_list.specs.Spelling.{Letters, none, plain, escaped, ElementEnds, Spells, Reads}
 use Rattle.tcl_list.specs.Spelling as spelling
 use Rattle.tcl_list.specs.declared.reading.Closed.{Closed}
 use Rattle.tcl_list.specs.declared.reading.Closed.TheVariants as closed
 use Rattle.tcl_list.specs.declared.reading.End.{End}
 use Rattle.tcl_list.specs.declared.reading.End.TheVariants.{Space, Quote}
-use Rattle.tcl_list.proofs.Closer.{Found, found_close}
+use Rattle.tcl_list.proofs.BraceFound.{Found, found_close}
 use Rattle.tcl_list.proofs.Complete.{letter_at_end, letter_plain, letter_escaped, before_rest, lost, found}
 use Rattle.tcl_list.proofs.Forward.{escape_shrinks, letter_shrinks, element_within}
 use Rattle.tcl_list.proofs.Lists.{past_space, no_elements, prepend, one_more, one_fault}
@@ -26,7 +26,7 @@ use Rattle.tcl_list.proofs.Lists.{past_space, no_elements, prepend, one_more, on
 -- ---- letters
 
 abbrev LettersOf : End → List ℕ → Result (List ℕ × List ℕ) (List ℕ) → Type 0
-LettersOf end cs (Ok x) = Letters end cs x.0 x.1 × EndsAt end x.1
+LettersOf end cs (Ok x) = Letters end cs x.0 x.1 × ElementEnds end x.1
 LettersOf end cs (Err m) = ⊥
 
 one_plain : (end : End) (c : ℕ) (cs : List ℕ) (r : Result (List ℕ × List ℕ) (List ℕ)) → ends end c ≡ false → c ≢ backslash → LettersOf end cs r → LettersOf end (c ∷ cs) (with_front (c ∷ []) r)
@@ -68,7 +68,7 @@ record Word (cs : List ℕ) : Type 0 where
   rest : List ℕ
   joined : cs ≡ up_to_space cs ++ rest
   solid : HasNoSpace (up_to_space cs)
-  apart : EndsAt Space rest
+  apart : ElementEnds Space rest
 
 word_by : (c : ℕ) (cs : List ℕ) (b : Bool) → is_list_space c ≡ b → Word cs → Word (c ∷ cs)
 word_by c cs true s w =
@@ -89,11 +89,11 @@ record Stuck (close : Closed) (rest m : List ℕ) : Type 0 where
   after : List ℕ
   joined : rest ≡ first ∷ (word ++ after)
   solid : HasNoSpace (first ∷ word)
-  apart : EndsAt Space after
+  apart : ElementEnds Space after
   message : m ≡ followed_by close (first ∷ word)
 
 abbrev FollowedOf : Closed → List ℕ → List ℕ → Result (List ℕ × List ℕ) (List ℕ) → Type 0
-FollowedOf close e rest (Ok x) = (x.0 ≡ e) × (x.1 ≡ rest) × EndsAt Space rest
+FollowedOf close e rest (Ok x) = (x.0 ≡ e) × (x.1 ≡ rest) × ElementEnds Space rest
 FollowedOf close e rest (Err m) = Stuck close rest m
 
 followed_by_case : (close : Closed) (e : List ℕ) (c : ℕ) (cs : List ℕ) (b : Bool) → is_list_space c ≡ b → FollowedOf close e (c ∷ cs) (followed close e (c ∷ cs))
@@ -126,7 +126,7 @@ quote_followed c cs e rest (Ok x) q l h =
 quote_followed c cs e rest (Err m) q l h =
     subst (ListFault (c ∷ cs)) (sym h.message) (fault.behind_quote c h.first cs e h.word h.after q (subst (λ t. Letters Quote cs e (quote ∷ t)) h.joined l) h.solid h.apart)
 
-unquoted_of : (c : ℕ) (cs e rest : List ℕ) → c ≡ quote → Letters Quote cs e rest → EndsAt Quote rest → PartOf (c ∷ cs) (unquoted e rest)
+unquoted_of : (c : ℕ) (cs e rest : List ℕ) → c ≡ quote → Letters Quote cs e rest → ElementEnds Quote rest → PartOf (c ∷ cs) (unquoted e rest)
 unquoted_of c cs e [] q l h = fault.no_quote c cs e q l
 unquoted_of c cs e (d ∷ ds) q l h =
     quote_followed c cs e ds (followed closed.Quote e ds) q (subst (λ t. Letters Quote cs e (t ∷ ds)) (eqb-true d quote h) l) (followed_of closed.Quote e ds)

@@ -63,13 +63,13 @@ braced cs = unbraced cs (to_close false 0 cs)
 abbrev pub element : ℕ → Part (List ℕ)
 element c cs = if c == open_brace then braced cs else (if c == quote then quoted cs else letters Space (c ∷ cs))
 
-abbrev pub element_in : Part (Option (List ℕ))
-element_in [] = Ok (None, [])
-element_in (c ∷ cs) = element c cs >>= λ x. Ok (Some x.0, x.1)
+abbrev pub first_element : Part (Option (List ℕ))
+first_element [] = Ok (None, [])
+first_element (c ∷ cs) = element c cs >>= λ x. Ok (Some x.0, x.1)
 
 -- the next element, if there is one
 unfoldable pub next_element : Part (Option (List ℕ))
-next_element cs = element_in (skip_space cs)
+next_element cs = first_element (skip_space cs)
 
 -- the elements of a text, or the text of its first fault from the left
 unfoldable pub elements_of : List ℕ → Result (List (List ℕ)) (List ℕ)

@@ -4,7 +4,7 @@ use Rattle.tcl_chars.specs.Characters.{quote, open_brace, close_brace}
 use Rattle.tcl_chars.specs.Classes.{is_list_space}
 use Rattle.tcl_list.specs.Braces.{is_balanced}
 use Rattle.tcl_list.specs.Faults.{unmatched_brace, unmatched_quote, followed_by}
-use Rattle.tcl_list.specs.Spelling.{Letters, EndsAt, Spells}
+use Rattle.tcl_list.specs.Spelling.{Letters, ElementEnds, Spells}
 use Rattle.tcl_list.specs.declared.reading.Closed.TheVariants as closed
 use Rattle.tcl_list.specs.declared.reading.End.TheVariants.{Space, Quote}
 
@@ -19,7 +19,7 @@ pub data ListFault : List ℕ → List ℕ → Type 0 where
   element : (cs e rest m : List ℕ) → Spells cs e rest → ListFault rest m → ListFault cs m
   no_brace : (c : ℕ) (cs : List ℕ) → c ≡ open_brace → ((e rest : List ℕ) → is_balanced e ≡ true → cs ≢ e ++ close_brace ∷ rest) → ListFault (c ∷ cs) unmatched_brace
   no_quote : (c : ℕ) (cs e : List ℕ) → c ≡ quote → Letters Quote cs e [] → ListFault (c ∷ cs) unmatched_quote
-  behind_brace : (c d : ℕ) (cs e x rest : List ℕ) → c ≡ open_brace → is_balanced e ≡ true → cs ≡ e ++ close_brace ∷ d ∷ (x ++ rest) → HasNoSpace (d ∷ x) → EndsAt Space rest
+  behind_brace : (c d : ℕ) (cs e x rest : List ℕ) → c ≡ open_brace → is_balanced e ≡ true → cs ≡ e ++ close_brace ∷ d ∷ (x ++ rest) → HasNoSpace (d ∷ x) → ElementEnds Space rest
       → ListFault (c ∷ cs) (followed_by closed.Brace (d ∷ x))
-  behind_quote : (c d : ℕ) (cs e x rest : List ℕ) → c ≡ quote → Letters Quote cs e (quote ∷ d ∷ (x ++ rest)) → HasNoSpace (d ∷ x) → EndsAt Space rest
+  behind_quote : (c d : ℕ) (cs e x rest : List ℕ) → c ≡ quote → Letters Quote cs e (quote ∷ d ∷ (x ++ rest)) → HasNoSpace (d ∷ x) → ElementEnds Space rest
       → ListFault (c ∷ cs) (followed_by closed.Quote (d ∷ x))

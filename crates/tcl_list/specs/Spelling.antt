@@ -16,15 +16,15 @@ pub data Letters (end : End) : List ℕ → List ℕ → List ℕ → Type 0 whe
   escaped : (c : ℕ) (cs said rest : List ℕ) → c ≡ backslash → Letters end (drop (escape (c ∷ cs)).1 (c ∷ cs)) said rest → Letters end (c ∷ cs) ((escape (c ∷ cs)).0 ∷ said) rest
 
 -- nothing follows, or what ends the element
-abbrev pub EndsAt : End → List ℕ → Type 0
-EndsAt end [] = Unit {0}
-EndsAt end (c ∷ cs) = ends end c ≡ true
+abbrev pub ElementEnds : End → List ℕ → Type 0
+ElementEnds end [] = Unit {0}
+ElementEnds end (c ∷ cs) = ends end c ≡ true
 
 -- The text is one spelling of the element e and then the rest, from which list space or the end divides it.
 pub data Spells : List ℕ → List ℕ → List ℕ → Type 0 where
-  bare : (c : ℕ) (cs e rest : List ℕ) → is_list_space c ≡ false → c ≢ open_brace → c ≢ quote → Letters Space (c ∷ cs) e rest → EndsAt Space rest → Spells (c ∷ cs) e rest
-  quoted : (c : ℕ) (cs e rest : List ℕ) → c ≡ quote → Letters Quote cs e (quote ∷ rest) → EndsAt Space rest → Spells (c ∷ cs) e rest
-  braced : (c : ℕ) (cs e rest : List ℕ) → c ≡ open_brace → is_balanced e ≡ true → cs ≡ e ++ close_brace ∷ rest → EndsAt Space rest → Spells (c ∷ cs) e rest
+  bare : (c : ℕ) (cs e rest : List ℕ) → is_list_space c ≡ false → c ≢ open_brace → c ≢ quote → Letters Space (c ∷ cs) e rest → ElementEnds Space rest → Spells (c ∷ cs) e rest
+  quoted : (c : ℕ) (cs e rest : List ℕ) → c ≡ quote → Letters Quote cs e (quote ∷ rest) → ElementEnds Space rest → Spells (c ∷ cs) e rest
+  braced : (c : ℕ) (cs e rest : List ℕ) → c ≡ open_brace → is_balanced e ≡ true → cs ≡ e ++ close_brace ∷ rest → ElementEnds Space rest → Spells (c ∷ cs) e rest
 
 -- The text spells each of the elements once, in order, with list space between them and round them.
 pub data Reads : List ℕ → List (List ℕ) → Type 0 where

@@ -14,9 +14,9 @@ is_special c =
     (c == open_brace) || (c == close_brace) || (c == open_bracket) || (c == close_bracket) || (c == dollar) || (c == quote) || (c == semicolon) || (c == backslash)
 
 -- no character needs a backslash
-abbrev pub is_plain : List ℕ → Bool
-is_plain [] = true
-is_plain (c ∷ cs) = not (is_list_space c || is_special c) && is_plain cs
+abbrev pub needs_no_backslash : List ℕ → Bool
+needs_no_backslash [] = true
+needs_no_backslash (c ∷ cs) = not (is_list_space c || is_special c) && needs_no_backslash cs
 
 -- a backslash stands directly before a newline
 abbrev pub is_continued : List ℕ → Bool
@@ -28,10 +28,10 @@ abbrev pub is_comment : Bool → List ℕ → Bool
 is_comment first cs = first && begins number_sign cs
 
 -- the first form that applies
-abbrev pub form_of : Bool → List ℕ → Form
-form_of first [] = Empty
-form_of first (c ∷ cs) =
-    if is_plain (c ∷ cs) && not (is_comment first (c ∷ cs)) then Bare else (
+abbrev pub element_form : Bool → List ℕ → Form
+element_form first [] = Empty
+element_form first (c ∷ cs) =
+    if needs_no_backslash (c ∷ cs) && not (is_comment first (c ∷ cs)) then Bare else (
     if is_balanced (c ∷ cs) && not (is_continued (c ∷ cs)) then Braces else Backslashes)
 
 -- what stands behind the backslash of a character, if it needs one
@@ -61,7 +61,7 @@ spelled Backslashes first cs = if is_comment first cs then backslash ∷ all_esc
 
 -- one element
 unfoldable pub written_element : Bool → List ℕ → List ℕ
-written_element first cs = spelled (form_of first cs) first cs
+written_element first cs = spelled (element_form first cs) first cs
 
 -- one element, with the space in front of it unless it is the first
 unfoldable pub appended : Bool → List ℕ → List ℕ

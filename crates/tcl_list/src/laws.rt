@@ -1,5 +1,5 @@
 //! Laws of the definitions: each function's contract is one, and its body does nothing.
-ghost use Rattle.tcl_list.specs.Laws.{ReadingIsSpelling, FaultIsFirst, OneReading, ReadingOrFault, WrittenIsSpelled};
+ghost use Rattle.tcl_list.specs.Laws.{AppendedIsLonger, FaultIsFirst, OneList, ReadingIsSpelling, ReadingOrFault, SameBraceCloses, WrittenIsSpelled};
 ghost use Rattle.tcl_list.specs.OneCommand.{NextCommand, OneCommand};
 
 /// A text reads as the elements that it spells, and as no other.
@@ -13,8 +13,8 @@ pub fn fault_is_first()
 {}
 
 /// A text spells one list at most.
-pub fn one_reading()
-    ensures { OneReading }
+pub fn one_list()
+    ensures { OneList }
 {}
 
 /// Each text spells a list or has a fault, and none does both.
@@ -25,6 +25,17 @@ pub fn reading_or_fault()
 /// What is written spells the elements that were written.
 pub fn written_is_spelled()
     ensures { WrittenIsSpelled }
+{}
+
+/// An element appended to a written list gives the list that is longer by this element, written. It is the first where the
+/// list is empty.
+pub fn appended_is_longer()
+    ensures { AppendedIsLonger }
+{}
+
+/// The brace that closes an element in braces is the one that would close a word in braces.
+pub fn same_brace_closes()
+    ensures { SameBraceCloses }
 {}
 
 /// What is written of one element or more is one command, whose words are these elements.

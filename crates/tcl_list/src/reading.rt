@@ -1,17 +1,20 @@
 //! A text read as a list.
 
-ghost use Rattle.std.specs.Prelude.{◌≡◌, ◌∷◌, Ok, map, option_map};
+ghost use Rattle.std.specs.Prelude.{◌≡◌, ◌∷◌, Ok, IfOk, map, option_map};
 ghost use Rattle.std.specs.Str.{chars};
 ghost use Rattle.std.specs.String.{string_bytes};
 ghost use Rattle.tcl_chars.specs.Place.{IsFirst};
+ghost use Rattle.tcl_chars.specs.Reading.{Gives};
 ghost use Rattle.tcl_list.specs.Elements.{ends, letter, letters, followed, quoted, braced, element, next_element, elements_of};
-ghost use Rattle.tcl_list.specs.Texts.{text_of, Answers};
+ghost use Rattle.tcl_list.specs.Texts.{text_of, worded, Answers};
 
 use crate::braces::to_close;
 use crate::faults::{followed_by, unmatched_brace, unmatched_quote};
-use std::alloc::Global;
+use std::alloc::{AllocError, Global};
 use std::rc::RcStr;
-use tcl_chars::{Fault, backslash, before, is_list_space, push, skip_space, split_first, tail};
+use tcl_chars::{
+    Fault, ReadFault, backslash, before, is_list_space, push, skip_space, split_first, tail,
+};
 
 /// What ends an element that is read character by character.
 #[derive(Clone, Copy)]
@@ -55,8 +58,8 @@ fn letter(end: End, text: &str) -> (Option<char>, &str)
 }
 
 /// The characters that an element says, and the text from its end on.
-fn letters(alloc: Global, end: End, text: &str) -> Result<(RcStr, &str), Fault>
-    ensures { Answers (λ x. (text_of x.0, chars x.1.now)) result (letters end (chars text.now)) }
+fn letters(alloc: Global, end: End, text: &str) -> Result<(RcStr, &str), AllocError>
+    ensures { IfOk result (λ x. letters end (chars text.now) ≡ Ok (text_of x.0, chars x.1.now)) }
 {
     let mut said = String::new(alloc);
     let mut rest = text;
@@ -76,8 +79,8 @@ fn followed(
     closed: Closed,
     element: RcStr,
     text: &str,
-) -> Result<(RcStr, &str), Fault>
-    ensures { Answers (λ x. (text_of x.0, chars x.1.now)) result
+) -> Result<(RcStr, &str), ReadFault<RcStr>>
+    ensures { Gives (λ x. (text_of x.0, chars x.1.now)) (worded result)
         (followed closed (text_of element) (chars text.now)) }
 {
     let Some((c, _)) = split_first(text) else {
@@ -86,26 +89,26 @@ fn followed(
     if is_list_space(c) {
         return Ok((element, text));
     }
-    Err(Fault::Error(followed_by(alloc, closed, text)?))
+    Err(ReadFault::Bad(followed_by(alloc, closed, text)?))
 }
 
 /// The element behind an opening quote.
-fn quoted(alloc: Global, text: &str) -> Result<(RcStr, &str), Fault>
-    ensures { Answers (λ x. (text_of x.0, chars x.1.now)) result (quoted (chars text.now)) }
+fn quoted(alloc: Global, text: &str) -> Result<(RcStr, &str), ReadFault<RcStr>>
+    ensures { Gives (λ x. (text_of x.0, chars x.1.now)) (worded result) (quoted (chars text.now)) }
 {
     let (said, rest) = letters(alloc, End::Quote, text)?;
     let Some((_, after)) = split_first(rest) else {
-        return Err(Fault::Error(unmatched_quote(alloc)?));
+        return Err(ReadFault::Bad(unmatched_quote(alloc)?));
     };
     followed(alloc, Closed::Quote, said, after)
 }
 
 /// The element behind an opening brace: what stands before the brace that matches, as it is.
-fn braced(alloc: Global, text: &str) -> Result<(RcStr, &str), Fault>
-    ensures { Answers (λ x. (text_of x.0, chars x.1.now)) result (braced (chars text.now)) }
+fn braced(alloc: Global, text: &str) -> Result<(RcStr, &str), ReadFault<RcStr>>
+    ensures { Gives (λ x. (text_of x.0, chars x.1.now)) (worded result) (braced (chars text.now)) }
 {
     let Some(rest) = to_close(text) else {
-        return Err(Fault::Error(unmatched_brace(alloc)?));
+        return Err(ReadFault::Bad(unmatched_brace(alloc)?));
     };
     let inner = RcStr::from_str(alloc, before(text, rest))?;
     followed(alloc, Closed::Brace, inner, tail(rest))
@@ -117,20 +120,20 @@ fn element<'a>(
     first: char,
     text: &'a str,
     behind: &'a str,
-) -> Result<(RcStr, &'a str), Fault>
+) -> Result<(RcStr, &'a str), ReadFault<RcStr>>
     requires { chars text.now ≡ first ∷ chars behind.now }
-    ensures { Answers (λ x. (text_of x.0, chars x.1.now)) result (element first (chars behind.now)) }
+    ensures { Gives (λ x. (text_of x.0, chars x.1.now)) (worded result) (element first (chars behind.now)) }
 {
     match first {
         '{' => braced(alloc, behind),
         '"' => quoted(alloc, behind),
-        _ => letters(alloc, End::Space, text),
+        _ => Ok(letters(alloc, End::Space, text)?),
     }
 }
 
 /// The next element, if there is one, and the text behind it.
-fn next_element(alloc: Global, text: &str) -> Result<(Option<RcStr>, &str), Fault>
-    ensures { Answers (λ x. (option_map text_of x.0, chars x.1.now)) result (next_element (chars text.now)) }
+fn next_element(alloc: Global, text: &str) -> Result<(Option<RcStr>, &str), ReadFault<RcStr>>
+    ensures { Gives (λ x. (option_map text_of x.0, chars x.1.now)) (worded result) (next_element (chars text.now)) }
 {
     let start = skip_space(text);
     let Some((c, after)) = split_first(start) else {
@@ -138,6 +141,22 @@ fn next_element(alloc: Global, text: &str) -> Result<(Option<RcStr>, &str), Faul
     };
     let (element, rest) = element(alloc, c, start, after)?;
     Ok((Some(element), rest))
+}
+
+/// The elements of a text, or what is wrong with it.
+fn elements(alloc: Global, text: &str) -> Result<Vec<RcStr>, ReadFault<RcStr>>
+    ensures { Gives (λ v. map text_of v.items) (worded result) (elements_of (chars text.now)) }
+{
+    let mut elements = Vec::new(alloc);
+    let mut rest = text;
+    'elements: loop {
+        let (element, after) = next_element(alloc, rest)?;
+        match element {
+            None => return Ok(elements),
+            Some(element) => elements.push(element)?,
+        }
+        rest = after;
+    }
 }
 
 /// The elements of a text that is read as a list.
@@ -153,14 +172,9 @@ fn next_element(alloc: Global, text: &str) -> Result<(Option<RcStr>, &str), Faul
 pub fn split(alloc: Global, text: &str) -> Result<Vec<RcStr>, Fault>
     ensures { Answers (λ v. map text_of v.items) result (elements_of (chars text.now)) }
 {
-    let mut elements = Vec::new(alloc);
-    let mut rest = text;
-    'elements: loop {
-        let (element, after) = next_element(alloc, rest)?;
-        match element {
-            None => return Ok(elements),
-            Some(element) => elements.push(element)?,
-        }
-        rest = after;
+    match elements(alloc, text) {
+        Ok(elements) => Ok(elements),
+        Err(ReadFault::Bad(message)) => Err(Fault::Error(message)),
+        Err(ReadFault::Memory) => Err(Fault::Memory),
     }
 }

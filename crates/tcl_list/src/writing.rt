@@ -1,16 +1,15 @@
 //! Elements written as a list.
 
-ghost use Rattle.std.specs.Prelude.{◌≡◌, ◌++◌, map, IfOk, IfErr, OnOk, OnErr};
+ghost use Rattle.std.specs.Prelude.{◌≡◌, ◌++◌, map, IfOk, OnOk, OnErr};
 ghost use Rattle.std.specs.Str.{chars};
 ghost use Rattle.std.specs.String.{string_bytes};
-ghost use Rattle.tcl_chars.specs.declared.fault.Fault.TheVariants as fault;
-ghost use Rattle.tcl_list.specs.Texts.{text_of, Writes};
-ghost use Rattle.tcl_list.specs.Written.{is_special, is_plain, is_continued, is_comment, form_of, behind_backslash, all_escaped, spelled, appended, written};
+ghost use Rattle.tcl_list.specs.Texts.{text_of, WritesBehind};
+ghost use Rattle.tcl_list.specs.Written.{is_special, needs_no_backslash, is_continued, is_comment, element_form, behind_backslash, all_escaped, spelled, appended, written};
 
 use crate::braces::is_balanced;
 use std::alloc::{AllocError, Global};
 use std::rc::RcStr;
-use tcl_chars::{Fault, begins, is_list_space, push, push_text, split_first};
+use tcl_chars::{begins, is_list_space, push, push_text, split_first};
 
 /// How an element is written.
 #[derive(Clone, Copy)]
@@ -33,8 +32,8 @@ fn is_special(c: char) -> bool
 }
 
 /// Does no character of the text need a backslash?
-fn is_plain(text: &str) -> bool
-    ensures { result ≡ is_plain (chars text.now) }
+fn needs_no_backslash(text: &str) -> bool
+    ensures { result ≡ needs_no_backslash (chars text.now) }
 {
     let mut rest = text;
     while let Some((c, after)) = split_first(rest) {
@@ -68,13 +67,13 @@ fn is_comment(element: &str, first: bool) -> bool
 }
 
 /// The first form that applies to an element.
-fn form_of(element: &str, first: bool) -> Form
-    ensures { result ≡ form_of first (chars element.now) }
+fn element_form(element: &str, first: bool) -> Form
+    ensures { result ≡ element_form first (chars element.now) }
 {
     let Some(_) = split_first(element) else {
         return Form::Empty;
     };
-    if is_plain(element) && !is_comment(element, first) {
+    if needs_no_backslash(element) && !is_comment(element, first) {
         return Form::Bare;
     }
     if is_balanced(element) && !is_continued(element) {
@@ -100,7 +99,7 @@ fn behind_backslash(c: char) -> Option<char>
 
 /// Writes the characters of an element, behind backslashes where they need them.
 fn push_escaped(text: &mut String, element: &str) -> Result<(), AllocError>
-    ensures { Writes (chars (string_bytes text.old)) (chars (string_bytes text.new))
+    ensures { WritesBehind (chars (string_bytes text.old)) (chars (string_bytes text.new))
         (all_escaped (chars element.now)) result }
 {
     let mut rest = element;
@@ -118,9 +117,9 @@ fn push_escaped(text: &mut String, element: &str) -> Result<(), AllocError>
 }
 
 /// Writes an element in its form.
-#[tactic(auto, using(crate::proofs::Messages::chars_empty_braces))]
+#[tactic(auto, using(tcl_chars::proofs::Literals::literal_chars))]
 fn push_form(text: &mut String, element: &str, form: Form, first: bool) -> Result<(), AllocError>
-    ensures { Writes (chars (string_bytes text.old)) (chars (string_bytes text.new))
+    ensures { WritesBehind (chars (string_bytes text.old)) (chars (string_bytes text.new))
         (spelled form first (chars element.now)) result }
 {
     match form {
@@ -142,14 +141,14 @@ fn push_form(text: &mut String, element: &str, form: Form, first: bool) -> Resul
 
 /// Writes an element, behind a space unless it is the first.
 fn push_element(text: &mut String, element: &str, first: bool) -> Result<(), AllocError>
-    ensures { Writes (chars (string_bytes text.old)) (chars (string_bytes text.new))
+    ensures { WritesBehind (chars (string_bytes text.old)) (chars (string_bytes text.new))
         (appended first (chars element.now)) result }
 {
     if first {
-        return push_form(text, element, form_of(element, true), true);
+        return push_form(text, element, element_form(element, true), true);
     }
     push(text, ' ')?;
-    push_form(text, element, form_of(element, false), false)
+    push_form(text, element, element_form(element, false), false)
 }
 
 /// Writes one more element at the end of a list's text, behind a space unless it is the first.
@@ -158,19 +157,18 @@ fn push_element(text: &mut String, element: &str, first: bool) -> Result<(), All
 ///
 /// # Errors
 ///
-/// `Fault::Memory` where a growth was refused; the text is then as it was.
-pub fn append_element(text: &mut String, element: &str, first: bool) -> Result<(), Fault>
+/// `AllocError` where a growth was refused; the text is then as it was.
+pub fn append_element(text: &mut String, element: &str, first: bool) -> Result<(), AllocError>
     ensures written { OnOk result (chars (string_bytes text.new)
         ≡ chars (string_bytes text.old) ++ appended first (chars element.now)) }
-    ensures refused { IfErr result (λ e. e ≡ fault.Memory) }
     ensures same { OnErr result (string_bytes text.new ≡ string_bytes text.old) }
 {
     let size = text.len();
     match push_element(text, element, first) {
         Ok(()) => Ok(()),
-        Err(_) => {
+        Err(refused) => {
             text.truncate(size);
-            Err(Fault::Memory)
+            Err(refused)
         }
     }
 }
@@ -179,10 +177,9 @@ pub fn append_element(text: &mut String, element: &str, first: bool) -> Result<(
 ///
 /// # Errors
 ///
-/// `Fault::Memory` where a growth was refused.
-pub fn write(alloc: Global, elements: &[RcStr]) -> Result<String, Fault>
-    ensures written { IfOk result (λ s. chars (string_bytes s) ≡ written (map text_of elements.now)) }
-    ensures refused { IfErr result (λ e. e ≡ fault.Memory) }
+/// `AllocError` where a growth was refused.
+pub fn write(alloc: Global, elements: &[RcStr]) -> Result<String, AllocError>
+    ensures { IfOk result (λ s. chars (string_bytes s) ≡ written (map text_of elements.now)) }
 {
     let mut text = String::new(alloc);
     let mut first = true;

@@ -4,6 +4,7 @@ use super::show::parse;
 use std::alloc::{AllocError, Global};
 use std::process::Abort;
 use std::test::Fail;
+use tcl_chars::Dialect;
 use tcl_expr::{ExprSyntax, parse_expr};
 
 /// The opening text so many times, the middle, and the closing text as often.
@@ -34,10 +35,16 @@ fn check<R: Abort + AllocGlobal>(
 ) -> Result<(), Fail> {
     let alloc = rt.alloc();
     let text = nested(alloc, most, opening, middle, closing)?;
-    assert!(rt; parse_expr(alloc, &text)?.is_ok(), "{most} of {opening}");
+    assert!(rt;
+        parse_expr(alloc, &text, Dialect::Tcl86)?.is_ok(),
+        "{most} of {opening}"
+    );
     let text = nested(alloc, most.saturating_add(1), opening, middle, closing)?;
     assert!(rt;
-        matches!(parse_expr(alloc, &text)?, Err(ExprSyntax::Nesting)),
+        matches!(
+            parse_expr(alloc, &text, Dialect::Tcl86)?,
+            Err(ExprSyntax::Nesting)
+        ),
         "more of {opening}"
     );
     Ok(())
@@ -117,7 +124,7 @@ fn side_by_side(rt: HostRuntime) -> Result<(), Fail> {
         "(1 ? 2 : 3) + ",
     ] {
         let text = nested(alloc, 300, part, "1", "")?;
-        assert!(rt; parse_expr(alloc, &text)?.is_ok(), "{part}");
+        assert!(rt; parse_expr(alloc, &text, Dialect::Tcl86)?.is_ok(), "{part}");
     }
     Ok(())
 }

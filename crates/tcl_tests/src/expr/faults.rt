@@ -3,6 +3,7 @@
 use super::show::{named, parse};
 use std::process::Abort;
 use std::test::Fail;
+use tcl_chars::Dialect;
 use tcl_expr::parse_expr;
 
 fn check<R: Abort + AllocGlobal>(rt: &R, text: &str, wanted: &str) -> Result<(), Fail> {
@@ -253,7 +254,7 @@ fn check_place<R: Abort + AllocGlobal>(
     start: usize,
     end: usize,
 ) -> Result<(), Fail> {
-    match parse_expr(rt.alloc(), text)? {
+    match parse_expr(rt.alloc(), text, Dialect::Tcl86)? {
         Ok(_) => assert!(rt; false, "of {text}"),
         Err(fault) => assert_eq!(rt; named(&fault), Some((start, end)), "of {text}"),
     }

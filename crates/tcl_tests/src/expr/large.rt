@@ -2,6 +2,7 @@
 
 use std::alloc::{AllocError, Global};
 use std::test::Fail;
+use tcl_chars::Dialect;
 use tcl_expr::{Tree, parse_expr};
 
 fn chain(alloc: Global, n: usize, part: &str) -> Result<String, AllocError> {
@@ -16,7 +17,7 @@ fn chain(alloc: Global, n: usize, part: &str) -> Result<String, AllocError> {
 #[test]
 fn a_long_sum(rt: HostRuntime) -> Result<(), Fail> {
     let text = chain(rt.alloc(), 200_000, "1+")?;
-    match parse_expr(rt.alloc(), &text)? {
+    match parse_expr(rt.alloc(), &text, Dialect::Tcl86)? {
         Ok(Tree::Chain(3, _, parts)) => assert_eq!(rt; parts.len(), 200_000),
         _ => assert!(rt; false, "no chain"),
     }
@@ -27,7 +28,10 @@ fn a_long_sum(rt: HostRuntime) -> Result<(), Fail> {
 fn other_long_chains(rt: HostRuntime) -> Result<(), Fail> {
     for part in ["1*1+1==1&&", "$a eq [b] || ", "(1)-!2 in "] {
         let text = chain(rt.alloc(), 15_000, part)?;
-        assert!(rt; parse_expr(rt.alloc(), &text)?.is_ok(), "{part}");
+        assert!(rt;
+            parse_expr(rt.alloc(), &text, Dialect::Tcl86)?.is_ok(),
+            "{part}"
+        );
     }
     Ok(())
 }
@@ -38,9 +42,9 @@ fn a_long_run(rt: HostRuntime) -> Result<(), Fail> {
     for _ in 0..1_000_000 {
         text.push('7')?;
     }
-    assert!(rt; parse_expr(rt.alloc(), &text)?.is_ok());
+    assert!(rt; parse_expr(rt.alloc(), &text, Dialect::Tcl86)?.is_ok());
     text.push('x')?;
-    assert!(rt; parse_expr(rt.alloc(), &text)?.is_err());
+    assert!(rt; parse_expr(rt.alloc(), &text, Dialect::Tcl86)?.is_err());
     Ok(())
 }
 

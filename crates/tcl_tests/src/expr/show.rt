@@ -2,6 +2,7 @@
 
 use std::alloc::{AllocError, Global};
 use std::test::Fail;
+use tcl_chars::Dialect;
 use tcl_expr::{ExprSyntax, Leaf, Tree, parse_expr};
 use tcl_words::{Form, Piece, Word};
 
@@ -102,7 +103,7 @@ pub(super) fn shown(alloc: Global, tree: &Tree<'_>) -> Result<String, AllocError
 
 /// The tree of a text, written out, or what its fault says.
 pub(super) fn parse(alloc: Global, text: &str) -> Result<String, Fail> {
-    match parse_expr(alloc, text)? {
+    match parse_expr(alloc, text, Dialect::Tcl86)? {
         Ok(tree) => Ok(shown(alloc, &tree)?),
         Err(fault) => Ok(fault.message(alloc)?),
     }

@@ -1,16 +1,10 @@
 use Rattle.std.proofs.Common.{◌≡◌, sym, ap, ◌∙◌, Err}
-use Rattle.std.proofs.lemmas.Result.{err_from_is_err_and}
 use Rattle.std.specs.Str.{chars}
 use Rattle.tcl_list.specs.Elements.{quoted, followed}
 use Rattle.tcl_list.specs.Texts.{text_of}
 use Rattle.tcl_list.specs.declared.reading.Closed.TheVariants as closed
-use Rattle.tcl_list.proofs.Parts.{quote_stops, quote_open, quote_closed}
+use Rattle.tcl_list.proofs.Parts.{quote_open, quote_closed}
 use Rattle.tcl_list.proofs.reading.quoted.Goals as goal
-
-pub returns-in_err-said : goal.returns-in_err-said
-returns-in_err-said c =
-    let p = err_from_is_err_and c.from_residual.result c.from_residual.ensures.1 in
-    rw (p.1, p.2) (quote_stops (chars c.args.text.now) c.in_err-said.field-0.0 c.in_err-said.ensures)
 
 pub returns-in_default : goal.returns-in_default
 returns-in_default c = quote_open _ _ _ c.in_ok-said.ensures c.in_default.ensures.parts ∙ ap Err (sym c.in_ok-unmatched_quote.ensures)
