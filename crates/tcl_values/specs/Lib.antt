@@ -1,0 +1,3 @@
+pub mod Falls
+pub mod Kept
+pub mod Shape
