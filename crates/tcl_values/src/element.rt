@@ -13,7 +13,7 @@ use std::rc::{Rc, RcStr};
 #[cycle(element)]
 #[derive(Drop)]
 pub struct Element {
-    entry: Entry,
+    pub(crate) entry: Entry,
 }
 
 /// What is kept of an element.
@@ -77,5 +77,26 @@ impl Element {
             Entry::Row(row) => Held::Row(row.clone()?),
         };
         Ok(Value { held })
+    }
+
+    /// The same element. What is kept is shared.
+    pub(crate) fn duplicate(&self) -> Result<Element, AllocError>
+        ensures { IfOk result (λ e. e ≡ self.now) }
+    {
+        let entry = match &self.entry {
+            Entry::Text(text) => Entry::Text(text.clone()?),
+            Entry::Row(row) => Entry::Row(row.clone()?),
+        };
+        Ok(Element { entry })
+    }
+
+    /// How deep the list is that stands beside its text.
+    pub(crate) fn depth(&self) -> u8
+        ensures { result ≡ self.now.depth }
+    {
+        match &self.entry {
+            Entry::Text(_) => 0,
+            Entry::Row(row) => row.depth,
+        }
     }
 }

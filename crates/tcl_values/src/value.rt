@@ -6,7 +6,7 @@ ghost use Rattle.std.specs.Str.{chars};
 ghost use Rattle.std.specs.String.{string_bytes};
 ghost use Rattle.tcl_chars.specs.Whole.{whole_of};
 ghost use Rattle.tcl_list.specs.Texts.{text_of};
-ghost use Rattle.tcl_values.specs.Shape.{held_text, IsHeld};
+ghost use Rattle.tcl_values.specs.Shape.{held_text, is_row, IsHeld};
 
 use crate::element::Items;
 use crate::items::{row_text, show};
@@ -74,6 +74,13 @@ fn canonical(text: &str, whole: Whole) -> Option<i64>
 }
 
 impl Held {
+    /// Is it a list?
+    pub(crate) fn is_row(&self) -> bool
+        ensures { result ≡ is_row self.now }
+    {
+        matches!(self, Held::Row(_))
+    }
+
     /// The text.
     pub(crate) fn text(&self, alloc: Global) -> Result<RcStr, AllocError>
         ensures { IfOk result (λ t. text_of t ≡ held_text self.now) }
