@@ -99,4 +99,15 @@ impl Element {
             Entry::Row(row) => row.depth,
         }
     }
+
+    /// The element as a value.
+    pub(crate) fn into_value(self) -> Value
+        ensures { result ≡ self.text }
+    {
+        let held = match self.entry {
+            Entry::Text(text) => Held::Text(text),
+            Entry::Row(row) => Held::Row(row),
+        };
+        Value { held }
+    }
 }

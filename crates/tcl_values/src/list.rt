@@ -1,15 +1,15 @@
 //! Values read as lists, and changed as lists.
 
-ghost use Rattle.std.specs.Prelude.{◌≡◌, ◌<◌, true, map, IfOk, OnOk, OnErr};
+ghost use Rattle.std.specs.Prelude.{◌≡◌, ◌<◌, ◌≤◌, true, map, IfOk, OnOk, OnErr};
 ghost use Rattle.tcl_list.specs.Elements.{elements_of};
 ghost use Rattle.tcl_list.specs.Texts.{text_of, Answers};
 ghost use Rattle.tcl_list.specs.Written.{written};
 ghost use Rattle.tcl_values.specs.Kept.{texts, depth_over};
-ghost use Rattle.tcl_values.specs.Lists.{count_of, item_of, pushed, Leaves};
+ghost use Rattle.tcl_values.specs.Lists.{count_of, item_of, part_of, pushed, with_item, Leaves};
 ghost use Rattle.tcl_values.specs.Shape.{elements, elements_held, held_text, is_row, items_text, AreKept, IsHeld};
 
 use crate::element::{Element, Entry, Items};
-use crate::items::{push_element, settle};
+use crate::items::{gathered, part, push_element, set_element, settle};
 use crate::row::Row;
 use crate::value::{Held, Value};
 use std::alloc::{AllocError, Global};
@@ -79,6 +79,29 @@ fn row_element(mut row: Rc<Items>, alloc: Global) -> Result<Element, AllocError>
     Ok(Element {
         entry: Entry::Text(text),
     })
+}
+
+/// Values as elements.
+fn into_elements(alloc: Global, values: Vec<Value>) -> Result<Vec<Element>, AllocError>
+    ensures texts { IfOk result (λ v. texts v.items ≡ values.items) }
+    ensures depth { IfOk result (λ v. depth_over v.items ≤ 64) }
+{
+    let mut elements = Vec::with_capacity(alloc, values.len())?;
+    for value in values {
+        elements.push(value.into_element(alloc)?)?;
+    }
+    Ok(elements)
+}
+
+/// Elements as values. What is kept is shared.
+fn copy_values(alloc: Global, elements: &[Element]) -> Result<Vec<Value>, AllocError>
+    ensures { IfOk result (λ v. v.items ≡ texts elements.now) }
+{
+    let mut values = Vec::with_capacity(alloc, elements.len())?;
+    for element in elements {
+        values.push(element.copy()?)?;
+    }
+    Ok(values)
 }
 
 impl Value {
@@ -170,6 +193,86 @@ impl Value {
             Held::Row(row) => Ok(Row {
                 items: row.clone()?,
             }),
+            _ => unreachable!(),
+        }
+    }
+
+    /// The elements of the list that the text is read as, as values. What is kept of them is shared.
+    ///
+    /// # Errors
+    ///
+    /// `Fault::Error` with the list's fault, `Fault::Memory`.
+    pub fn list(&mut self, alloc: Global) -> Result<Vec<Value>, Fault>
+        ensures list { Answers (λ v. v.items) result (elements_of self.old) }
+        ensures same { self.new ≡ self.old }
+    {
+        read_row(&mut self.held, alloc)?;
+        match &self.held {
+            Held::Row(row) => Ok(copy_values(alloc, &row.items)?),
+            _ => unreachable!(),
+        }
+    }
+
+    /// The value that is a list of these values: list(n).
+    pub fn of_list(alloc: Global, items: Vec<Value>) -> Result<Value, AllocError>
+        ensures { IfOk result (λ v. v ≡ written items.items) }
+    {
+        let elements = into_elements(alloc, items)?;
+        let row = gathered(alloc, elements)?;
+        Ok(Value {
+            held: Held::Row(row),
+        })
+    }
+
+    /// Some elements of the list that the text is read as, as a list of their own: of those from the place `first` on, `count`, or all
+    /// where there are fewer: lrange(n).
+    ///
+    /// # Errors
+    ///
+    /// `Fault::Error` with the list's fault, `Fault::Memory`.
+    pub fn range(&mut self, alloc: Global, first: usize, count: usize) -> Result<Value, Fault>
+        ensures range { Answers (λ v. v) result (part_of self.old first count) }
+        ensures same { self.new ≡ self.old }
+    {
+        read_row(&mut self.held, alloc)?;
+        match &self.held {
+            Held::Row(row) => {
+                let elements = part(alloc, row, first, count)?;
+                let row = gathered(alloc, elements)?;
+                Ok(Value {
+                    held: Held::Row(row),
+                })
+            }
+            _ => unreachable!(),
+        }
+    }
+
+    /// Puts another element at a place of the list that the text is read as, and answers the one before: lset(n). Where the list
+    /// has no such place, nothing changes and the answer is none.
+    ///
+    /// # Errors
+    ///
+    /// `Fault::Error` with the list's fault, `Fault::Memory`; the value is then as it was.
+    pub fn replace_item(
+        &mut self,
+        alloc: Global,
+        index: usize,
+        item: Value,
+    ) -> Result<Option<Value>, Fault>
+        ensures before { Answers (λ o. o) result (item_of self.old index) }
+        ensures done { OnOk result (with_item self.old index item ≡ Ok self.new) }
+        ensures same { OnErr result (self.new ≡ self.old) }
+    {
+        let element = item.into_element(alloc)?;
+        read_row(&mut self.held, alloc)?;
+        match &mut self.held {
+            Held::Row(row) => {
+                if row.items.len() <= index {
+                    return Ok(None);
+                }
+                let before = set_element(row, index, element)?;
+                Ok(Some(before.into_value()))
+            }
             _ => unreachable!(),
         }
     }
