@@ -1,12 +1,15 @@
 pub mod Cuts
 pub mod Division
+pub mod Ends
+pub mod EscapesLemmas
 pub mod Figures
 pub mod Forms
+pub mod Literals
+pub mod MessagesLemmas
 pub mod Powers
 pub mod Runs
 pub mod Same
 pub mod Signs
 pub mod Text
 pub mod Turns
-pub mod Words
 pub mod Writing

@@ -1,7 +1,7 @@
 -- Turn after turn: the bound never shows, and what a loop keeps.
 use Rattle.std.proofs.Common.{◌≡◌, ℕ, zero, suc, ◌<◌, ◌≤◌, List, [], ◌∷◌, ◌++◌, length, Option, Some, None, Result, Ok, Err, refl, sym, ap, subst, ◌∙◌, append_assoc, arith}
 use Rattle.std.proofs.lemmas.List.{append-nil}
-use Rattle.std.specs.Prelude.{IfOk, IsSome}
+use Rattle.std.specs.Prelude.{IfOk, IfSome, IsSome}
 use Rattle.tcl_chars.specs.declared.fault.ReadFault.{ReadFault}
 use Rattle.tcl_chars.specs.declared.fault.ReadFault.TheVariants as fault
 use Rattle.tcl_chars.specs.Reading.{◌>>=◌, Reading, Fails, with_front, after_turn, turns, all_turns}
@@ -124,3 +124,29 @@ pub ends_scan : {A E : Type 0} (step : Reading E (Option A)) (err : ReadFault E)
     → only_rest (all_turns step cs) ≡ total → Fails err total
 ends_scan step fault.Memory cs total h so_far = tt
 ends_scan step (fault.Bad m) cs total h so_far = sym so_far ∙ ap only_rest (bad_turn step cs m h)
+
+-- ---- what each turn gives holds of all that the turns give
+
+-- a list of items that P holds of is one that Q holds of
+pub record Gathers {A : Type 0} (P : A → Type 0) (Q : List A → Type 0) : Type 0 where
+  pub empty : Q []
+  pub more : (x : A) (xs : List A) → P x → Q xs → Q (x ∷ xs)
+
+front_gathers : {A E : Type 0} (P : A → Type 0) (Q : List A → Type 0) (g : Gathers P Q) (x : A) (r : Result (List A × List ℕ) E) → P x → IfOk r (λ xs. Q xs.0) → IfOk (with_front (x ∷ []) r) (λ xs. Q xs.0)
+front_gathers P Q g x (Ok xs) h k = g.more x xs.0 h k
+front_gathers P Q g x (Err m) h k = tt
+
+turn_gathers : {A E : Type 0} (P : A → Type 0) (Q : List A → Type 0) (g : Gathers P Q) (r : Result (Option A × List ℕ) E) (next : Reading E (List A)) → IfOk r (λ t. IfSome t.0 P)
+    → ((rest : List ℕ) → IfOk (next rest) (λ xs. Q xs.0)) → IfOk (r >>= λ t. after_turn next t.0 t.1) (λ xs. Q xs.0)
+turn_gathers P Q g (Err m) next h k = tt
+turn_gathers P Q g (Ok (None, rest)) next h k = g.empty
+turn_gathers P Q g (Ok (Some x, rest)) next h k = front_gathers P Q g x (next rest) h (k rest)
+
+turns_gather_n : {A E : Type 0} (P : A → Type 0) (Q : List A → Type 0) (g : Gathers P Q) (step : Reading E (Option A)) (n : ℕ) (cs : List ℕ) → ((here : List ℕ) → IfOk (step here) (λ t. IfSome t.0 P)) → IfOk (turns step n cs) (λ xs. Q xs.0)
+unfolding turns
+turns_gather_n P Q g step zero cs each = g.empty
+turns_gather_n P Q g step (suc n) cs each = turn_gathers P Q g (step cs) (turns step n) (each cs) (λ rest. turns_gather_n P Q g step n rest each)
+
+pub turns_gather : {A E : Type 0} (P : A → Type 0) (Q : List A → Type 0) (g : Gathers P Q) (step : Reading E (Option A)) (cs : List ℕ) → ((here : List ℕ) → IfOk (step here) (λ t. IfSome t.0 P)) → IfOk (all_turns step cs) (λ xs. Q xs.0)
+unfolding all_turns
+turns_gather P Q g step cs each = turns_gather_n P Q g step (suc (length cs)) cs each

@@ -1,8 +1,8 @@
 -- What a text says as an index (lindex(n), string(n)): a number, `end`, or one of them and a number added or taken off.
-use Rattle.std.specs.Prelude.{ℕ, ◌^◌, Bool, false, ◌||◌, ◌==◌, nat_eq, nat_lt, List, [], ◌∷◌, codes, if◌then◌else◌, Option, Some, None, ℤ, pos, neg_ℤ, ◌+ℤ◌, ◌-ℤ◌}
-use Rattle.std.specs.Cmp.Lexicographic.{pointwise}
+use Rattle.std.specs.Prelude.{ℕ, ◌^◌, Bool, false, ◌||◌, ◌==◌, nat_lt, List, [], ◌∷◌, if◌then◌else◌, Option, Some, None, ℤ, pos, neg_ℤ, ◌+ℤ◌, ◌-ℤ◌}
 use Rattle.tcl_chars.specs.Classes.{is_list_space}
 use Rattle.tcl_chars.specs.Place.{before, tail}
+use Rattle.tcl_chars.specs.Texts.{literal, same_text}
 use Rattle.tcl_chars.specs.Whole.{magnitude, whole_of}
 use Rattle.tcl_chars.specs.declared.indices.Index.{Index}
 use Rattle.tcl_chars.specs.declared.indices.Index.TheVariants as index
@@ -26,9 +26,6 @@ abbrev pub to_sign : List ℕ → List ℕ
 to_sign [] = []
 to_sign (c ∷ cs) = if (c == 43) || (c == 45) then c ∷ cs else to_sign cs
 
-abbrev pub is_end : List ℕ → Bool
-is_end cs = pointwise nat_eq cs (codes "end")
-
 abbrev pub of_whole : Whole → Index
 of_whole (whole.Number number) = index.At (Start number (pos 0))
 of_whole whole.TooLarge = index.TooLarge
@@ -36,7 +33,7 @@ of_whole whole.Not = index.Not
 
 -- what stands in front of a sign: `end`, or a number text without white space
 abbrev pub base_of : Dialect → List ℕ → Index
-base_of dialect cs = if is_end cs then index.At (End (pos 0)) else (if has_space cs then index.Not else of_whole (whole_of dialect cs))
+base_of dialect cs = if same_text cs (literal "end") then index.At (End (pos 0)) else (if has_space cs then index.Not else of_whole (whole_of dialect cs))
 
 -- what stands behind the sign: a number text without a sign of its own and without white space
 abbrev pub signed_offset : Bool → Option ℕ → Whole

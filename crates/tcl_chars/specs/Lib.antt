@@ -1,10 +1,13 @@
+pub mod Answers
 pub mod Arith
 pub mod Characters
 pub mod Classes
 pub mod Escape
 pub mod Index
 pub mod Laws
+pub mod Messages
 pub mod Place
 pub mod Reading
+pub mod Texts
 pub mod Truth
 pub mod Whole

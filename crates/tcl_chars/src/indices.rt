@@ -7,7 +7,7 @@ ghost use Rattle.tcl_chars.specs.Whole.{magnitude};
 
 use crate::classes::is_list_space;
 use crate::numbers::{Dialect, Whole, read_magnitude, read_whole};
-use crate::texts::{before, split_first, tail};
+use crate::texts::{before, is_text, split_first, tail};
 
 /// A place in a list or a text, as an index names it: it may lie outside.
 #[derive(Clone, Copy, Debug, PartialEq, Eq)]
@@ -80,7 +80,7 @@ fn of_whole(whole: Whole) -> Index
 fn read_base(text: &str, dialect: Dialect) -> Index
     ensures { result ≡ base_of dialect (chars text.now) }
 {
-    if text == "end" {
+    if is_text(text, "end") {
         return Index::At(Position::End(0));
     }
     if has_space(text) {

@@ -8,9 +8,8 @@ mod escapes;
 mod fault;
 mod indices;
 pub mod laws;
+mod messages;
 mod numbers;
-#[cfg(test)]
-mod tests;
 mod texts;
 mod truths;
 
@@ -19,6 +18,7 @@ pub use classes::{is_blank, is_list_space, is_name_char, is_word_space};
 pub use escapes::backslash;
 pub use fault::{Fault, ReadFault};
 pub use indices::{Index, Position, place_of, read_index};
+pub use messages::{about, expect_number, expect_position, expect_truth, message};
 pub use numbers::{Dialect, Whole, read_whole, skip_space};
-pub use texts::{before, begins, place, push, push_text, split_first, tail};
+pub use texts::{before, begins, is_text, place, push, push_text, split_first, tail};
 pub use truths::{Truth, read_truth};

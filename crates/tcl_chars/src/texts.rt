@@ -5,6 +5,7 @@ ghost use Rattle.std.specs.Str.{chars};
 ghost use Rattle.std.specs.String.{string_bytes};
 ghost use Rattle.tcl_chars.specs.Place.{IsFirst, EndsWith};
 ghost use Rattle.tcl_chars.specs.Place as spec;
+ghost use Rattle.tcl_chars.specs.Texts.{same_text};
 
 use std::alloc::AllocError;
 
@@ -36,6 +37,14 @@ pub fn tail(text: &str) -> &str
         Some((_, rest)) => rest,
         None => text,
     }
+}
+
+/// Are the texts the same?
+#[tactic(auto, using(crate::proofs::Same::eq_by_chars))]
+pub fn is_text(text: &str, other: &str) -> bool
+    ensures { result ≡ same_text (chars text.now) (chars other.now) }
+{
+    text == other
 }
 
 /// What stands in a text before the rest with which it ends.

@@ -36,7 +36,6 @@ fn begins(text: &str, word: &str) -> bool
 }
 
 /// Is the text a beginning of a word that says yes?
-#[tactic(auto, using(crate::proofs::Words::chars_true, crate::proofs::Words::chars_yes, crate::proofs::Words::chars_on))]
 fn begins_yes(text: &str) -> bool
     ensures { result ≡ begins_yes (map to_ascii_lowercase (chars text.now)) }
 {
@@ -44,7 +43,6 @@ fn begins_yes(text: &str) -> bool
 }
 
 /// Is the text a beginning of a word that says no?
-#[tactic(auto, using(crate::proofs::Words::chars_false, crate::proofs::Words::chars_no, crate::proofs::Words::chars_off))]
 fn begins_no(text: &str) -> bool
     ensures { result ≡ begins_no (map to_ascii_lowercase (chars text.now)) }
 {

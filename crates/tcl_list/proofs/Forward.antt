@@ -15,7 +15,7 @@ use Rattle.tcl_list.specs.declared.reading.Closed.{Closed}
 use Rattle.tcl_list.specs.declared.reading.Closed.TheVariants as closed
 use Rattle.tcl_list.specs.declared.reading.End.{End}
 use Rattle.tcl_list.specs.declared.reading.End.TheVariants.{Space, Quote}
-use Rattle.tcl_list.proofs.Closing.{close_ends}
+use Rattle.tcl_list.proofs.BraceEnds.{close_ends}
 
 -- ---- an escape takes a character at least
 

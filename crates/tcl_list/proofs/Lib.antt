@@ -1,8 +1,7 @@
 pub mod BareWord
+pub mod BraceEnds
+pub mod BraceFound
 pub mod BracedWord
-pub mod Calls
-pub mod Closer
-pub mod Closing
 pub mod Complete
 pub mod Cutting
 pub mod Escapes
@@ -15,3 +14,4 @@ pub mod OneList
 pub mod Parts
 pub mod Sound
 pub mod Spelled
+pub mod Writers

@@ -11,7 +11,7 @@ use Rattle.tcl_list.specs.Spelling.{Reads}
 use Rattle.tcl_list.specs.Spelling as spelling
 use Rattle.tcl_list.specs.declared.reading.Closed.TheVariants as closed
 use Rattle.tcl_list.specs.declared.reading.End.TheVariants.{Quote}
-use Rattle.tcl_list.proofs.Closer.{Found, found_close}
+use Rattle.tcl_list.proofs.BraceFound.{Found, found_close}
 use Rattle.tcl_list.proofs.Complete.{letters_read, braced_read, followed_bad, at_brace, at_quote, brace_is_solid, quote_is_solid, lost, spelled_next}
 use Rattle.tcl_list.proofs.Lists.{past_space, no_elements, one_more_read, one_more_bad, one_fault}
 use Rattle.tcl_list.proofs.Parts.{quote_open, quote_closed, brace_open}

@@ -1,5 +1,5 @@
 -- The readings of elements, a case at a time.
-use Rattle.std.proofs.Common.{◌≡◌, ℕ, false, List, [], ◌∷◌, Some, None, Ok, Err, sym, ap, ◌∙◌, subst}
+use Rattle.std.proofs.Common.{◌≡◌, ℕ, false, List, [], ◌∷◌, Some, None, Result, Ok, Err, sym, ap, ◌∙◌, subst}
 use Rattle.tcl_chars.specs.Place.{before, tail}
 use Rattle.tcl_chars.specs.Reading.{◌>>=◌, Fails, all_turns, with_front}
 use Rattle.tcl_chars.specs.Whole.{skip_space}
@@ -11,7 +11,11 @@ use Rattle.tcl_list.specs.Faults.{unmatched_brace, unmatched_quote}
 use Rattle.tcl_list.specs.Elements.{letters, followed, unquoted, quoted, unbraced, braced, element, first_element, next_element, elements_of}
 use Rattle.tcl_list.specs.declared.reading.End.TheVariants.{Quote}
 use Rattle.tcl_list.specs.declared.reading.Closed.TheVariants as closed
-use Rattle.tcl_list.proofs.Calls.{fails_before}
+
+-- a fault of the first reading is a fault of the two
+pub fails_before : {A B E : Type 0} (e : ReadFault E) (r : Result A E) (next : A → Result B E) → Fails e r → Fails e (r >>= next)
+fails_before (fault.Bad m) r next h = ap (λ t. t >>= next) h
+fails_before fault.Memory r next h = tt
 
 pub quote_open : (cs e rest : List ℕ) → letters Quote cs ≡ Ok (e, rest) → rest ≡ [] → quoted cs ≡ Err unmatched_quote
 unfolding quoted

@@ -18,7 +18,7 @@ use Rattle.tcl_list.specs.declared.reading.Closed.{Closed}
 use Rattle.tcl_list.specs.declared.reading.Closed.TheVariants as closed
 use Rattle.tcl_list.specs.declared.reading.End.{End}
 use Rattle.tcl_list.specs.declared.reading.End.TheVariants.{Space, Quote}
-use Rattle.tcl_list.proofs.Closer.{Found, found_close}
+use Rattle.tcl_list.proofs.BraceFound.{Found, found_close}
 use Rattle.tcl_list.proofs.Complete.{letter_at_end, letter_plain, letter_escaped, before_rest, lost, found}
 use Rattle.tcl_list.proofs.Forward.{escape_shrinks, letter_shrinks, element_within}
 use Rattle.tcl_list.proofs.Lists.{past_space, no_elements, prepend, one_more, one_fault}

@@ -1,3 +1,9 @@
 pub mod Answers
+pub mod Glob
+pub mod ListPages
+pub mod Lists
 pub mod Numbers
+pub mod Searching
+pub mod Sorting
 pub mod Texts
+pub mod Usage

@@ -3,7 +3,7 @@ use Rattle.std.specs.Str.{chars}
 use Rattle.tcl_list.specs.Elements.{braced, followed}
 use Rattle.tcl_list.specs.Texts.{text_of}
 use Rattle.tcl_list.specs.declared.reading.Closed.TheVariants as closed
-use Rattle.tcl_list.proofs.Closing.{close_ends}
+use Rattle.tcl_list.proofs.BraceEnds.{close_ends}
 use Rattle.tcl_list.proofs.Parts.{brace_open, brace_closed}
 use Rattle.tcl_list.proofs.reading.braced.Goals as goal
 

@@ -2,7 +2,7 @@ use Rattle.std.proofs.Common.{◌∷◌, []}
 use Rattle.std.specs.Str.{chars}
 use Rattle.std.specs.String.{string_bytes}
 use Rattle.tcl_chars.specs.Characters.{space}
-use Rattle.tcl_list.proofs.Calls.{wrote_behind}
+use Rattle.tcl_list.proofs.Writers.{wrote_behind}
 use Rattle.tcl_list.proofs.Joining.{appended_first, appended_other}
 use Rattle.tcl_list.proofs.writing.push_element.Goals as goal
 
