@@ -11,6 +11,4 @@ pub mod memory;
 pub mod pieces;
 pub mod reading;
 pub mod standard;
-#[cfg(test)]
-mod tests;
 pub mod world;

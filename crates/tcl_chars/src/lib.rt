@@ -10,8 +10,6 @@ mod indices;
 pub mod laws;
 mod messages;
 mod numbers;
-#[cfg(test)]
-mod tests;
 mod texts;
 mod truths;
 

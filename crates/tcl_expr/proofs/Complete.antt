@@ -8,9 +8,9 @@ use Rattle.tcl_expr.specs.declared.token.BinaryOp.TheVariants as op
 use Rattle.tcl_expr.specs.declared.token.Function.{Function}
 use Rattle.tcl_expr.specs.Token.{Token}
 use Rattle.tcl_expr.specs.Token.{Operand, Malformed, Bareword, Call, UnknownCall, Unary, Binary, Power, Open, Close, Comma, Question, Colon, Stray}
-use Rattle.tcl_expr.specs.declared.state.Place.{Place}
-use Rattle.tcl_expr.specs.declared.state.Place.TheVariants as place
-use Rattle.tcl_expr.specs.Expr.{Expr, operand, group, call, unary, power, chain, choice, Rest, last, next, Args, no_args, arg, level_of, count}
+use Rattle.tcl_expr.specs.declared.state.Wanted.{Wanted}
+use Rattle.tcl_expr.specs.declared.state.Wanted.TheVariants as wanted
+use Rattle.tcl_expr.specs.Expr.{Expr, operand, group, call, unary, power, chain, choice, Rest, last, next, Args, no_args, arg, level_of, argument_count}
 use Rattle.tcl_expr.specs.Grammar.{spelled, spelled_rest, spelled_more, IsExpr, AreParts, AreExprs, miscount, most_levels, IsTree}
 use Rattle.tcl_expr.specs.Faults.{reach}
 use Rattle.tcl_expr.specs.Machine.{Step, rest_onto, args_onto, Held, in_unary, in_power, in_chain, in_second, in_third, in_group, in_call, held_level, open_levels, finished, wants, has, reduce, open_with, at_operator, at_end, add, run, and_then, parsed}
@@ -110,7 +110,7 @@ stays_step : (t : Token) (x : Expr) (h : Held) (s : List Held) (ts : List Token)
 unfolding run
 stays_step t x h s ts le = ap (λ (r : Expr × List Held). and_then (at_operator r.0 r.1 t) (λ st. run st ts)) (stays (reach t) x h s le)
 
-opened : (p : Place) (h : Held) (s : List Held) (ts : List Token) → open_levels s < most_levels → and_then (open_with p h s) (λ st. run st ts) ≡ run (wants p (h ∷ s)) ts
+opened : (p : Wanted) (h : Held) (s : List Held) (ts : List Token) → open_levels s < most_levels → and_then (open_with p h s) (λ st. run st ts) ≡ run (wants p (h ∷ s)) ts
 opened p h s ts lt = let e : nat_lt (open_levels s) most_levels ≡ true = grind (arith, nat_tests) in rw e refl
 
 fresh : (op : BinaryOp) (x : Expr) (s : List Held) → level_of op < admits s → add op x s ≡ in_chain (level_of op) x [] op ∷ s
@@ -155,42 +155,42 @@ rest_reach (next op e r) q d k h le = omega (arith, h.0)
 mutual
   unfolding run spelled IsExpr open_levels
 
-  pub complete : (e : Expr) (b : ℕ) (p : Place) (s : List Held) (k : List Token) → IsExpr b (open_levels s) e → b ≤ admits s → b ≤ reach_of k → run (wants p s) (spelled e k) ≡ run (has e s) k
+  pub complete : (e : Expr) (b : ℕ) (p : Wanted) (s : List Held) (k : List Token) → IsExpr b (open_levels s) e → b ≤ admits s → b ≤ reach_of k → run (wants p s) (spelled e k) ≡ run (has e s) k
   complete (operand n) b p s k h a le = refl
   complete (group e) b p s k h a le =
-      opened place.Operand in_group s (spelled e (Close ∷ k)) h.0
-      ∙ complete e 15 place.Operand (in_group ∷ s) (Close ∷ k) h.1 (omega arith) (omega arith)
+      opened wanted.Operand in_group s (spelled e (Close ∷ k)) h.0
+      ∙ complete e 15 wanted.Operand (in_group ∷ s) (Close ∷ k) h.1 (omega arith) (omega arith)
       ∙ stays_step Close e in_group s k (omega arith)
   complete (call f n no_args) b p s k h a le = absurd cc
   complete (call f n (arg e es)) b p s k h a le =
-      opened place.First (in_call f n []) s (spelled e (spelled_more es (Close ∷ k))) h.0
-      ∙ complete e 15 place.First (in_call f n [] ∷ s) (spelled_more es (Close ∷ k)) h.2.0 (omega arith) (omega (arith, more_reach es k))
-      ∙ more es f n [] e s k h.2.1 (let z : 0 + suc (count es) ≡ suc (count es) = omega arith in ap (miscount f n) z ∙ h.1)
+      opened wanted.First (in_call f n []) s (spelled e (spelled_more es (Close ∷ k))) h.0
+      ∙ complete e 15 wanted.First (in_call f n [] ∷ s) (spelled_more es (Close ∷ k)) h.2.0 (omega arith) (omega (arith, more_reach es k))
+      ∙ more es f n [] e s k h.2.1 (let z : 0 + suc (argument_count es) ≡ suc (argument_count es) = omega arith in ap (miscount f n) z ∙ h.1)
   complete (unary u e) b p s k h a le =
-      opened place.Operand (in_unary u) s (spelled e k) h.0
-      ∙ complete e 1 place.Operand (in_unary u ∷ s) k h.1 (omega arith) (omega (arith, reach_pos k))
+      opened wanted.Operand (in_unary u) s (spelled e k) h.0
+      ∙ complete e 1 wanted.Operand (in_unary u ∷ s) k h.1 (omega arith) (omega (arith, reach_pos k))
       ∙ closes (in_unary u) e s k (reach_pos k)
   complete (power e f) b p s k h a le =
       complete e 1 p s (Power ∷ spelled f k) h.2 (omega (arith, h.0)) (omega arith)
       ∙ kept_step Power e s (spelled f k) (omega (arith, h.0))
-      ∙ opened place.Operand (in_power e) s (spelled f k) h.1
-      ∙ complete f 2 place.Operand (in_power e ∷ s) k h.3 (omega arith) (omega (arith, h.0))
+      ∙ opened wanted.Operand (in_power e) s (spelled f k) h.1
+      ∙ complete f 2 wanted.Operand (in_power e ∷ s) k h.3 (omega arith) (omega (arith, h.0))
       ∙ closes (in_power e) f s k (omega (arith, h.0))
   complete (chain q e last) b p s k h a le = absurd h.3
   complete (chain q e (next op f r)) b p s k h a le =
       complete e q p s (Binary op ∷ spelled f (spelled_rest r k)) h.1 (omega (arith, h.0)) (omega (arith, h.2.0))
       ∙ kept_step (Binary op) e s (spelled f (spelled_rest r k)) (omega (arith, h.0, h.2.0))
-      ∙ ap (λ (z : List Held). run (wants place.Operand z) (spelled f (spelled_rest r k))) (fresh op e s (omega (arith, h.0, h.2.0)))
-      ∙ ap (λ (z : ℕ). run (wants place.Operand (in_chain z e [] op ∷ s)) (spelled f (spelled_rest r k))) h.2.0
-      ∙ complete f q place.Operand (in_chain q e [] op ∷ s) (spelled_rest r k) h.2.1 (omega arith) (rest_reach r q (open_levels s) k h.2.2 (omega (arith, h.0)))
+      ∙ ap (λ (z : List Held). run (wants wanted.Operand z) (spelled f (spelled_rest r k))) (fresh op e s (omega (arith, h.0, h.2.0)))
+      ∙ ap (λ (z : ℕ). run (wants wanted.Operand (in_chain z e [] op ∷ s)) (spelled f (spelled_rest r k))) h.2.0
+      ∙ complete f q wanted.Operand (in_chain q e [] op ∷ s) (spelled_rest r k) h.2.1 (omega arith) (rest_reach r q (open_levels s) k h.2.2 (omega (arith, h.0)))
       ∙ tail r q e [] op f s k h.2.2 (omega (arith, h.0))
   complete (choice c e f) b p s k h a le =
       complete c 14 p s (Question ∷ spelled e (Colon ∷ spelled f k)) h.2 (omega (arith, h.0)) (omega arith)
       ∙ kept_step Question c s (spelled e (Colon ∷ spelled f k)) (omega (arith, h.0))
-      ∙ opened place.Operand (in_second c) s (spelled e (Colon ∷ spelled f k)) h.1
-      ∙ complete e 15 place.Operand (in_second c ∷ s) (Colon ∷ spelled f k) h.3 (omega arith) (omega arith)
+      ∙ opened wanted.Operand (in_second c) s (spelled e (Colon ∷ spelled f k)) h.1
+      ∙ complete e 15 wanted.Operand (in_second c ∷ s) (Colon ∷ spelled f k) h.3 (omega arith) (omega arith)
       ∙ stays_step Colon e (in_second c) s (spelled f k) (omega arith)
-      ∙ complete f 15 place.Operand (in_third c e ∷ s) k h.4 (omega arith) (omega (arith, h.0))
+      ∙ complete f 15 wanted.Operand (in_third c e ∷ s) k h.4 (omega arith) (omega (arith, h.0))
       ∙ closes (in_third c e) f s k (omega (arith, h.0))
 
   tail : (r : Rest) (q : ℕ) (first : Expr) (before : List Step) (op : BinaryOp) (x : Expr) (s : List Held) (k : List Token) → AreParts q (open_levels s) r → q < reach_of k
@@ -200,26 +200,26 @@ mutual
       ∙ ap (λ (z : Rest). run (has (chain q first z) s) k) (rest_snoc before op x last)
   tail (next o f r) q first before op x s k h lt =
       stays_step (Binary o) x (in_chain q first before op) s (spelled f (spelled_rest r k)) (omega (arith, h.0))
-      ∙ ap (λ (z : List Held). run (wants place.Operand z) (spelled f (spelled_rest r k))) (joins o x q first before op s h.0)
-      ∙ complete f q place.Operand (in_chain q first (before ++ (op, x) ∷ []) o ∷ s) (spelled_rest r k) h.1 (omega arith) (rest_reach r q (open_levels s) k h.2 (omega arith))
+      ∙ ap (λ (z : List Held). run (wants wanted.Operand z) (spelled f (spelled_rest r k))) (joins o x q first before op s h.0)
+      ∙ complete f q wanted.Operand (in_chain q first (before ++ (op, x) ∷ []) o ∷ s) (spelled_rest r k) h.1 (omega arith) (rest_reach r q (open_levels s) k h.2 (omega arith))
       ∙ tail r q first (before ++ (op, x) ∷ []) o f s k h.2 lt
       ∙ ap (λ (z : Rest). run (has (chain q first z) s) k) (rest_snoc before op x (next o f r))
 
-  more : (es : Args) (f : Function) (n : Stretch) (before : List Expr) (x : Expr) (s : List Held) (k : List Token) → AreExprs (suc (open_levels s)) es → miscount f n (length before + suc (count es)) ≡ None
+  more : (es : Args) (f : Function) (n : Stretch) (before : List Expr) (x : Expr) (s : List Held) (k : List Token) → AreExprs (suc (open_levels s)) es → miscount f n (length before + suc (argument_count es)) ≡ None
       → run (has x (in_call f n before ∷ s)) (spelled_more es (Close ∷ k)) ≡ run (has (call f n (args_onto before (arg x es))) s) k
   more no_args f n before x s k h right =
       let same : length before + 1 ≡ suc (length before) = omega arith in
       call_ends f n before x s k (ap (miscount f n) (sym same) ∙ right)
   more (arg e es) f n before x s k h right =
-      let same : length (before ++ x ∷ []) + suc (count es) ≡ length before + suc (suc (count es)) = omega (arith, length_snoc before x) in
+      let same : length (before ++ x ∷ []) + suc (argument_count es) ≡ length before + suc (suc (argument_count es)) = omega (arith, length_snoc before x) in
       stays_step Comma x (in_call f n before) s (spelled e (spelled_more es (Close ∷ k))) (omega arith)
-      ∙ complete e 15 place.Operand (in_call f n (before ++ x ∷ []) ∷ s) (spelled_more es (Close ∷ k)) h.0 (omega arith) (omega (arith, more_reach es k))
+      ∙ complete e 15 wanted.Operand (in_call f n (before ++ x ∷ []) ∷ s) (spelled_more es (Close ∷ k)) h.0 (omega arith) (omega (arith, more_reach es k))
       ∙ more es f n (before ++ x ∷ []) e s k h.1 (ap (miscount f n) same ∙ right)
       ∙ ap (λ (z : Args). run (has (call f n z) s) k) (args_snoc before x (arg e es))
 
 pub read_back : (ts : List Token) (e : Expr) → IsTree ts e → parsed ts ≡ Ok e
 unfolding run reduce open_levels
-read_back ts e h = ap parsed (sym h.written) ∙ complete e 15 place.Start [] [] h.grouped (omega arith) (omega arith)
+read_back ts e h = ap parsed (sym h.written) ∙ complete e 15 wanted.Start [] [] h.grouped (omega arith) (omega arith)
 
 pub one_tree : (ts : List Token) (e f : Expr) → IsTree ts e → IsTree ts f → e ≡ f
 one_tree ts e f h k = let a = read_back ts e h in let b = read_back ts f k in cc (a, b)

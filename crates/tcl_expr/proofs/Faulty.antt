@@ -9,15 +9,17 @@ use Rattle.tcl_expr.specs.Token.{Token}
 use Rattle.tcl_expr.specs.Token.{Operand, Malformed, Bareword, Call, UnknownCall, Unary, Binary, Power, Open, Close, Comma, Question, Colon}
 use Rattle.tcl_expr.specs.ExprFault.{ExprFault}
 use Rattle.tcl_expr.specs.ExprFault as fault
-use Rattle.tcl_expr.specs.declared.state.Place.{Place}
-use Rattle.tcl_expr.specs.declared.state.Place.TheVariants as place
+use Rattle.tcl_expr.specs.declared.state.Wanted.{Wanted}
+use Rattle.tcl_expr.specs.declared.state.Wanted.TheVariants as wanted
 use Rattle.tcl_expr.specs.Expr.{Expr, call, unary, power, choice, level_of}
 use Rattle.tcl_expr.specs.Grammar.{miscount, most_levels, IsTree}
 use Rattle.tcl_expr.specs.Faults.{reach}
 use Rattle.tcl_expr.specs.Machine.{Step, args_of, Held, in_unary, in_power, in_chain, in_second, in_third, in_group, in_call, open_levels, top, finished, State, wants, has, reduce, open_with, at_operand, at_operator, at_close, at_end, at_comma, at_colon, close_early, early_end, checked, add, step, run, and_then, parsed}
 use Rattle.tcl_expr.proofs.Complete.{admits, length_snoc}
-use Rattle.tcl_expr.proofs.Sound.{Sensible, IsPlace, IsState, level_two}
-use Rattle.tcl_expr.specs.Faults.{Opened, prefixed, powered, second, third, parenthesis, arguments, opened_level, still_open, opens, operand_row, close_row, comma_row, colon_row, operator_row, end_row, after, wanted, first_of, there, row, first_fault, fault_of}
+use Rattle.tcl_expr.proofs.Sound.{Sensible, IsWanted, IsState, level_two}
+use Rattle.tcl_expr.specs.Faults.{Opened, prefixed, powered, second, third, parenthesis, arguments, opened_level, still_open, after, wanted_after, open_at, lowest, first_fault, expr_fault}
+use Rattle.tcl_expr.proofs.Table.{opens, operand_row, close_row, comma_row, colon_row, operator_row, end_row, open_at_end, row, row_is, end_is}
+use Rattle.std.specs.Option.{option_or}
 use Rattle.tcl_expr.proofs.Complete.{read_back}
 use Rattle.tcl_expr.proofs.Steps.{After, stepped, at_reduced, end_reduced, is_tree}
 use Rattle.std.proofs.Common.{inl, inr}
@@ -37,9 +39,9 @@ abbrev pub held : State → List Held
 held (wants p s) = s
 held (has x s) = s
 
-abbrev pub place_of : State → Place
-place_of (wants p s) = p
-place_of (has x s) = place.Operator
+abbrev pub wanted_in : State → Wanted
+wanted_in (wants p s) = p
+wanted_in (has x s) = wanted.Operator
 
 abbrev pub fault_in : {A : Type 0} → Result A ExprFault → Option ExprFault
 fault_in (Ok e) = None
@@ -59,37 +61,37 @@ shape_length (in_call f n es ∷ s) = ap suc (shape_length s)
 -- the row of a token and the step that it makes
 abbrev pub Agrees : Option ExprFault → Token → List Opened → Result State ExprFault → Type 0
 Agrees m t os (Err e) = m ≡ Some e
-Agrees m t os (Ok now) = (m ≡ None) × (wanted t ≡ place_of now) × (after t os ≡ shape (held now))
+Agrees m t os (Ok now) = (m ≡ None) × (wanted_after t ≡ wanted_in now) × (after t os ≡ shape (held now))
 
-agrees_room : (b : Bool) (t : Token) (h : Held) (s : List Held) → wanted t ≡ place.Operand → after t (shape s) ≡ shape (h ∷ s)
-    → Agrees (if b then None else Some fault.Nesting) t (shape s) (if b then Ok (wants place.Operand (h ∷ s)) else Err fault.Nesting)
+agrees_room : (b : Bool) (t : Token) (h : Held) (s : List Held) → wanted_after t ≡ wanted.Operand → after t (shape s) ≡ shape (h ∷ s)
+    → Agrees (if b then None else Some fault.Nesting) t (shape s) (if b then Ok (wants wanted.Operand (h ∷ s)) else Err fault.Nesting)
 agrees_room true t h s w a = (refl, w, a)
 agrees_room false t h s w a = refl
 
-agrees_open : (t : Token) (h : Held) (s : List Held) → wanted t ≡ place.Operand → after t (shape s) ≡ shape (h ∷ s) → Agrees (opens (shape s)) t (shape s) (open_with place.Operand h s)
+agrees_open : (t : Token) (h : Held) (s : List Held) → wanted_after t ≡ wanted.Operand → after t (shape s) ≡ shape (h ∷ s) → Agrees (opens (shape s)) t (shape s) (open_with wanted.Operand h s)
 agrees_open t h s w a = rw shape_length (agrees_room (nat_lt (open_levels s) most_levels) t h s w a)
 
 agrees_call : (b : Bool) (f : Function) (n : Stretch) (s : List Held)
-    → Agrees (if b then None else Some fault.Nesting) (Call f n) (shape s) (if b then Ok (wants place.First (in_call f n [] ∷ s)) else Err fault.Nesting)
+    → Agrees (if b then None else Some fault.Nesting) (Call f n) (shape s) (if b then Ok (wants wanted.First (in_call f n [] ∷ s)) else Err fault.Nesting)
 unfolding shape
 agrees_call true f n s = (refl, refl, refl)
 agrees_call false f n s = refl
 
-agrees_close_early : (p : Place) (s : List Held) → IsPlace p s → operand_row p (shape s) Close ≡ Some (close_early p s)
+agrees_close_early : (p : Wanted) (s : List Held) → IsWanted p s → operand_row p (shape s) Close ≡ Some (close_early p s)
 unfolding shape
-agrees_close_early place.Start s h = refl
-agrees_close_early place.Operand s h = refl
-agrees_close_early place.Operator s h = absurd h
-agrees_close_early place.First (in_call f n es ∷ s) h = refl
-agrees_close_early place.First [] h = absurd h
-agrees_close_early place.First (in_unary u ∷ s) h = absurd h
-agrees_close_early place.First (in_power e ∷ s) h = absurd h
-agrees_close_early place.First (in_chain q e xs o ∷ s) h = absurd h
-agrees_close_early place.First (in_second c ∷ s) h = absurd h
-agrees_close_early place.First (in_third c e ∷ s) h = absurd h
-agrees_close_early place.First (in_group ∷ s) h = absurd h
+agrees_close_early wanted.Start s h = refl
+agrees_close_early wanted.Operand s h = refl
+agrees_close_early wanted.Operator s h = absurd h
+agrees_close_early wanted.First (in_call f n es ∷ s) h = refl
+agrees_close_early wanted.First [] h = absurd h
+agrees_close_early wanted.First (in_unary u ∷ s) h = absurd h
+agrees_close_early wanted.First (in_power e ∷ s) h = absurd h
+agrees_close_early wanted.First (in_chain q e xs o ∷ s) h = absurd h
+agrees_close_early wanted.First (in_second c ∷ s) h = absurd h
+agrees_close_early wanted.First (in_third c e ∷ s) h = absurd h
+agrees_close_early wanted.First (in_group ∷ s) h = absurd h
 
-operand_agrees : (p : Place) (s : List Held) (t : Token) → IsPlace p s → Agrees (operand_row p (shape s) t) t (shape s) (at_operand p s t)
+operand_agrees : (p : Wanted) (s : List Held) (t : Token) → IsWanted p s → Agrees (operand_row p (shape s) t) t (shape s) (at_operand p s t)
 unfolding shape
 operand_agrees p s (Operand n) h = (refl, refl, refl)
 operand_agrees p s (Malformed m) h = refl
@@ -198,7 +200,7 @@ still r x (in_third c e ∷ s) h = both (nat_lt 14 r) (still_open r (shape s)) (
 still r x (in_group ∷ s) h = both (nat_lt 15 r) (still_open r (shape s)) in_group parenthesis x s (reduce r x s) refl (still r x s h.1)
 still r x (in_call f n es ∷ s) h = both (nat_lt 15 r) (still_open r (shape s)) (in_call f n es) (arguments f n (length es)) x s (reduce r x s) refl (still r x s h.2)
 
-end_agrees : (x : Expr) (s : List Held) → Sensible s → 15 ≤ top s → end_row place.Operator (shape s) ≡ fault_in (at_end x s)
+end_agrees : (x : Expr) (s : List Held) → Sensible s → 15 ≤ top s → end_row wanted.Operator (shape s) ≡ fault_in (at_end x s)
 unfolding shape
 end_agrees x [] h le = refl
 end_agrees x (in_unary u ∷ s) h le = absurd (omega arith)
@@ -209,48 +211,53 @@ end_agrees x (in_third c e ∷ s) h le = absurd (omega arith)
 end_agrees x (in_group ∷ s) h le = refl
 end_agrees x (in_call f n es ∷ s) h le = refl
 
-early_agrees : (p : Place) (s : List Held) → IsPlace p s → end_row p (there p 15 (shape s)) ≡ Some (early_end p)
-early_agrees place.Start s h = refl
-early_agrees place.First s h = refl
-early_agrees place.Operand s h = refl
-early_agrees place.Operator s h = absurd h
+early_agrees : (p : Wanted) (s : List Held) → IsWanted p s → end_row p (open_at_end p (shape s)) ≡ Some (early_end p)
+early_agrees wanted.Start s h = refl
+early_agrees wanted.First s h = refl
+early_agrees wanted.Operand s h = refl
+early_agrees wanted.Operator s h = absurd h
 
 goes_on : (m : Option ExprFault) (t : Token) (ts : List Token) (os : List Opened) (st : State) (r : Result State ExprFault) → Agrees m t os r → After st t r
-    → ((now : State) → IsState now → first_fault (place_of now) (shape (held now)) ts ≡ fault_in (run now ts))
-    → first_of m (first_fault (wanted t) (after t os) ts) ≡ fault_in (and_then r (λ now. run now ts))
+    → ((now : State) → IsState now → first_fault (wanted_in now) (shape (held now)) ts ≡ fault_in (run now ts))
+    → option_or m (first_fault (wanted_after t) (after t os) ts) ≡ fault_in (and_then r (λ now. run now ts))
 goes_on m t ts os st (Err e) h k go = rw h refl
-goes_on m t ts os st (Ok now) h k go = rw h.0 (ap (λ (z : Place). first_fault z (after t os) ts) h.1 ∙ ap (λ (z : List Opened). first_fault (place_of now) z ts) h.2 ∙ go now k.state)
+goes_on m t ts os st (Ok now) h k go = rw h.0 (ap (λ (z : Wanted). first_fault z (after t os) ts) h.1 ∙ ap (λ (z : List Opened). first_fault (wanted_in now) z ts) h.2 ∙ go now k.state)
 
-wants_agrees : (p : Place) (s : List Held) (t : Token) → IsPlace p s → Agrees (row p (there p (reach t) (shape s)) t) t (there p (reach t) (shape s)) (at_operand p s t)
-wants_agrees place.Start s t h = operand_agrees place.Start s t h
-wants_agrees place.First s t h = operand_agrees place.First s t h
-wants_agrees place.Operand s t h = operand_agrees place.Operand s t h
-wants_agrees place.Operator s t h = absurd h
+wants_agrees : (p : Wanted) (s : List Held) (t : Token) → IsWanted p s → Agrees (row p (open_at p t (shape s)) t) t (open_at p t (shape s)) (at_operand p s t)
+wants_agrees wanted.Start s t h = operand_agrees wanted.Start s t h
+wants_agrees wanted.First s t h = operand_agrees wanted.First s t h
+wants_agrees wanted.Operand s t h = operand_agrees wanted.Operand s t h
+wants_agrees wanted.Operator s t h = absurd h
 
-pub agrees : (st : State) (t : Token) → IsState st → Agrees (row (place_of st) (there (place_of st) (reach t) (shape (held st))) t) t (there (place_of st) (reach t) (shape (held st))) (step st t)
-agrees (wants p s) t h = wants_agrees p s t h.1
-agrees (has x s) t h =
+agrees_row : (st : State) (t : Token) → IsState st → Agrees (row (wanted_in st) (open_at (wanted_in st) t (shape (held st))) t) t (open_at (wanted_in st) t (shape (held st))) (step st t)
+agrees_row (wants p s) t h = wants_agrees p s t h.1
+agrees_row (has x s) t h =
     let g = at_reduced t x s h in
     let p = reduce (reach t) x s in
     let P : List Opened → Type 0 = λ os. Agrees (operator_row os t) t os (at_operator p.0 p.1 t) in
     subst P (sym (still (reach t) x s h.0)) (operator_agrees p.0 p.1 t g.sensible g.above)
 
-pub faulty : (ts : List Token) (st : State) → IsState st → first_fault (place_of st) (shape (held st)) ts ≡ fault_in (run st ts)
+pub agrees : (st : State) (t : Token) → IsState st → Agrees (lowest (wanted_in st) (shape (held st)) (Some t)) t (open_at (wanted_in st) t (shape (held st))) (step st t)
+agrees st t h =
+    let P : Option ExprFault → Type 0 = λ m. Agrees m t (open_at (wanted_in st) t (shape (held st))) (step st t) in
+    subst P (sym (row_is (wanted_in st) (shape (held st)) t)) (agrees_row st t h)
+
+pub faulty : (ts : List Token) (st : State) → IsState st → first_fault (wanted_in st) (shape (held st)) ts ≡ fault_in (run st ts)
 unfolding run first_fault
-faulty [] (wants p s) h = early_agrees p s h.1
+faulty [] (wants p s) h = end_is p (shape s) ∙ early_agrees p s h.1
 faulty [] (has x s) h =
     let g = end_reduced x s h in
     let p = reduce 15 x s in
-    ap (end_row place.Operator) (still 15 x s h.0) ∙ end_agrees p.0 p.1 g.sensible g.above
-faulty (t ∷ ts) st h = goes_on (row (place_of st) (there (place_of st) (reach t) (shape (held st))) t) t ts (there (place_of st) (reach t) (shape (held st))) st (step st t) (agrees st t h) (stepped st t h) (λ now. faulty ts now)
+    end_is wanted.Operator (shape s) ∙ ap (end_row wanted.Operator) (still 15 x s h.0) ∙ end_agrees p.0 p.1 g.sensible g.above
+faulty (t ∷ ts) st h = goes_on (lowest (wanted_in st) (shape (held st)) (Some t)) t ts (open_at (wanted_in st) t (shape (held st))) st (step st t) (agrees st t h) (stepped st t h) (λ now. faulty ts now)
 
-pub fault_is : (ts : List Token) → fault_of ts ≡ fault_in (parsed ts)
+pub fault_is : (ts : List Token) → expr_fault ts ≡ fault_in (parsed ts)
 unfolding shape Sensible
-fault_is ts = faulty ts (wants place.Start []) (tt, tt)
+fault_is ts = faulty ts (wants wanted.Start []) (tt, tt)
 
-one_or_other : (ts : List Token) (r : Result Expr ExprFault) → parsed ts ≡ r → ((e : Expr) × IsTree ts e × (fault_of ts ≡ None)) ⊎ ((m : ExprFault) × (fault_of ts ≡ Some m) × ((e : Expr) → IsTree ts e → ⊥))
+one_or_other : (ts : List Token) (r : Result Expr ExprFault) → parsed ts ≡ r → ((e : Expr) × IsTree ts e × (expr_fault ts ≡ None)) ⊎ ((m : ExprFault) × (expr_fault ts ≡ Some m) × ((e : Expr) → IsTree ts e → ⊥))
 one_or_other ts (Ok e) is = inl (e, is_tree ts e is, fault_is ts ∙ ap fault_in is)
 one_or_other ts (Err m) is = inr (m, fault_is ts ∙ ap fault_in is, λ e h. let a = read_back ts e h in cc (a, is))
 
-pub tree_or_fault : (ts : List Token) → ((e : Expr) × IsTree ts e × (fault_of ts ≡ None)) ⊎ ((m : ExprFault) × (fault_of ts ≡ Some m) × ((e : Expr) → IsTree ts e → ⊥))
+pub tree_or_fault : (ts : List Token) → ((e : Expr) × IsTree ts e × (expr_fault ts ≡ None)) ⊎ ((m : ExprFault) × (expr_fault ts ≡ Some m) × ((e : Expr) → IsTree ts e → ⊥))
 tree_or_fault ts = one_or_other ts (parsed ts) refl

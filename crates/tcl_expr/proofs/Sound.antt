@@ -7,9 +7,9 @@ use Rattle.tcl_expr.specs.declared.token.BinaryOp.{BinaryOp}
 use Rattle.tcl_expr.specs.declared.token.BinaryOp.TheVariants as op
 use Rattle.tcl_expr.specs.Token.{Token}
 use Rattle.tcl_expr.specs.Token.{Call, Unary, Binary, Power, Open, Comma, Question, Colon}
-use Rattle.tcl_expr.specs.declared.state.Place.{Place}
-use Rattle.tcl_expr.specs.declared.state.Place.TheVariants as place
-use Rattle.tcl_expr.specs.Expr.{Expr, operand, group, call, unary, power, chain, choice, level_of, count}
+use Rattle.tcl_expr.specs.declared.state.Wanted.{Wanted}
+use Rattle.tcl_expr.specs.declared.state.Wanted.TheVariants as wanted
+use Rattle.tcl_expr.specs.Expr.{Expr, operand, group, call, unary, power, chain, choice, level_of, argument_count}
 use Rattle.tcl_expr.specs.Grammar.{spelled, spelled_rest, spelled_args, spelled_more, IsExpr, AreParts, AreExprs, most_levels, IsSome_rest}
 use Rattle.tcl_expr.specs.Machine.{Step, rest_of, args_of, Held, in_unary, in_power, in_chain, in_second, in_third, in_group, in_call, held_level, open_levels, top, State, wants, has, reduce}
 use Rattle.tcl_expr.proofs.Complete.{admits}
@@ -44,14 +44,14 @@ Sensible (in_third c e ∷ s) = (14 < admits s) × (open_levels s < most_levels)
 Sensible (in_group ∷ s) = (open_levels s < most_levels) × Sensible s
 Sensible (in_call f n es ∷ s) = (open_levels s < most_levels) × AreExprs (suc (open_levels s)) (args_of es) × Sensible s
 
-abbrev pub IsPlace : Place → List Held → Type 0
-IsPlace place.Operator s = ⊥
-IsPlace place.First (in_call f n es ∷ s) = Unit {0}
-IsPlace place.First s = ⊥
-IsPlace p s = Unit {0}
+abbrev pub IsWanted : Wanted → List Held → Type 0
+IsWanted wanted.Operator s = ⊥
+IsWanted wanted.First (in_call f n es ∷ s) = Unit {0}
+IsWanted wanted.First s = ⊥
+IsWanted p s = Unit {0}
 
 abbrev pub IsState : State → Type 0
-IsState (wants p s) = Sensible s × IsPlace p s
+IsState (wants p s) = Sensible s × IsWanted p s
 IsState (has x s) = Sensible s × IsExpr 1 (open_levels s) x
 
 pub level_two : (op : BinaryOp) → (1 < level_of op) × (level_of op < 14)
@@ -122,7 +122,7 @@ unfolding spelled spelled_done
 args_done [] x k = refl
 args_done (y ∷ ys) x k = ap (λ (z : List Token). spelled y z) (more_snoc ys x k)
 
-pub count_snoc : (xs : List Expr) (x : Expr) → count (args_of (xs ++ x ∷ [])) ≡ suc (length xs)
+pub count_snoc : (xs : List Expr) (x : Expr) → argument_count (args_of (xs ++ x ∷ [])) ≡ suc (length xs)
 count_snoc [] x = refl
 count_snoc (y ∷ ys) x = ap suc (count_snoc ys x)
 

@@ -9,8 +9,8 @@ use Rattle.tcl_expr.specs.Token.{Token}
 use Rattle.tcl_expr.specs.Token.{Operand, Call, Unary, Binary, Power, Open, Close, Comma, Question, Colon}
 use Rattle.tcl_expr.specs.ExprFault.{ExprFault}
 use Rattle.tcl_expr.specs.ExprFault as fault
-use Rattle.tcl_expr.specs.declared.state.Place.{Place}
-use Rattle.tcl_expr.specs.declared.state.Place.TheVariants as place
+use Rattle.tcl_expr.specs.declared.state.Wanted.{Wanted}
+use Rattle.tcl_expr.specs.declared.state.Wanted.TheVariants as wanted
 use Rattle.tcl_expr.specs.Expr.{Expr, call, level_of}
 use Rattle.tcl_expr.specs.Grammar.{spelled, IsExpr, miscount, most_levels, IsTree}
 use Rattle.tcl_expr.specs.Faults.{reach}
@@ -26,25 +26,25 @@ abbrev pub After : State → Token → Result State ExprFault → Type 0
 After st t (Ok now) = Stepped st t now
 After st t (Err m) = Unit {0}
 
-room : (b : Bool) (st : State) (t : Token) (p : Place) (h : Held) (s : List Held) → nat_lt (open_levels s) most_levels ≡ b → (open_levels s < most_levels → Stepped st t (wants p (h ∷ s)))
+room : (b : Bool) (st : State) (t : Token) (p : Wanted) (h : Held) (s : List Held) → nat_lt (open_levels s) most_levels ≡ b → (open_levels s < most_levels → Stepped st t (wants p (h ∷ s)))
     → After st t (if b then Ok (wants p (h ∷ s)) else Err fault.Nesting)
 room true st t p h s e go = go (grind (arith, nat_tests))
 room false st t p h s e go = tt
 
-pub operand_step : (p : Place) (s : List Held) (t : Token) → Sensible s → After (wants p s) t (at_operand p s t)
+pub operand_step : (p : Wanted) (s : List Held) (t : Token) → Sensible s → After (wants p s) t (at_operand p s t)
 unfolding before spelled spelled_done Sensible IsExpr
 operand_step p s (Operand n) h = record { state = (h, tt); same = λ k. refl }
-operand_step p s (Unary u) h = room (nat_lt (open_levels s) most_levels) (wants p s) (Unary u) place.Operand (in_unary u) s refl (λ lt. record { state = ((lt, h), tt); same = λ k. refl })
-operand_step p s Open h = room (nat_lt (open_levels s) most_levels) (wants p s) Open place.Operand in_group s refl (λ lt. record { state = ((lt, h), tt); same = λ k. refl })
-operand_step p s (Call f n) h = room (nat_lt (open_levels s) most_levels) (wants p s) (Call f n) place.First (in_call f n []) s refl (λ lt. record { state = ((lt, tt, h), tt); same = λ k. refl })
+operand_step p s (Unary u) h = room (nat_lt (open_levels s) most_levels) (wants p s) (Unary u) wanted.Operand (in_unary u) s refl (λ lt. record { state = ((lt, h), tt); same = λ k. refl })
+operand_step p s Open h = room (nat_lt (open_levels s) most_levels) (wants p s) Open wanted.Operand in_group s refl (λ lt. record { state = ((lt, h), tt); same = λ k. refl })
+operand_step p s (Call f n) h = room (nat_lt (open_levels s) most_levels) (wants p s) (Call f n) wanted.First (in_call f n []) s refl (λ lt. record { state = ((lt, tt, h), tt); same = λ k. refl })
 operand_step p s _ h = tt
 
-fresh_step : (op : BinaryOp) (x : Expr) (s : List Held) → Sensible s → IsExpr (level_of op) (open_levels s) x → level_of op < admits s → Stepped (has x s) (Binary op) (wants place.Operand (in_chain (level_of op) x [] op ∷ s))
+fresh_step : (op : BinaryOp) (x : Expr) (s : List Held) → Sensible s → IsExpr (level_of op) (open_levels s) x → level_of op < admits s → Stepped (has x s) (Binary op) (wants wanted.Operand (in_chain (level_of op) x [] op ∷ s))
 unfolding before spelled Sensible IsExpr
 fresh_step op x s h k lt = record { state = ((lt, refl, k, tt, h), tt); same = λ k. refl }
 
 joined_step : (op : BinaryOp) (x : Expr) (q : ℕ) (e : Expr) (xs : List Step) (o : BinaryOp) (s : List Held) → Sensible (in_chain q e xs o ∷ s) → IsExpr (level_of op) (open_levels (in_chain q e xs o ∷ s)) x → level_of op ≡ q
-    → Stepped (has x (in_chain q e xs o ∷ s)) (Binary op) (wants place.Operand (in_chain q e (xs ++ (o, x) ∷ []) op ∷ s))
+    → Stepped (has x (in_chain q e xs o ∷ s)) (Binary op) (wants wanted.Operand (in_chain q e (xs ++ (o, x) ∷ []) op ∷ s))
 unfolding before spelled Sensible open_levels
 joined_step op x q e xs o s h k same = record {
   state = ((h.0, same, h.2, parts_snoc xs o x q (open_levels s) h.3 h.1 (looser x (level_of op) q (open_levels s) k (omega arith)), h.4), tt);
@@ -52,11 +52,11 @@ joined_step op x q e xs o s h k same = record {
 }
 
 join_branch : (b : Bool) (op : BinaryOp) (x : Expr) (q : ℕ) (e : Expr) (xs : List Step) (o : BinaryOp) (s : List Held) → (q == level_of op) ≡ b → Sensible (in_chain q e xs o ∷ s) → IsExpr (level_of op) (open_levels (in_chain q e xs o ∷ s)) x → level_of op ≤ q
-    → Stepped (has x (in_chain q e xs o ∷ s)) (Binary op) (wants place.Operand (if b then in_chain q e (xs ++ (o, x) ∷ []) op ∷ s else in_chain (level_of op) x [] op ∷ in_chain q e xs o ∷ s))
+    → Stepped (has x (in_chain q e xs o ∷ s)) (Binary op) (wants wanted.Operand (if b then in_chain q e (xs ++ (o, x) ∷ []) op ∷ s else in_chain (level_of op) x [] op ∷ in_chain q e xs o ∷ s))
 join_branch true op x q e xs o s t h k le = joined_step op x q e xs o s h k (grind (arith, nat_tests))
 join_branch false op x q e xs o s t h k le = fresh_step op x (in_chain q e xs o ∷ s) h k (let ne : level_of op < q = grind (arith, nat_tests) in ne)
 
-add_step : (op : BinaryOp) (x : Expr) (s : List Held) → Sensible s → IsExpr (level_of op) (open_levels s) x → level_of op ≤ top s → Stepped (has x s) (Binary op) (wants place.Operand (add op x s))
+add_step : (op : BinaryOp) (x : Expr) (s : List Held) → Sensible s → IsExpr (level_of op) (open_levels s) x → level_of op ≤ top s → Stepped (has x s) (Binary op) (wants wanted.Operand (add op x s))
 add_step op x [] h k le = fresh_step op x [] h k (omega (arith, level_two op))
 add_step op x (in_unary u ∷ s) h k le = absurd (omega (arith, level_two op))
 add_step op x (in_power e ∷ s) h k le = absurd (omega (arith, level_two op))
@@ -119,8 +119,8 @@ close_step x s h k = tt
 operator_step : (x : Expr) (s : List Held) (t : Token) → Sensible s → IsExpr (reach t) (open_levels s) x → reach t ≤ top s → After (has x s) t (at_operator x s t)
 unfolding before spelled Sensible
 operator_step x s (Binary op) h k le = add_step op x s h k le
-operator_step x s Power h k le = room (nat_lt (open_levels s) most_levels) (has x s) Power place.Operand (in_power x) s refl (λ lt. record { state = ((power_room s h le, lt, k, h), tt); same = λ k. refl })
-operator_step x s Question h k le = room (nat_lt (open_levels s) most_levels) (has x s) Question place.Operand (in_second x) s refl (λ lt. record { state = ((choice_room s h le, lt, k, h), tt); same = λ k. refl })
+operator_step x s Power h k le = room (nat_lt (open_levels s) most_levels) (has x s) Power wanted.Operand (in_power x) s refl (λ lt. record { state = ((power_room s h le, lt, k, h), tt); same = λ k. refl })
+operator_step x s Question h k le = room (nat_lt (open_levels s) most_levels) (has x s) Question wanted.Operand (in_second x) s refl (λ lt. record { state = ((choice_room s h le, lt, k, h), tt); same = λ k. refl })
 operator_step x s Colon h k le = colon_step x s h k
 operator_step x s Comma h k le = comma_step x s h k
 operator_step x s Close h k le = close_step x s h k
@@ -180,4 +180,4 @@ sound (t ∷ ts) st e h is = went st t ts e (step st t) (stepped st t h) (λ now
 
 pub is_tree : (ts : List Token) (e : Expr) → parsed ts ≡ Ok e → IsTree ts e
 unfolding before Sensible
-is_tree ts e is = let f = sound ts (wants place.Start []) e (tt, tt) is in record { written = f.written; grouped = f.grouped }
+is_tree ts e is = let f = sound ts (wants wanted.Start []) e (tt, tt) is in record { written = f.written; grouped = f.grouped }

@@ -4,6 +4,7 @@ use Rattle.std.proofs.lemmas.List.{append-nil}
 use Rattle.std.specs.Prelude.{cond, IfSome, IfOk, if◌then◌else◌, ◌&&◌, ◌==◌}
 use Rattle.tcl_chars.specs.Characters.{open_paren, open_brace, open_bracket, quote}
 use Rattle.tcl_chars.specs.Classes.{is_list_space}
+use Rattle.tcl_chars.specs.declared.numbers.Dialect.{Dialect}
 use Rattle.tcl_chars.specs.Place.{EndsWith, begins, tail}
 use Rattle.tcl_chars.specs.Whole.{skip_space}
 use Rattle.tcl_words.specs.declared.fault.Syntax.{Syntax}
@@ -51,8 +52,8 @@ run_past : (c : ℕ) (cs : List ℕ) → is_run_char c ≡ true → IsPast (c �
 unfolding after_run
 run_past c cs e = rw e (past_more c cs (after_run cs) (ends_run cs))
 
-run_token_past : (size : ℕ) (cs rest : List ℕ) → IsPast cs rest → IsPast cs (run_token size cs rest).1
-run_token_past size cs rest p =
+run_token_past : (dialect : Dialect) (size : ℕ) (cs rest : List ℕ) → IsPast cs rest → IsPast cs (run_token dialect size cs rest).1
+run_token_past dialect size cs rest p =
     if_both (λ (x : Token × List ℕ). IsPast cs x.1) (begins_letter cs && begins open_paren (skip_space rest)) _ _
     (λ e. past_then cs rest (tail (skip_space rest)) p (ends_trans rest (skip_space rest) (tail (skip_space rest)) (ends_space rest) (ends_tail (skip_space rest))))
     (λ e. p)
@@ -118,12 +119,12 @@ operand_past size levels c cs = word_at_past size (inner_at size levels) (inner_
 abbrev pub Goes : List ℕ → Option (Token × List ℕ) → Type 0
 Goes cs found = IfSome found (λ x. IsPast cs x.1)
 
-operand_goes : (size levels : ℕ) (cs : List ℕ) → Goes cs (operand_token size levels cs)
+operand_goes : (dialect : Dialect) (size levels : ℕ) (cs : List ℕ) → Goes cs (operand_token dialect size levels cs)
 unfolding operand_token
-operand_goes size levels [] = tt
-operand_goes size levels (c ∷ cs) =
-    if_both (Goes (c ∷ cs)) (begins_signed (c ∷ cs)) _ _ (λ e. run_token_past size (c ∷ cs) (after_run cs) (past_more c cs (after_run cs) (ends_run cs)))
-    (λ e. if_both (Goes (c ∷ cs)) (begins_run (c ∷ cs)) _ _ (λ f. run_token_past size (c ∷ cs) (after_run (c ∷ cs)) (run_past c cs f))
+operand_goes dialect size levels [] = tt
+operand_goes dialect size levels (c ∷ cs) =
+    if_both (Goes (c ∷ cs)) (begins_signed (c ∷ cs)) _ _ (λ e. run_token_past dialect size (c ∷ cs) (after_run cs) (past_more c cs (after_run cs) (ends_run cs)))
+    (λ e. if_both (Goes (c ∷ cs)) (begins_run (c ∷ cs)) _ _ (λ f. run_token_past dialect size (c ∷ cs) (after_run (c ∷ cs)) (run_past c cs f))
     (λ f. if_both (Goes (c ∷ cs)) (begins_operand (c ∷ cs)) _ _ (λ g. word_past c cs (operand size levels (c ∷ cs)) (operand_past size levels c cs))
     (λ g. if_both (Goes (c ∷ cs)) (c == open_paren) _ _ (λ h. past_more c cs cs (ends_self cs)) (λ h. or_symbol_past (prefix c cs) size c cs))))
 
@@ -138,18 +139,18 @@ goes_behind : (cs ds : List ℕ) (found : Option (Token × List ℕ)) → EndsWi
 goes_behind cs ds None e h = tt
 goes_behind cs ds (Some x) e h = then_past cs ds x.1 e h
 
-next_goes : (size : ℕ) (wants : Bool) (levels : ℕ) (cs : List ℕ) → Goes cs (next_token size wants levels cs)
+next_goes : (dialect : Dialect) (size : ℕ) (wants : Bool) (levels : ℕ) (cs : List ℕ) → Goes cs (next_token dialect size wants levels cs)
 unfolding next_token
-next_goes size wants levels cs =
+next_goes dialect size wants levels cs =
     if_both (Goes cs) wants _ _
-    (λ e. goes_behind cs (skip_space cs) _ (ends_space cs) (operand_goes size levels (skip_space cs)))
+    (λ e. goes_behind cs (skip_space cs) _ (ends_space cs) (operand_goes dialect size levels (skip_space cs)))
     (λ e. goes_behind cs (skip_space cs) _ (ends_space cs) (operator_goes (skip_space cs)))
 
-next_past : (size : ℕ) (wants : Bool) (levels : ℕ) (cs : List ℕ) (t : Token) (rest : List ℕ) → next_token size wants levels cs ≡ Some (t, rest) → IsPast cs rest
-next_past size wants levels cs t rest e = subst (Goes cs) e (next_goes size wants levels cs)
+next_past : (dialect : Dialect) (size : ℕ) (wants : Bool) (levels : ℕ) (cs : List ℕ) (t : Token) (rest : List ℕ) → next_token dialect size wants levels cs ≡ Some (t, rest) → IsPast cs rest
+next_past dialect size wants levels cs t rest e = subst (Goes cs) e (next_goes dialect size wants levels cs)
 
-pub ends_next : (size : ℕ) (wants : Bool) (levels : ℕ) (cs : List ℕ) (t : Token) (rest : List ℕ) → next_token size wants levels cs ≡ Some (t, rest) → EndsWith cs rest
-ends_next size wants levels cs t rest e = (next_past size wants levels cs t rest e).ends
+pub ends_next : (dialect : Dialect) (size : ℕ) (wants : Bool) (levels : ℕ) (cs : List ℕ) (t : Token) (rest : List ℕ) → next_token dialect size wants levels cs ≡ Some (t, rest) → EndsWith cs rest
+ends_next dialect size wants levels cs t rest e = (next_past dialect size wants levels cs t rest e).ends
 
-pub shorter_next : (size : ℕ) (wants : Bool) (levels : ℕ) (cs : List ℕ) (t : Token) (rest : List ℕ) → next_token size wants levels cs ≡ Some (t, rest) → length rest < length cs
-shorter_next size wants levels cs t rest e = (next_past size wants levels cs t rest e).less
+pub shorter_next : (dialect : Dialect) (size : ℕ) (wants : Bool) (levels : ℕ) (cs : List ℕ) (t : Token) (rest : List ℕ) → next_token dialect size wants levels cs ≡ Some (t, rest) → length rest < length cs
+shorter_next dialect size wants levels cs t rest e = (next_past dialect size wants levels cs t rest e).less

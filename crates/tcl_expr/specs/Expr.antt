@@ -71,6 +71,6 @@ takes_one function.Wide = true
 takes_one function.Max = false
 takes_one function.Min = false
 
-abbrev pub count : Args → ℕ
-count no_args = 0
-count (arg e es) = suc (count es)
+abbrev pub argument_count : Args → ℕ
+argument_count no_args = 0
+argument_count (arg e es) = suc (argument_count es)

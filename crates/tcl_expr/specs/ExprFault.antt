@@ -20,6 +20,6 @@ pub data ExprFault : Type 0 where
   Words : Syntax → ExprFault
 
 -- What a fault inside an operand is. What nests too deep there counts as an expression that does.
-abbrev pub inside : Syntax → ExprFault
-inside syntax.TooDeep = Nesting
-inside m = Words m
+abbrev pub operand_fault : Syntax → ExprFault
+operand_fault syntax.TooDeep = Nesting
+operand_fault m = Words m

@@ -6,7 +6,7 @@ use Rattle.tcl_expr.specs.Token.{Token}
 use Rattle.tcl_expr.specs.Token as token
 use Rattle.tcl_expr.specs.ExprFault.{ExprFault}
 use Rattle.tcl_expr.specs.ExprFault as fault
-use Rattle.tcl_expr.specs.Expr.{Expr, operand, group, call, unary, power, chain, choice, Rest, last, next, Args, no_args, arg, level_of, takes_one, count}
+use Rattle.tcl_expr.specs.Expr.{Expr, operand, group, call, unary, power, chain, choice, Rest, last, next, Args, no_args, arg, level_of, takes_one, argument_count}
 -- at most this many levels may be open in one another
 pub use Rattle.tcl_words.specs.First.{most_levels}
 
@@ -50,7 +50,7 @@ unfoldable mutual
   pub IsExpr : ℕ → ℕ → Expr → Type 0
   IsExpr b d (operand s) = Unit {0}
   IsExpr b d (group e) = (d < most_levels) × IsExpr 15 (suc d) e
-  IsExpr b d (call f s es) = (d < most_levels) × (miscount f s (count es) ≡ None) × AreExprs (suc d) es
+  IsExpr b d (call f s es) = (d < most_levels) × (miscount f s (argument_count es) ≡ None) × AreExprs (suc d) es
   IsExpr b d (unary u e) = (d < most_levels) × IsExpr 1 (suc d) e
   -- groups right
   IsExpr b d (power e f) = (1 < b) × (d < most_levels) × IsExpr 1 d e × IsExpr 2 (suc d) f

@@ -1,5 +1,6 @@
 -- The parser's steps.
 use Rattle.std.specs.Prelude.{ℕ, suc, ◌==◌, nat_lt, false, List, [], ◌∷◌, ◌++◌, length, Option, Some, None, Result, Ok, Err, if◌then◌else◌}
+use Rattle.tcl_chars.specs.declared.numbers.Dialect.{Dialect}
 use Rattle.tcl_words.specs.Parts.{Stretch}
 use Rattle.tcl_expr.specs.declared.token.UnaryOp.{UnaryOp}
 use Rattle.tcl_expr.specs.declared.token.BinaryOp.{BinaryOp}
@@ -8,9 +9,9 @@ use Rattle.tcl_expr.specs.Token.{Token}
 use Rattle.tcl_expr.specs.Token.{Operand, Malformed, Bareword, Call, UnknownCall, Unary, Binary, Power, Open, Close, Comma, Question, Colon}
 use Rattle.tcl_expr.specs.ExprFault.{ExprFault}
 use Rattle.tcl_expr.specs.ExprFault as fault
-use Rattle.tcl_expr.specs.ExprFault.{inside}
-use Rattle.tcl_expr.specs.declared.state.Place.{Place}
-use Rattle.tcl_expr.specs.declared.state.Place.TheVariants as place
+use Rattle.tcl_expr.specs.ExprFault.{operand_fault}
+use Rattle.tcl_expr.specs.declared.state.Wanted.{Wanted}
+use Rattle.tcl_expr.specs.declared.state.Wanted.TheVariants as wanted
 use Rattle.tcl_expr.specs.Expr.{Expr, operand, group, call, unary, power, chain, choice, Rest, last, next, Args, no_args, arg, level_of}
 use Rattle.tcl_expr.specs.Grammar.{miscount, most_levels}
 use Rattle.tcl_expr.specs.Faults.{reach}
@@ -78,7 +79,7 @@ finished (in_third c e) x = choice c e x
 finished h x = x
 
 pub data State : Type 0 where
-  wants : Place → List Held → State
+  wants : Wanted → List Held → State
   has : Expr → List Held → State
 
 unfoldable pub reduce : ℕ → Expr → List Held → Expr × List Held
@@ -86,24 +87,24 @@ reduce r x [] = (x, [])
 reduce r x (h ∷ s) = if nat_lt (held_level h) r then reduce r (finished h x) s else (x, h ∷ s)
 
 -- opens a level, if there is room
-abbrev pub open_with : Place → Held → List Held → Result State ExprFault
+abbrev pub open_with : Wanted → Held → List Held → Result State ExprFault
 open_with p h s = if nat_lt (open_levels s) most_levels then Ok (wants p (h ∷ s)) else Err fault.Nesting
 
 abbrev pub at_first : List Held → ExprFault
 at_first (in_call f s es ∷ hs) = fault.ArgumentCount s false
 at_first hs = fault.MissingOperand
 
-abbrev pub close_early : Place → List Held → ExprFault
-close_early place.First s = at_first s
+abbrev pub close_early : Wanted → List Held → ExprFault
+close_early wanted.First s = at_first s
 close_early p s = fault.MissingOperand
 
-abbrev pub at_operand : Place → List Held → Token → Result State ExprFault
+abbrev pub at_operand : Wanted → List Held → Token → Result State ExprFault
 at_operand p s (Operand n) = Ok (has (operand n) s)
-at_operand p s (Malformed m) = Err (inside m)
+at_operand p s (Malformed m) = Err (operand_fault m)
 at_operand p s (Bareword n) = Err (fault.BareWord n)
-at_operand p s (Unary u) = open_with place.Operand (in_unary u) s
-at_operand p s Open = open_with place.Operand in_group s
-at_operand p s (Call f n) = open_with place.First (in_call f n []) s
+at_operand p s (Unary u) = open_with wanted.Operand (in_unary u) s
+at_operand p s Open = open_with wanted.Operand in_group s
+at_operand p s (Call f n) = open_with wanted.First (in_call f n []) s
 at_operand p s (UnknownCall n) = Err (fault.UnknownFunction n)
 at_operand p s Close = Err (close_early p s)
 at_operand p s _ = Err fault.MissingOperand
@@ -124,17 +125,17 @@ at_close x (in_second c ∷ s) = Err fault.MissingOperator
 at_close x s = Err fault.Parenthesis
 
 abbrev pub at_comma : Expr → List Held → Result State ExprFault
-at_comma x (in_call f n es ∷ s) = Ok (wants place.Operand (in_call f n (es ++ x ∷ []) ∷ s))
+at_comma x (in_call f n es ∷ s) = Ok (wants wanted.Operand (in_call f n (es ++ x ∷ []) ∷ s))
 at_comma x s = Err fault.MissingOperator
 
 abbrev pub at_colon : Expr → List Held → Result State ExprFault
-at_colon x (in_second c ∷ s) = Ok (wants place.Operand (in_third c x ∷ s))
+at_colon x (in_second c ∷ s) = Ok (wants wanted.Operand (in_third c x ∷ s))
 at_colon x s = Err fault.MissingOperator
 
 abbrev pub at_operator : Expr → List Held → Token → Result State ExprFault
-at_operator x s (Binary op) = Ok (wants place.Operand (add op x s))
-at_operator x s Power = open_with place.Operand (in_power x) s
-at_operator x s Question = open_with place.Operand (in_second x) s
+at_operator x s (Binary op) = Ok (wants wanted.Operand (add op x s))
+at_operator x s Power = open_with wanted.Operand (in_power x) s
+at_operator x s Question = open_with wanted.Operand (in_second x) s
 at_operator x s Colon = at_colon x s
 at_operator x s Comma = at_comma x s
 at_operator x s Close = at_close x s
@@ -149,8 +150,8 @@ at_end x [] = Ok x
 at_end x (in_second c ∷ s) = Err fault.MissingOperator
 at_end x s = Err fault.Parenthesis
 
-abbrev pub early_end : Place → ExprFault
-early_end place.Start = fault.Empty
+abbrev pub early_end : Wanted → ExprFault
+early_end wanted.Start = fault.Empty
 early_end p = fault.MissingOperand
 
 abbrev pub finish : State → Result Expr ExprFault
@@ -166,8 +167,8 @@ run st [] = finish st
 run st (t ∷ ts) = and_then (step st t) (λ st'. run st' ts)
 
 abbrev pub parsed : List Token → Result Expr ExprFault
-parsed ts = run (wants place.Start []) ts
+parsed ts = run (wants wanted.Start []) ts
 
 -- the expression that a text is, or its fault
-unfoldable pub expression_of : List ℕ → Result Expr ExprFault
-expression_of text = parsed (tokens text)
+unfoldable pub expression_of : Dialect → List ℕ → Result Expr ExprFault
+expression_of dialect text = parsed (tokens dialect text)

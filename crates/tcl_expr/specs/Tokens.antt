@@ -6,7 +6,7 @@ use Rattle.tcl_chars.specs.Characters.{star, colon, open_paren, close_paren}
 use Rattle.tcl_chars.specs.Classes.{is_name_char}
 use Rattle.tcl_chars.specs.Place.{begins, tail, before, bytes}
 use Rattle.tcl_chars.specs.Truth.{truth_of}
-use Rattle.tcl_chars.specs.declared.numbers.Dialect.TheVariants.{Tcl86}
+use Rattle.tcl_chars.specs.declared.numbers.Dialect.{Dialect}
 use Rattle.tcl_chars.specs.Whole.{skip_space}
 use Rattle.tcl_chars.specs.declared.truths.Truth.{Truth}
 use Rattle.tcl_chars.specs.declared.truths.Truth.TheVariants as truth
@@ -14,8 +14,8 @@ use Rattle.tcl_words.specs.declared.fault.Syntax.{Syntax}
 use Rattle.tcl_words.specs.First.{operand, begins_operand, most_levels}
 use Rattle.tcl_words.specs.Parts.{Stretch, Shape}
 use Rattle.tcl_words.specs.Words.{stretch}
-use Rattle.tcl_expr.specs.declared.state.Place.{Place}
-use Rattle.tcl_expr.specs.declared.state.Place.TheVariants as place
+use Rattle.tcl_expr.specs.declared.state.Wanted.{Wanted}
+use Rattle.tcl_expr.specs.declared.state.Wanted.TheVariants as wanted
 use Rattle.tcl_expr.specs.declared.token.UnaryOp.{UnaryOp}
 use Rattle.tcl_expr.specs.declared.token.UnaryOp.TheVariants as unary
 use Rattle.tcl_expr.specs.declared.token.BinaryOp.{BinaryOp}
@@ -26,7 +26,7 @@ use Rattle.tcl_expr.specs.declared.token.Symbol.{Symbol}
 use Rattle.tcl_expr.specs.declared.token.Symbol.TheVariants as symbol
 use Rattle.tcl_expr.specs.Expr.{literal, word}
 use Rattle.tcl_expr.specs.ExprFault.{ExprFault}
-use Rattle.tcl_expr.specs.Faults.{Opened, reach, there, row, after, wanted}
+use Rattle.tcl_expr.specs.Faults.{Opened, wants_operand, open_at, after, wanted_after, lowest}
 use Rattle.tcl_expr.specs.Token.{Token, Operand, Malformed, Bareword, Call, UnknownCall, Unary, Open, Binary, Power, Question, Colon, Comma, Close, Stray}
 
 -- ---- runs
@@ -102,12 +102,12 @@ called (Some f) name = Call f name
 called None name = UnknownCall name
 
 -- The token of the run at the front of cs, which ends at rest. A run that begins with a letter names a function if a
--- parenthesis follows, after white space too.
-abbrev pub run_token : ℕ → List ℕ → List ℕ → Token × List ℕ
-run_token size cs rest =
+-- parenthesis follows, after white space too. What a number is, the dialect says.
+abbrev pub run_token : Dialect → ℕ → List ℕ → List ℕ → Token × List ℕ
+run_token dialect size cs rest =
     if begins_letter cs && begins open_paren (skip_space rest)
     then (called (function_of (before cs rest)) (stretch size cs rest), tail (skip_space rest))
-    else (if says_something (truth_of Tcl86 (before cs rest)) then Operand (literal (stretch size cs rest)) else Bareword (stretch size cs rest), rest)
+    else (if says_something (truth_of dialect (before cs rest)) then Operand (literal (stretch size cs rest)) else Bareword (stretch size cs rest), rest)
 
 -- ---- operators that are no runs
 
@@ -189,12 +189,12 @@ or_symbol None size c cs = or_bareword (symbol_at (c ∷ cs)) (stretch size (c �
 
 -- Where an operand is wanted: the token at the front of what is left of a text of `size` bytes, and what follows it. In
 -- an operand brackets and indices may stand in one another `levels` deep.
-unfoldable pub operand_token : ℕ → ℕ → List ℕ → Option (Token × List ℕ)
-operand_token size levels [] = None
-operand_token size levels (c ∷ cs) =
+unfoldable pub operand_token : Dialect → ℕ → ℕ → List ℕ → Option (Token × List ℕ)
+operand_token dialect size levels [] = None
+operand_token dialect size levels (c ∷ cs) =
     let here = c ∷ cs in
-    if begins_signed here then Some (run_token size here (after_run cs))
-    else if begins_run here then Some (run_token size here (after_run here))
+    if begins_signed here then Some (run_token dialect size here (after_run cs))
+    else if begins_run here then Some (run_token dialect size here (after_run here))
     else if begins_operand here then Some (word_token (operand size levels here))
     else if c == open_paren then Some (Open, cs)
     else Some (or_symbol (prefix c cs) size c cs)
@@ -216,14 +216,11 @@ operator_token (c ∷ cs) =
     else Some (or_stray (symbol_at here) cs)
 
 -- the next token and what follows it, or none where only white space is left
-unfoldable pub next_token : ℕ → Bool → ℕ → List ℕ → Option (Token × List ℕ)
-next_token size wants levels cs = if wants then operand_token size levels (skip_space cs) else operator_token (skip_space cs)
+unfoldable pub next_token : Dialect → ℕ → Bool → ℕ → List ℕ → Option (Token × List ℕ)
+next_token dialect size wants levels cs =
+    if wants then operand_token dialect size levels (skip_space cs) else operator_token (skip_space cs)
 
 -- ---- the tokens of a text
-
-abbrev pub wants_operand : Place → Bool
-wants_operand place.Operator = false
-wants_operand p = true
 
 abbrev pub unless_faulty : Option ExprFault → List Token → List Token
 unless_faulty (Some m) ts = []
@@ -235,16 +232,15 @@ with_token (Some x) more = more x.0 x.1
 
 -- The tokens of what is left of a text of `size` bytes, where these are open: up to the end or to the first that has a
 -- fault. They are at most n.
-unfoldable pub tokens_from : ℕ → ℕ → Place → List Opened → List ℕ → List Token
-tokens_from zero size p os cs = []
-tokens_from (suc n) size p os cs =
-    with_token (next_token size (wants_operand p) (most_levels - length os) cs) (λ t rest.
-    let now = there p (reach t) os in
-    t ∷ unless_faulty (row p now t) (tokens_from n size (wanted t) (after t now) rest))
+unfoldable pub tokens_from : ℕ → Dialect → ℕ → Wanted → List Opened → List ℕ → List Token
+tokens_from zero dialect size p os cs = []
+tokens_from (suc n) dialect size p os cs =
+    with_token (next_token dialect size (wants_operand p) (most_levels - length os) cs) (λ t rest.
+    t ∷ unless_faulty (lowest p os (Some t)) (tokens_from n dialect size (wanted_after t) (after t (open_at p t os)) rest))
 
 -- each takes a character at least
-unfoldable pub tokens_at : ℕ → Place → List Opened → List ℕ → List Token
-tokens_at size p os cs = tokens_from (suc (length cs)) size p os cs
+unfoldable pub tokens_at : Dialect → ℕ → Wanted → List Opened → List ℕ → List Token
+tokens_at dialect size p os cs = tokens_from (suc (length cs)) dialect size p os cs
 
-unfoldable pub tokens : List ℕ → List Token
-tokens text = tokens_at (bytes text) place.Start [] text
+unfoldable pub tokens : Dialect → List ℕ → List Token
+tokens dialect text = tokens_at dialect (bytes text) wanted.Start [] text

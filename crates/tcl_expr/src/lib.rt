@@ -13,8 +13,6 @@ mod parse;
 mod runs;
 mod stack;
 mod state;
-#[cfg(test)]
-mod tests;
 mod texts;
 mod token;
 mod tokens;

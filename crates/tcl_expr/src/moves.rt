@@ -2,9 +2,9 @@
 
 ghost use Rattle.std.specs.Prelude.{◌≡◌, ◌≤◌, List, ◌∷◌, ◌++◌, [], map, IfOk};
 ghost use Rattle.tcl_expr.specs.Expr as expr;
-ghost use Rattle.tcl_expr.specs.ExprFault.{inside};
+ghost use Rattle.tcl_expr.specs.ExprFault.{operand_fault};
 ghost use Rattle.tcl_expr.specs.Faults as faults;
-ghost use Rattle.tcl_expr.specs.Gives.{Steps, Finishes, state_of};
+ghost use Rattle.tcl_expr.specs.Gives.{Steps, Finishes, state_view};
 ghost use Rattle.tcl_expr.specs.Grammar as grammar;
 ghost use Rattle.tcl_expr.specs.Machine as machine;
 ghost use Rattle.tcl_expr.specs.View.{view, step_of, held_of, stack_of, token_of, fault_view, optional_fault};
@@ -13,7 +13,7 @@ ghost use Rattle.tcl_words.specs.Parts.{stretch_of};
 use crate::fault::ExprSyntax;
 use crate::frame::Frame;
 use crate::stack::Stack;
-use crate::state::{Place, State};
+use crate::state::{State, Wanted};
 use crate::token::{BinaryOp, Function, Symbol, Token};
 use crate::tree::Tree;
 use std::alloc::{AllocError, Global};
@@ -113,26 +113,26 @@ fn reduce<'a>(
 }
 
 fn open_with<'a>(
-    place: Place,
+    wanted: Wanted,
     frame: Frame<'a>,
     stack: &mut Stack<'a>,
 ) -> Result<State<'a>, ReadFault<ExprSyntax<'a>>>
     requires { machine.opens_of (held_of frame) ≡ 1 }
-    ensures { Steps result (stack_of stack.new.frames.items) (machine.open_with place (held_of frame.entry) (stack_of stack.old.frames.items)) }
+    ensures { Steps result (stack_of stack.new.frames.items) (machine.open_with wanted (held_of frame.entry) (stack_of stack.old.frames.items)) }
 {
     if !stack.has_room() {
         return Err(ReadFault::Bad(ExprSyntax::Nesting));
     }
     stack.push(frame)?;
-    Ok(State::Wants(place))
+    Ok(State::Wants(wanted))
 }
 
 /// The fault of a `)` where an operand is wanted.
-fn close_early<'a>(place: Place, stack: &mut Stack<'a>) -> ExprSyntax<'a>
-    ensures { fault_view result ≡ machine.close_early place (stack_of stack.old.frames.items) }
+fn close_early<'a>(wanted: Wanted, stack: &mut Stack<'a>) -> ExprSyntax<'a>
+    ensures { fault_view result ≡ machine.close_early wanted (stack_of stack.old.frames.items) }
 {
-    match place {
-        Place::First => match stack.pop() {
+    match wanted {
+        Wanted::First => match stack.pop() {
             Some(Frame::Call(_, name, _)) => ExprSyntax::ArgumentCount(name, false),
             _ => ExprSyntax::MissingOperand,
         },
@@ -141,8 +141,8 @@ fn close_early<'a>(place: Place, stack: &mut Stack<'a>) -> ExprSyntax<'a>
 }
 
 /// What a fault inside an operand is.
-fn inside<'a>(fault: Syntax) -> ExprSyntax<'a>
-    ensures { fault_view result ≡ inside fault }
+fn operand_fault<'a>(fault: Syntax) -> ExprSyntax<'a>
+    ensures { fault_view result ≡ operand_fault fault }
 {
     match fault {
         Syntax::TooDeep => ExprSyntax::Nesting,
@@ -152,25 +152,25 @@ fn inside<'a>(fault: Syntax) -> ExprSyntax<'a>
 
 fn at_operand<'a>(
     alloc: Global,
-    place: Place,
+    wanted: Wanted,
     stack: &mut Stack<'a>,
     token: Token<'a>,
 ) -> Result<State<'a>, ReadFault<ExprSyntax<'a>>>
-    ensures { Steps result (stack_of stack.new.frames.items) (machine.at_operand place (stack_of stack.old.frames.items) (token_of token.entry)) }
+    ensures { Steps result (stack_of stack.new.frames.items) (machine.at_operand wanted (stack_of stack.old.frames.items) (token_of token.entry)) }
 {
     match token {
         Token::Operand(leaf) => Ok(State::Has(Tree::Operand(leaf))),
-        Token::Malformed(fault) => Err(ReadFault::Bad(inside(fault))),
+        Token::Malformed(fault) => Err(ReadFault::Bad(operand_fault(fault))),
         Token::Bareword(span) => Err(ReadFault::Bad(ExprSyntax::BareWord(span))),
-        Token::Unary(op) => open_with(Place::Operand, Frame::Unary(op), stack),
-        Token::Open => open_with(Place::Operand, Frame::Paren, stack),
+        Token::Unary(op) => open_with(Wanted::Operand, Frame::Unary(op), stack),
+        Token::Open => open_with(Wanted::Operand, Frame::Paren, stack),
         Token::Call(function, name) => open_with(
-            Place::First,
+            Wanted::First,
             Frame::Call(function, name, Vec::new(alloc)),
             stack,
         ),
         Token::UnknownCall(name) => Err(ReadFault::Bad(ExprSyntax::UnknownFunction(name))),
-        Token::Symbol(Symbol::Close) => Err(ReadFault::Bad(close_early(place, stack))),
+        Token::Symbol(Symbol::Close) => Err(ReadFault::Bad(close_early(wanted, stack))),
         _ => Err(ReadFault::Bad(ExprSyntax::MissingOperand)),
     }
 }
@@ -270,7 +270,7 @@ fn at_comma<'a>(x: Tree<'a>, stack: &mut Stack<'a>) -> Result<State<'a>, ReadFau
         Some(Frame::Call(function, name, arguments)) => {
             let arguments = push_argument(arguments, x)?;
             stack.push(Frame::Call(function, name, arguments))?;
-            Ok(State::Wants(Place::Operand))
+            Ok(State::Wants(Wanted::Operand))
         }
         _ => Err(ReadFault::Bad(ExprSyntax::MissingOperator)),
     }
@@ -286,7 +286,7 @@ fn at_colon<'a>(
     match stack.pop() {
         Some(Frame::Second(condition)) => {
             stack.push(Frame::Third(condition, Box::new(alloc, x)?))?;
-            Ok(State::Wants(Place::Operand))
+            Ok(State::Wants(Wanted::Operand))
         }
         _ => Err(ReadFault::Bad(ExprSyntax::MissingOperator)),
     }
@@ -303,13 +303,13 @@ fn at_operator<'a>(
     match token {
         Token::Symbol(Symbol::Binary(op)) => {
             add(alloc, op, x, stack)?;
-            Ok(State::Wants(Place::Operand))
+            Ok(State::Wants(Wanted::Operand))
         }
         Token::Symbol(Symbol::Power) => {
-            open_with(Place::Operand, Frame::Power(Box::new(alloc, x)?), stack)
+            open_with(Wanted::Operand, Frame::Power(Box::new(alloc, x)?), stack)
         }
         Token::Symbol(Symbol::Question) => {
-            open_with(Place::Operand, Frame::Second(Box::new(alloc, x)?), stack)
+            open_with(Wanted::Operand, Frame::Second(Box::new(alloc, x)?), stack)
         }
         Token::Symbol(Symbol::Colon) => at_colon(alloc, x, stack),
         Token::Symbol(Symbol::Comma) => at_comma(x, stack),
@@ -325,10 +325,10 @@ pub(crate) fn step<'a>(
     stack: &mut Stack<'a>,
     token: Token<'a>,
 ) -> Result<State<'a>, ReadFault<ExprSyntax<'a>>>
-    ensures { Steps result (stack_of stack.new.frames.items) (machine.step (state_of state.entry (stack_of stack.old.frames.items)) (token_of token.entry)) }
+    ensures { Steps result (stack_of stack.new.frames.items) (machine.step (state_view state.entry (stack_of stack.old.frames.items)) (token_of token.entry)) }
 {
     match state {
-        State::Wants(place) => at_operand(alloc, place, stack, token),
+        State::Wants(wanted) => at_operand(alloc, wanted, stack, token),
         State::Has(x) => {
             let x = reduce(alloc, reach(&token), x, stack)?;
             at_operator(alloc, x, stack, token)
@@ -342,11 +342,11 @@ pub(crate) fn finish<'a>(
     state: State<'a>,
     stack: Stack<'a>,
 ) -> Result<Tree<'a>, ReadFault<ExprSyntax<'a>>>
-    ensures { Finishes result (machine.finish (state_of state.entry (stack_of stack.entry.frames.items))) }
+    ensures { Finishes result (machine.finish (state_view state.entry (stack_of stack.entry.frames.items))) }
 {
     let mut stack = stack;
     match state {
-        State::Wants(Place::Start) => Err(ReadFault::Bad(ExprSyntax::Empty)),
+        State::Wants(Wanted::Start) => Err(ReadFault::Bad(ExprSyntax::Empty)),
         State::Wants(_) => Err(ReadFault::Bad(ExprSyntax::MissingOperand)),
         State::Has(x) => {
             let x = reduce(alloc, 15, x, &mut stack)?;

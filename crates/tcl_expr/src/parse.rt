@@ -1,9 +1,8 @@
 //! The parser: from token to token.
 
-ghost use Rattle.std.specs.Prelude.{◌≡◌, IfOk, IfErr, MatchResult, Some};
+ghost use Rattle.std.specs.Prelude.{◌≡◌, IfOk, MatchResult, Some};
 ghost use Rattle.std.specs.Str.{chars};
-ghost use Rattle.tcl_chars.specs.declared.fault.Fault.TheVariants as refused;
-ghost use Rattle.tcl_expr.specs.Faults.{fault_of};
+ghost use Rattle.tcl_expr.specs.Faults.{expr_fault};
 ghost use Rattle.tcl_expr.specs.Gives.{Finishes, result_view};
 ghost use Rattle.tcl_expr.specs.Grammar.{IsTree};
 ghost use Rattle.tcl_expr.specs.Machine.{expression_of};
@@ -13,20 +12,31 @@ ghost use Rattle.tcl_expr.specs.View.{view, fault_view};
 use crate::fault::ExprSyntax;
 use crate::moves::{finish, step};
 use crate::stack::Stack;
-use crate::state::{Place, State};
+use crate::state::{State, Wanted};
 use crate::tokens::next_token;
 use crate::tree::Tree;
-use std::alloc::Global;
-use tcl_chars::{Fault, ReadFault};
+use std::alloc::{AllocError, Global};
+use tcl_chars::{Dialect, ReadFault};
 
-fn run<'a>(alloc: Global, text: &'a str) -> Result<Tree<'a>, ReadFault<ExprSyntax<'a>>>
-    ensures { Finishes result (expression_of (chars text.now)) }
+fn run<'a>(
+    alloc: Global,
+    text: &'a str,
+    dialect: Dialect,
+) -> Result<Tree<'a>, ReadFault<ExprSyntax<'a>>>
+    ensures { Finishes result (expression_of dialect (chars text.now)) }
 {
     let mut stack = Stack::new(alloc);
-    let mut state = State::Wants(Place::Start);
+    let mut state = State::Wants(Wanted::Start);
     let mut left = text;
     'tokens: loop {
-        let found = next_token(alloc, text, left, state.wants_operand(), stack.room())?;
+        let found = next_token(
+            alloc,
+            text,
+            left,
+            state.wants_operand(),
+            stack.room(),
+            dialect,
+        )?;
         match found {
             None => return finish(alloc, state, stack),
             Some((token, after)) => {
@@ -40,18 +50,21 @@ fn run<'a>(alloc: Global, text: &'a str) -> Result<Tree<'a>, ReadFault<ExprSynta
 /// The expression that a text is, or its fault: that of the first token, from the left, that has one. The spans of
 /// either count bytes from the text's beginning. At most 200 levels stand in one another: parentheses, calls, unary
 /// operators, right operands of `**`, the second and the third operand of `?:`, and inside operands brackets and
-/// indices. expr(n).
+/// indices. A number is what it is in the dialect. expr(n).
 ///
 /// # Errors
-/// `Fault::Memory` where a growth was refused.
-pub fn parse_expr(alloc: Global, text: &str) -> Result<Result<Tree<'_>, ExprSyntax<'_>>, Fault>
-    ensures grammar { IfOk result (λ r. MatchResult r (λ t. IsTree (tokens (chars text.now)) (view t)) (λ m. fault_of (tokens (chars text.now)) ≡ Some (fault_view m))) }
-    ensures reading { IfOk result (λ r. result_view r ≡ expression_of (chars text.now)) }
-    ensures refused { IfErr result (λ e. e ≡ refused.Memory) }
+/// A growth that was refused.
+pub fn parse_expr(
+    alloc: Global,
+    text: &str,
+    dialect: Dialect,
+) -> Result<Result<Tree<'_>, ExprSyntax<'_>>, AllocError>
+    ensures grammar { IfOk result (λ r. MatchResult r (λ t. IsTree (tokens dialect (chars text.now)) (view t)) (λ m. expr_fault (tokens dialect (chars text.now)) ≡ Some (fault_view m))) }
+    ensures reading { IfOk result (λ r. result_view r ≡ expression_of dialect (chars text.now)) }
 {
-    match run(alloc, text) {
+    match run(alloc, text, dialect) {
         Ok(tree) => Ok(Ok(tree)),
         Err(ReadFault::Bad(fault)) => Ok(Err(fault)),
-        Err(ReadFault::Memory) => Err(Fault::Memory),
+        Err(ReadFault::Memory) => Err(AllocError),
     }
 }

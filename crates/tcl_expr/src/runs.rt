@@ -4,7 +4,6 @@ ghost use Rattle.std.specs.Prelude.{◌≡◌};
 ghost use Rattle.std.specs.Str.{chars};
 ghost use Rattle.tcl_chars.specs.Place.{EndsWith};
 ghost use Rattle.tcl_chars.specs.Truth.{truth_of};
-ghost use Rattle.tcl_chars.specs.declared.numbers.Dialect.TheVariants.{Tcl86};
 ghost use Rattle.tcl_expr.specs.Tokens as spec;
 ghost use Rattle.tcl_words.specs.Parts.{stretch_of};
 ghost use Rattle.tcl_words.specs.Words.{stretch};
@@ -84,10 +83,10 @@ pub(crate) fn span<'a>(size: usize, from: &'a str, to: &str) -> Span<'a>
 }
 
 /// Is the run an operand: a number, one too large too, or a truth word?
-pub(crate) fn says_something(run: &str) -> bool
-    ensures { result ≡ spec.says_something (truth_of Tcl86 (chars run.now)) }
+pub(crate) fn says_something(run: &str, dialect: Dialect) -> bool
+    ensures { result ≡ spec.says_something (truth_of dialect (chars run.now)) }
 {
-    match read_truth(run, Dialect::Tcl86) {
+    match read_truth(run, dialect) {
         Truth::Yes | Truth::No | Truth::TooLarge => true,
         Truth::Not => false,
     }

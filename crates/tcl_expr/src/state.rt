@@ -1,14 +1,14 @@
 //! What the parser waits for.
 
 ghost use Rattle.std.specs.Prelude.{◌≡◌};
-ghost use Rattle.tcl_expr.specs.Gives.{place_of};
-ghost use Rattle.tcl_expr.specs.Tokens as spec;
+ghost use Rattle.tcl_expr.specs.Gives.{wanted_by};
+ghost use Rattle.tcl_expr.specs.Faults.{wants_operand};
 
 use crate::tree::Tree;
 
 /// What is wanted next.
 #[derive(Clone, Copy, PartialEq, Eq)]
-pub(crate) enum Place {
+pub(crate) enum Wanted {
     /// An operand, and nothing has been read.
     Start,
     /// The first argument of a call, or its end.
@@ -20,17 +20,17 @@ pub(crate) enum Place {
 /// What has been read and where the parser stands.
 #[derive(Drop)]
 pub(crate) enum State<'a> {
-    Wants(Place),
+    Wants(Wanted),
     /// An operand that has ended.
     Has(Tree<'a>),
 }
 
 impl<'a> State<'a> {
     pub(crate) fn wants_operand(&self) -> bool
-        ensures { result ≡ spec.wants_operand (place_of self.now) }
+        ensures { result ≡ wants_operand (wanted_by self.now) }
     {
         match self {
-            State::Wants(Place::Operator) | State::Has(_) => false,
+            State::Wants(Wanted::Operator) | State::Has(_) => false,
             State::Wants(_) => true,
         }
     }

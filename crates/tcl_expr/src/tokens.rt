@@ -6,7 +6,6 @@ ghost use Rattle.tcl_chars.specs.Place.{EndsWith, IsFirst};
 ghost use Rattle.tcl_expr.specs.Tokens as spec;
 ghost use Rattle.tcl_expr.specs.View.{token_of};
 ghost use Rattle.tcl_words.specs.First.{begins_operand, most_levels, operand};
-ghost use Rattle.tcl_words.specs.Words as words;
 
 use crate::operators::{prefix, symbol};
 use crate::runs::{
@@ -15,14 +14,19 @@ use crate::runs::{
 };
 use crate::token::{Leaf, Symbol, Token};
 use std::alloc::{AllocError, Global};
-use tcl_chars::{before, begins, is_name_char, place, skip_space, split_first, tail};
-use tcl_words::{Operand, parse_operand};
+use tcl_chars::{Dialect, before, begins, place, skip_space, split_first, tail};
+use tcl_words::{Operand, begins_operand, parse_operand};
 
 /// The token that a run is, and what follows it.
-fn run_token<'a>(size: usize, here: &'a str, rest: &'a str) -> (Token<'a>, &'a str)
+fn run_token<'a>(
+    size: usize,
+    here: &'a str,
+    rest: &'a str,
+    dialect: Dialect,
+) -> (Token<'a>, &'a str)
     requires { EndsWith (chars here.now) (chars rest.now) }
-    ensures token { token_of result.0 ≡ (spec.run_token size (chars here.now) (chars rest.now)).0 }
-    ensures rest { chars result.1.now ≡ (spec.run_token size (chars here.now) (chars rest.now)).1 }
+    ensures token { token_of result.0 ≡ (spec.run_token dialect size (chars here.now) (chars rest.now)).0 }
+    ensures rest { chars result.1.now ≡ (spec.run_token dialect size (chars here.now) (chars rest.now)).1 }
 {
     let run = span(size, here, rest);
     let behind = skip_space(rest);
@@ -32,33 +36,10 @@ fn run_token<'a>(size: usize, here: &'a str, rest: &'a str) -> (Token<'a>, &'a s
             None => (Token::UnknownCall(run), tail(behind)),
         };
     }
-    if says_something(run.text) {
+    if says_something(run.text, dialect) {
         return (Token::Operand(Leaf::Literal(run)), rest);
     }
     (Token::Bareword(run), rest)
-}
-
-fn begins_variable(text: &str) -> bool
-    ensures { result ≡ words.begins_variable (chars text.now) }
-{
-    match split_first(text) {
-        Some((c, rest)) => {
-            is_name_char(c) || (c == ':' && begins(':', rest)) || c == '{' || c == '('
-        }
-        None => false,
-    }
-}
-
-/// Does a word in quotes or braces, a bracket or a variable stand in front?
-fn begins_word(text: &str) -> bool
-    ensures { result ≡ begins_operand (chars text.now) }
-{
-    match split_first(text) {
-        Some((c, rest)) => {
-            c == '{' || c == '"' || c == '[' || (c == '$' && begins_variable(rest))
-        }
-        None => false,
-    }
 }
 
 /// The operand that is a word, a bracket or a variable, and what follows it.
@@ -75,10 +56,9 @@ fn word_token<'a>(
     ensures rest { IfOk result (λ p. chars p.1.now ≡ (spec.word_token (operand (length text.now) levels (chars here.now))).1) }
 {
     let from = place(text.len(), here);
-    match parse_operand(alloc, text, from, levels) {
-        Ok(Operand::Found(word, at)) => Ok((Token::Operand(Leaf::Word(word)), &text[at..])),
-        Ok(Operand::Bad(fault)) => Ok((Token::Malformed(fault), "")),
-        Err(_) => Err(AllocError),
+    match parse_operand(alloc, text, from, levels)? {
+        Operand::Found(word, at) => Ok((Token::Operand(Leaf::Word(word)), &text[at..])),
+        Operand::Bad(fault) => Ok((Token::Malformed(fault), "")),
     }
 }
 
@@ -104,22 +84,23 @@ fn operand_token<'a>(
     text: &'a str,
     here: &'a str,
     levels: u32,
+    dialect: Dialect,
 ) -> Result<Option<(Token<'a>, &'a str)>, AllocError>
     requires ends { EndsWith (chars text.now) (chars here.now) }
     requires few { levels ≤ most_levels }
-    ensures { IfOk result (λ r. option_map (λ p. (token_of p.0, chars p.1.now)) r ≡ spec.operand_token (length text.now) levels (chars here.now)) }
+    ensures { IfOk result (λ r. option_map (λ p. (token_of p.0, chars p.1.now)) r ≡ spec.operand_token dialect (length text.now) levels (chars here.now)) }
 {
     let Some((c, behind)) = split_first(here) else {
         return Ok(None);
     };
     let size = text.len();
     if begins_signed(here) {
-        return Ok(Some(run_token(size, here, after_run(behind))));
+        return Ok(Some(run_token(size, here, after_run(behind), dialect)));
     }
     if begins_run(here) {
-        return Ok(Some(run_token(size, here, after_run(here))));
+        return Ok(Some(run_token(size, here, after_run(here), dialect)));
     }
-    if begins_word(here) {
+    if begins_operand(here) {
         let found = word_token(alloc, text, here, levels)?;
         return Ok(Some(found));
     }
@@ -157,14 +138,15 @@ pub(crate) fn next_token<'a>(
     left: &'a str,
     wants: bool,
     levels: u32,
+    dialect: Dialect,
 ) -> Result<Option<(Token<'a>, &'a str)>, AllocError>
     requires ends { EndsWith (chars text.now) (chars left.now) }
     requires few { levels ≤ most_levels }
-    ensures { IfOk result (λ r. option_map (λ p. (token_of p.0, chars p.1.now)) r ≡ spec.next_token (length text.now) wants levels (chars left.now)) }
+    ensures { IfOk result (λ r. option_map (λ p. (token_of p.0, chars p.1.now)) r ≡ spec.next_token dialect (length text.now) wants levels (chars left.now)) }
 {
     let here = skip_space(left);
     if wants {
-        operand_token(alloc, text, here, levels)
+        operand_token(alloc, text, here, levels, dialect)
     } else {
         Ok(operator_token(here))
     }

@@ -1,9 +1,8 @@
-pub mod Adding
-pub mod Evaluating
-pub mod Leaving
-pub mod Lent
+pub mod ChannelsLemmas
+pub mod CompletionLemmas
+pub mod EvaluateLemmas
 pub mod Messages
-pub mod NameEnds
-pub mod Says
-pub mod Wholes
-pub mod Writes
+pub mod NamesLemmas
+pub mod PagesLemmas
+pub mod ReportLemmas
+pub mod VariablesLemmas

@@ -6,7 +6,7 @@ ghost use Rattle.tcl_meaning.specs.Substitution.{no_expansion};
 ghost use Rattle.tcl_meaning.specs.Variables.{cant_read, cant_set, reason};
 ghost use Rattle.tcl_meaning.specs.Pages.{unknown_channel};
 ghost use Rattle.tcl_meaning.specs.Script.{unknown_command};
-ghost use Rattle.tcl_interp.specs.Endings.{completion_of};
+ghost use Rattle.tcl_interp.specs.Completion.{completion_of};
 
 use crate::value::Value;
 use std::alloc::{AllocError, Global};

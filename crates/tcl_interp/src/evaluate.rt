@@ -6,14 +6,17 @@ ghost use Rattle.tcl_words.specs.Parts.{shape_of, part_of, parts_of};
 ghost use Rattle.tcl_meaning.specs.Nesting.{PartNests, PartsNest, WordsNest};
 ghost use Rattle.tcl_meaning.specs.Completions.{normal};
 ghost use Rattle.tcl_meaning.specs.Effects.{Script, exec};
-ghost use Rattle.tcl_meaning.specs.Substitution.{piece_text, word_text, one_word, words_text};
-ghost use Rattle.tcl_meaning.specs.Script.{Run, most_depth, most_levels, run_command};
-ghost use Rattle.tcl_interp.specs.Endings.{Follows, ValueFollows, AddsText, is_io, value_is_io, stopped};
-ghost use Rattle.tcl_interp.specs.Shown.{shown, Leaves};
+ghost use Rattle.tcl_meaning.specs.Substitution.{piece_text, pieces_text, one_word, words_text};
+ghost use Rattle.tcl_meaning.specs.Value.{behind};
+ghost use Rattle.tcl_meaning.specs.Script.{Run, most_depth, levels_read, run_command};
+ghost use Rattle.tcl_interp.specs.Evaluate.{Follows, ValueFollows, stopped};
+ghost use Rattle.tcl_interp.specs.Fault.{is_io, value_is_io};
+ghost use Rattle.tcl_interp.specs.Evaluation.{shown};
+ghost use Rattle.tcl_interp.specs.Channels.{Leaves};
 
 use crate::completion::Completion;
 use crate::evaluation::Evaluation;
-use crate::fault::{Fault, Halt};
+use crate::fault::{EvalFault, Halt};
 use crate::lookup::{add_variable, invoke};
 use crate::value::Value;
 use std::alloc::{AllocError, Global};
@@ -28,7 +31,7 @@ use tcl_words::{Parsed, Piece, Word, parse_first};
 const MOST_DEPTH: u32 = 1000;
 
 // Brackets and array indices may stand in one another this deep. They are refused until there are lists.
-const MOST_LEVELS: u32 = 0;
+const LEVELS_READ: u32 = 0;
 
 /// Runs a script that stands in `depth - 1` others, one command after another.
 #[cycle(evaluate)]
@@ -38,7 +41,7 @@ pub(crate) fn eval_script<R: Input, W: Output, E: Output>(
     world: &mut World<'_, '_, '_, R, W, E>,
     depth: u32,
     script: &str,
-) -> Result<Completion, Fault>
+) -> Result<Completion, EvalFault>
     ensures spends { state.new.units ≤ state.old.units }
     ensures run { Follows result (Run (Script depth (normal []) (chars script.now)) (shown W.written E.written state.old world.old)) (shown W.written E.written state.new world.new) }
     ensures leaves { Leaves R.to_come W.failed_calls E.failed_calls (is_io result) world.old world.new }
@@ -49,12 +52,12 @@ pub(crate) fn eval_script<R: Input, W: Output, E: Output>(
     let mut last = Completion::normal(Value::empty());
     let mut rest = script;
     'commands: loop {
-        match parse_first(alloc, rest, MOST_LEVELS)? {
+        match parse_first(alloc, rest, LEVELS_READ)? {
             Parsed::End(_) => return Ok(last),
             Parsed::Bad(fault) => return Ok(Completion::failure(alloc, fault.text())?),
             Parsed::Command(words, after) => {
                 if state.units == 0 {
-                    return Err(Fault::Budget);
+                    return Err(EvalFault::Budget);
                 }
                 state.units -= 1;
                 let done = eval_command(alloc, state, world, depth, words.as_slice())?;
@@ -70,7 +73,7 @@ pub(crate) fn eval_script<R: Input, W: Output, E: Output>(
 }
 
 // A completion that stands in the place of a value is the command's.
-fn stopped(halt: Halt) -> Result<Completion, Fault>
+fn stopped(halt: Halt) -> Result<Completion, EvalFault>
     ensures { result ≡ stopped halt }
 {
     match halt {
@@ -87,9 +90,9 @@ fn eval_command<R: Input, W: Output, E: Output>(
     world: &mut World<'_, '_, '_, R, W, E>,
     depth: u32,
     words: &[Word<'_>],
-) -> Result<Completion, Fault>
+) -> Result<Completion, EvalFault>
     requires shallow { depth ≤ most_depth }
-    requires nests { WordsNest most_levels (map shape_of words.now) }
+    requires nests { WordsNest levels_read (map shape_of words.now) }
     ensures spends { state.new.units ≤ state.old.units }
     ensures run { Follows result (exec Run (run_command depth (map shape_of words.now)) (shown W.written E.written state.old world.old)) (shown W.written E.written state.new world.new) }
     ensures leaves { Leaves R.to_come W.failed_calls E.failed_calls (is_io result) world.old world.new }
@@ -117,7 +120,7 @@ fn subst_words<R: Input, W: Output, E: Output>(
     words: &[Word<'_>],
 ) -> Result<Vec<Value>, Halt>
     requires shallow { depth ≤ most_depth }
-    requires nests { WordsNest most_levels (map shape_of words.now) }
+    requires nests { WordsNest levels_read (map shape_of words.now) }
     ensures spends { state.new.units ≤ state.old.units }
     ensures run { ValueFollows (λ v. v.items) result (exec Run (words_text depth (map shape_of words.now)) (shown W.written E.written state.old world.old)) (shown W.written E.written state.new world.new) }
     ensures leaves { Leaves R.to_come W.failed_calls E.failed_calls (value_is_io result) world.old world.new }
@@ -140,7 +143,7 @@ fn subst_word<R: Input, W: Output, E: Output>(
     word: &Word<'_>,
 ) -> Result<Value, Halt>
     requires shallow { depth ≤ most_depth }
-    requires nests { PartsNest most_levels (parts_of (shape_of word.now).pieces) }
+    requires nests { PartsNest levels_read (parts_of (shape_of word.now).pieces) }
     ensures spends { state.new.units ≤ state.old.units }
     ensures run { ValueFollows (λ v. v) result (exec Run (one_word depth (shape_of word.now).expands (shape_of word.now).pieces) (shown W.written E.written state.old world.old)) (shown W.written E.written state.new world.new) }
     ensures leaves { Leaves R.to_come W.failed_calls E.failed_calls (value_is_io result) world.old world.new }
@@ -154,7 +157,7 @@ fn subst_word<R: Input, W: Output, E: Output>(
         state,
         world,
         depth,
-        MOST_LEVELS,
+        LEVELS_READ,
         word.pieces.as_slice(),
         &mut text,
     )?;
@@ -176,7 +179,7 @@ fn subst_pieces<R: Input, W: Output, E: Output>(
     requires shallow { depth ≤ most_depth }
     requires nests { PartsNest levels (parts_of (map part_of pieces.now)) }
     ensures spends { state.new.units ≤ state.old.units }
-    ensures run { AddsText (chars (string_bytes text.old)) (chars (string_bytes text.new)) result (exec Run (word_text depth (map part_of pieces.now)) (shown W.written E.written state.old world.old)) (shown W.written E.written state.new world.new) }
+    ensures run { ValueFollows (λ _. chars (string_bytes text.new)) result (exec Run (behind (chars (string_bytes text.old)) (pieces_text depth (map part_of pieces.now))) (shown W.written E.written state.old world.old)) (shown W.written E.written state.new world.new) }
     ensures leaves { Leaves R.to_come W.failed_calls E.failed_calls (value_is_io result) world.old world.new }
 {
     'pieces: for piece in pieces {
@@ -199,7 +202,7 @@ fn subst_piece<R: Input, W: Output, E: Output>(
     requires shallow { depth ≤ most_depth }
     requires nests { PartNests levels (part_of piece.now) }
     ensures spends { state.new.units ≤ state.old.units }
-    ensures run { AddsText (chars (string_bytes text.old)) (chars (string_bytes text.new)) result (exec Run (piece_text depth (part_of piece.now)) (shown W.written E.written state.old world.old)) (shown W.written E.written state.new world.new) }
+    ensures run { ValueFollows (λ _. chars (string_bytes text.new)) result (exec Run (behind (chars (string_bytes text.old)) (piece_text depth (part_of piece.now))) (shown W.written E.written state.old world.old)) (shown W.written E.written state.new world.new) }
     ensures leaves { Leaves R.to_come W.failed_calls E.failed_calls (value_is_io result) world.old world.new }
 {
     match piece {

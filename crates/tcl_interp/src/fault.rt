@@ -1,8 +1,8 @@
 //! Why an evaluation has no completion.
 ghost use Rattle.std.specs.Prelude.{◌≡◌};
-ghost use Rattle.tcl_interp.specs.declared.fault.Fault.TheVariants as fault;
+ghost use Rattle.tcl_interp.specs.declared.fault.EvalFault.TheVariants as fault;
 ghost use Rattle.tcl_interp.specs.declared.fault.Halt.TheVariants as halt;
-ghost use Rattle.tcl_interp.specs.Endings.{fault_by};
+ghost use Rattle.tcl_interp.specs.Fault.{fault_by};
 
 use crate::completion::Completion;
 use std::alloc::{AllocError, AllocFailed};
@@ -10,7 +10,7 @@ use tcl_chan::fault::ChanFault;
 
 /// Why an evaluation has no completion.
 #[derive(Clone, Copy, Debug, PartialEq, Eq)]
-pub(crate) enum Fault {
+pub(crate) enum EvalFault {
     /// A unit was wanting.
     Budget,
     /// A growth was refused.
@@ -23,33 +23,24 @@ pub(crate) enum Fault {
 #[derive(Drop)]
 pub(crate) enum Halt {
     Stops(Completion),
-    Faulted(Fault),
+    Faulted(EvalFault),
 }
 
-impl From<AllocError> for Fault {
+impl From<AllocError> for EvalFault {
     ghost from_gives = { λ _ f. f ≡ fault.Memory };
 
-    fn from(_refused: AllocError) -> Fault {
-        Fault::Memory
+    fn from(_refused: AllocError) -> EvalFault {
+        EvalFault::Memory
     }
 }
 
-// A parser is refused for want of memory alone.
-impl From<tcl_chars::Fault> for Fault {
-    ghost from_gives = { λ _ f. f ≡ fault.Memory };
-
-    fn from(_refused: tcl_chars::Fault) -> Fault {
-        Fault::Memory
-    }
-}
-
-impl From<ChanFault> for Fault {
+impl From<ChanFault> for EvalFault {
     ghost from_gives = { λ e f. f ≡ fault_by e };
 
-    fn from(refused: ChanFault) -> Fault {
+    fn from(refused: ChanFault) -> EvalFault {
         match refused {
-            ChanFault::Memory => Fault::Memory,
-            ChanFault::Read | ChanFault::Write => Fault::Io,
+            ChanFault::Memory => EvalFault::Memory,
+            ChanFault::Read | ChanFault::Write => EvalFault::Io,
         }
     }
 }
@@ -58,7 +49,7 @@ impl From<AllocError> for Halt {
     ghost from_gives = { λ _ h. h ≡ halt.Faulted fault.Memory };
 
     fn from(_refused: AllocError) -> Halt {
-        Halt::Faulted(Fault::Memory)
+        Halt::Faulted(EvalFault::Memory)
     }
 }
 
@@ -66,14 +57,14 @@ impl<T: Drop> From<AllocFailed<T>> for Halt {
     ghost from_gives = { λ _ h. h ≡ halt.Faulted fault.Memory };
 
     fn from(_refused: AllocFailed<T>) -> Halt {
-        Halt::Faulted(Fault::Memory)
+        Halt::Faulted(EvalFault::Memory)
     }
 }
 
-impl From<Fault> for Halt {
+impl From<EvalFault> for Halt {
     ghost from_gives = { λ e h. h ≡ halt.Faulted e };
 
-    fn from(fault: Fault) -> Halt {
+    fn from(fault: EvalFault) -> Halt {
         Halt::Faulted(fault)
     }
 }

@@ -1,6 +1,6 @@
 //! What a host asks of an interpreter, and what it is answered.
 ghost use Rattle.std.specs.Prelude.{◌≡◌};
-ghost use Rattle.tcl_interp.specs.Faults.{fault_of};
+ghost use Rattle.tcl_interp.specs.Host.{var_fault};
 ghost use Rattle.tcl_interp.specs.declared.host.VarFault.TheVariants as var;
 ghost use Rattle.tcl_interp.specs.declared.host.HostFault.TheVariants as host;
 
@@ -33,7 +33,7 @@ pub enum VarFault {
 }
 
 impl From<Refusal> for VarFault {
-    ghost from_gives = { λ refusal fault. fault ≡ fault_of refusal };
+    ghost from_gives = { λ refusal fault. fault ≡ var_fault refusal };
 
     fn from(refusal: Refusal) -> VarFault {
         match refusal {

@@ -3,14 +3,15 @@ ghost use Rattle.std.specs.Prelude.{◌≡◌, ◌↔◌, true, false, IsTrue, I
 ghost use Rattle.std.specs.FinMap as map;
 ghost use Rattle.std.specs.Str.{chars};
 ghost use Rattle.tcl_chan.specs.Worlds.{stdout, stderr};
-ghost use Rattle.tcl_meaning.specs.Run.{run_script, first_state};
-ghost use Rattle.tcl_interp.specs.Outcomes.{Ends, outcome_fails, outcome_is_io};
-ghost use Rattle.tcl_interp.specs.Shown.{Leaves};
-ghost use Rattle.tcl_meaning.specs.State.{text};
+ghost use Rattle.tcl_meaning.specs.Run.{run_script};
+ghost use Rattle.tcl_interp.specs.Outcome.{Ends, outcome_fails, outcome_is_io};
+ghost use Rattle.tcl_interp.specs.Channels.{Leaves};
+ghost use Rattle.tcl_meaning.specs.State.{text, state_with};
 ghost use Rattle.tcl_meaning.specs.Variables.{get, put};
 ghost use Rattle.tcl_names.specs.Named.{text_of};
-ghost use Rattle.tcl_interp.specs.Faults.{IsRefusal, RefusesPut};
-ghost use Rattle.tcl_interp.specs.HostVars.{host_text, AreAll};
+ghost use Rattle.tcl_interp.specs.Host.{IsRefusal, RefusesPut};
+ghost use Rattle.tcl_interp.specs.Host.{host_text, AreAll};
+ghost use Rattle.tcl_chars.specs.declared.fault.Fault.TheVariants.{Memory};
 ghost use Rattle.tcl_interp.specs.declared.host.HostFault.TheVariants as host;
 ghost use Rattle.tcl_interp.specs.declared.host.Outcome.TheVariants as outcome;
 
@@ -38,7 +39,7 @@ pub struct Interp {
 }
 
 impl Model for Interp {
-    ghost use Rattle.tcl_interp.specs.Interps.{Shows, shows_code};
+    ghost use Rattle.tcl_interp.specs.Interp.{Shows, shows_code};
 
     ghost Value = { Shows };
 
@@ -56,6 +57,7 @@ impl Interp {
         ensures dialect { IfOk result (λ interp. interp.dialect ≡ config.dialect) }
         ensures globals { IfOk result (λ interp. interp.globals ≡ map.empty) }
         ensures sound { IfOk result (λ interp. interp.failed ≡ false) }
+        ensures fault { IfErr result (λ fault. fault ≡ Memory) }
     {
         Ok(Interp {
             alloc,
@@ -86,7 +88,7 @@ impl Interp {
         ensures idle { IsTrue self.old.failed → self.new ≡ self.old }
         ensures still { IsTrue self.old.failed → world.new ≡ world.old }
         ensures run { self.old.failed ≡ false →
-            Ends result (run_script (chars script.now) (first_state self.old.globals (W.written (stdout world.old)) (E.written (stderr world.old)) budget))
+            Ends result (run_script (chars script.now) (state_with self.old.globals (W.written (stdout world.old)) (E.written (stderr world.old)) budget))
             self.new.globals (W.written (stdout world.new)) (E.written (stderr world.new)) }
         ensures fails { self.old.failed ≡ false → self.new.failed ≡ outcome_fails result }
         ensures dialect { self.new.dialect ≡ self.old.dialect }

@@ -11,12 +11,10 @@ mod lookup;
 mod names;
 mod outcome;
 mod pages;
-#[cfg(test)]
-mod tests;
 mod value;
 mod variables;
-mod whole;
+mod report;
 
 pub use host::{Config, HostFault, HostVar, Outcome, VarFault};
 pub use interp::Interp;
-pub use whole::{Report, run};
+pub use report::{Report, run};

@@ -1,17 +1,20 @@
 //! What a word calls, and the texts of variables.
-ghost use Rattle.std.specs.Prelude.{◌≡◌, ℕ, List, codes, Option, false};
+ghost use Rattle.std.specs.Prelude.{◌≡◌, ℕ, List, map, Option, false};
 ghost use Rattle.std.specs.Str.{chars};
 ghost use Rattle.std.specs.String.{string_bytes};
 ghost use Rattle.tcl_meaning.specs.Effects.{exec};
-ghost use Rattle.tcl_meaning.specs.Pages.{same_text};
 ghost use Rattle.tcl_meaning.specs.Substitution.{read};
-ghost use Rattle.tcl_meaning.specs.Script.{Run, invoke, page_named, page_of};
-ghost use Rattle.tcl_interp.specs.Endings.{Follows, AddsText, is_io, value_is_io};
-ghost use Rattle.tcl_interp.specs.Shown.{shown, set_state, Leaves};
+ghost use Rattle.tcl_meaning.specs.Value.{behind};
+ghost use Rattle.tcl_meaning.specs.Script.{Run, invoke, looked_up, page_of};
+ghost use Rattle.tcl_interp.specs.Evaluate.{Follows, ValueFollows};
+ghost use Rattle.tcl_interp.specs.Fault.{is_io, value_is_io};
+ghost use Rattle.tcl_interp.specs.Evaluation.{shown};
+ghost use Rattle.tcl_interp.specs.Channels.{Leaves};
+ghost use Rattle.tcl_meaning.specs.State.{state_with};
 
 use crate::completion::Completion;
 use crate::evaluation::Evaluation;
-use crate::fault::{Fault, Halt};
+use crate::fault::{EvalFault, Halt};
 use crate::names::{is_text, without_colons};
 use crate::pages::{puts_page, set_page};
 use crate::value::Value;
@@ -30,7 +33,7 @@ pub(crate) fn add_variable(
     text: &mut String,
 ) -> Result<(), Halt>
     ensures quiet { value_is_io result ≡ false }
-    ensures run { (out err : Option (List ℕ)) (units : ℕ) → AddsText (chars (string_bytes text.old)) (chars (string_bytes text.new)) result (exec Run (read (chars name.now)) (set_state variables.now out err units)) (set_state variables.now out err units) }
+    ensures run { (out err : Option (List ℕ)) (units : ℕ) → ValueFollows (λ _. chars (string_bytes text.new)) result (exec Run (behind (chars (string_bytes text.old)) (read (chars name.now))) (state_with variables.now out err units)) (state_with variables.now out err units) }
 {
     match variables.find(name) {
         Ok(value) => {
@@ -41,33 +44,28 @@ pub(crate) fn add_variable(
     }
 }
 
-// Is the name that of `set`?
-fn is_set(name: &str) -> bool
-    ensures { result ≡ same_text (chars name.now) (codes "set") }
-{
-    is_text(name, "set")
-}
+// The commands by their names.
+const PAGE_NAMES: [(&str, Page); 2] = [("set", Page::Set), ("puts", Page::Puts)];
 
-// Is the name that of `puts`?
-fn is_puts(name: &str) -> bool
-    ensures { result ≡ same_text (chars name.now) (codes "puts") }
+// What a table has for a name.
+fn look_up(table: &[(&str, Page)], name: &str) -> Option<Page>
+    ensures { result ≡ looked_up (map (λ entry. (chars entry.0.now, entry.1)) table.now) (chars name.now) }
 {
-    is_text(name, "puts")
+    let mut rest = table;
+    'entries: while let [(known, page), others @ ..] = rest {
+        if is_text(name, known) {
+            return Some(*page);
+        }
+        rest = others;
+    }
+    None
 }
 
 // The command that a word calls.
-#[tactic(auto, unfolding(tcl_meaning::specs::Script::page_named))]
 fn page_of(word: &str) -> Option<Page>
     ensures { result ≡ page_of (chars word.now) }
 {
-    let name = without_colons(word);
-    if is_set(name) {
-        Some(Page::Set)
-    } else if is_puts(name) {
-        Some(Page::Puts)
-    } else {
-        None
-    }
+    look_up(&PAGE_NAMES, without_colons(word))
 }
 
 /// Runs the command of these words.
@@ -76,7 +74,7 @@ pub(crate) fn invoke<R: Input, W: Output, E: Output>(
     state: &mut Evaluation,
     world: &mut World<'_, '_, '_, R, W, E>,
     words: &[Value],
-) -> Result<Completion, Fault>
+) -> Result<Completion, EvalFault>
     ensures spends { state.new.units ≡ state.old.units }
     ensures run { Follows result (exec Run (invoke words.now) (shown W.written E.written state.old world.old)) (shown W.written E.written state.new world.new) }
     ensures leaves { Leaves R.to_come W.failed_calls E.failed_calls (is_io result) world.old world.new }

@@ -89,9 +89,9 @@ fn whole_name(name: &str) -> Divided<'_>
 }
 
 /// The name of a variable, divided.
-#[tactic(auto, unfolding(tcl_meaning::specs::Variables::divided))]
+#[tactic(auto, unfolding(tcl_meaning::specs::Variables::divided_name))]
 pub(crate) fn divide(name: &str) -> Divided<'_>
-    ensures { name_of result ≡ spec.divided (chars name.now) }
+    ensures { name_of result ≡ spec.divided_name (chars name.now) }
 {
     let element = from_paren(name);
     let Some((_, index)) = split_first(element) else {

@@ -2,10 +2,11 @@
 ghost use Rattle.std.specs.Prelude.{◌≡◌, false, IfOk};
 ghost use Rattle.std.specs.Str.{chars};
 ghost use Rattle.tcl_meaning.specs.Run.{code_number, options_text, args_error};
-ghost use Rattle.tcl_interp.specs.Outcomes.{Tells, IsOutcomeOf, IsOutcome, outcome_fails, outcome_is_io};
+ghost use Rattle.tcl_interp.specs.Completion.{completion_of};
+ghost use Rattle.tcl_interp.specs.Outcome.{IsOutcome, IsOutcomeOf, outcome_fails, outcome_is_io};
 
 use crate::completion::Completion;
-use crate::fault::Fault;
+use crate::fault::EvalFault;
 use crate::host::Outcome;
 use std::alloc::{AllocError, Global};
 use std::rc::RcStr;
@@ -33,7 +34,7 @@ fn options_text(code: Code) -> &'static str
 
 // The outcome of a script that ended by itself.
 fn done(alloc: Global, completion: Completion, left: u64) -> Result<Outcome, AllocError>
-    ensures { IfOk result (λ outcome. IsOutcomeOf outcome completion left) }
+    ensures { IfOk result (λ outcome. IsOutcome outcome (completion_of completion) left) }
 {
     let code = code_number(completion.code);
     let options = RcStr::from_str(alloc, options_text(completion.code))?;
@@ -47,17 +48,17 @@ fn done(alloc: Global, completion: Completion, left: u64) -> Result<Outcome, All
 }
 
 /// The outcome of an evaluation that left so many units.
-pub(crate) fn outcome_of(alloc: Global, ended: Result<Completion, Fault>, left: u64) -> Outcome
-    ensures { Tells result ended left }
+pub(crate) fn outcome_of(alloc: Global, ended: Result<Completion, EvalFault>, left: u64) -> Outcome
+    ensures { IsOutcomeOf result ended left }
 {
     match ended {
         Ok(completion) => match done(alloc, completion, left) {
             Ok(outcome) => outcome,
             Err(_) => Outcome::Memory,
         },
-        Err(Fault::Budget) => Outcome::Budget,
-        Err(Fault::Memory) => Outcome::Memory,
-        Err(Fault::Io) => Outcome::Io,
+        Err(EvalFault::Budget) => Outcome::Budget,
+        Err(EvalFault::Memory) => Outcome::Memory,
+        Err(EvalFault::Io) => Outcome::Io,
     }
 }
 

@@ -4,15 +4,18 @@ ghost use Rattle.std.specs.Str.{chars};
 ghost use Rattle.tcl_meaning.specs.Effects.{exec};
 ghost use Rattle.tcl_meaning.specs.Completions.{failure, wrong_words};
 ghost use Rattle.tcl_meaning.specs.Pages.{same_text, set_usage, set_page, after_get, after_put, puts_usage, puts_page, put_text, input_only, output_of, line_of, is_nonewline};
-ghost use Rattle.tcl_meaning.specs.State.{Store};
+ghost use Rattle.tcl_meaning.specs.State.{Store, state_with};
 ghost use Rattle.tcl_meaning.specs.Variables.{get, put};
 ghost use Rattle.tcl_meaning.specs.Script.{Run};
-ghost use Rattle.tcl_interp.specs.Endings.{completion_of, Follows, is_io};
-ghost use Rattle.tcl_interp.specs.Named.{Names, output_at};
-ghost use Rattle.tcl_interp.specs.Shown.{set_state, world_state, Leaves};
+ghost use Rattle.tcl_interp.specs.Evaluate.{Follows};
+ghost use Rattle.tcl_interp.specs.Fault.{is_io};
+ghost use Rattle.tcl_interp.specs.Completion.{completion_of};
+ghost use Rattle.tcl_interp.specs.Pages.{IsDestination, output_at};
+ghost use Rattle.tcl_interp.specs.Evaluation.{world_state};
+ghost use Rattle.tcl_interp.specs.Channels.{Leaves};
 
 use crate::completion::Completion;
-use crate::fault::Fault;
+use crate::fault::EvalFault;
 use crate::names::is_text;
 use crate::value::Value;
 use crate::variables::{PutFault, Variables};
@@ -28,9 +31,9 @@ pub(crate) fn set_page(
     alloc: Global,
     variables: &mut Variables,
     args: &[Value],
-) -> Result<Completion, Fault>
+) -> Result<Completion, EvalFault>
     ensures quiet { is_io result ≡ false }
-    ensures run { (out err : Option (List ℕ)) (units : ℕ) → Follows result (exec Run (set_page args.now) (set_state variables.old out err units)) (set_state variables.new out err units) }
+    ensures run { (out err : Option (List ℕ)) (units : ℕ) → Follows result (exec Run (set_page args.now) (state_with variables.old out err units)) (state_with variables.new out err units) }
 {
     match args {
         [name] => read_variable(alloc, variables, name.as_str()),
@@ -47,9 +50,9 @@ fn set_usage(alloc: Global) -> Result<Completion, AllocError>
 }
 
 // Answers the value of a variable.
-fn read_variable(alloc: Global, variables: &Variables, name: &str) -> Result<Completion, Fault>
+fn read_variable(alloc: Global, variables: &Variables, name: &str) -> Result<Completion, EvalFault>
     ensures quiet { is_io result ≡ false }
-    ensures run { (out err : Option (List ℕ)) (units : ℕ) → Follows result (exec Run (after_get (chars name.now) (get variables.now (chars name.now))) (set_state variables.now out err units)) (set_state variables.now out err units) }
+    ensures run { (out err : Option (List ℕ)) (units : ℕ) → Follows result (exec Run (after_get (chars name.now) (get variables.now (chars name.now))) (state_with variables.now out err units)) (state_with variables.now out err units) }
 {
     match variables.find(name) {
         Ok(value) => Ok(Completion::normal(value.copy()?)),
@@ -63,24 +66,24 @@ fn write_variable(
     variables: &mut Variables,
     name: &str,
     value: &Value,
-) -> Result<Completion, Fault>
+) -> Result<Completion, EvalFault>
     ensures quiet { is_io result ≡ false }
-    ensures run { (out err : Option (List ℕ)) (units : ℕ) → Follows result (exec Run (after_put (chars name.now) value.now (put variables.old (chars name.now) value.now)) (set_state variables.old out err units)) (set_state variables.new out err units) }
+    ensures run { (out err : Option (List ℕ)) (units : ℕ) → Follows result (exec Run (after_put (chars name.now) value.now (put variables.old (chars name.now) value.now)) (state_with variables.old out err units)) (state_with variables.new out err units) }
 {
     let answer = value.copy()?;
     match variables.put(alloc, name, value.copy()?) {
         Ok(()) => Ok(Completion::normal(answer)),
         Err(PutFault::Refused(refusal)) => Ok(Completion::cant_set(alloc, name, refusal)?),
-        Err(PutFault::Memory) => Err(Fault::Memory),
+        Err(PutFault::Memory) => Err(EvalFault::Memory),
     }
 }
 
-// What a word says as an output.
+// Where a text goes.
 #[derive(Drop)]
-enum Named {
-    Output(Out),
-    // With the error.
-    Nothing(Completion),
+enum Destination {
+    To(Out),
+    // No output: the error of its name.
+    Nowhere(Completion),
 }
 
 // Is the name standard output's?
@@ -120,19 +123,19 @@ fn puts_usage(alloc: Global) -> Result<Completion, AllocError>
 
 // The output of a name.
 #[tactic(auto, unfolding(tcl_meaning::specs::Pages::output_of))]
-fn output_named(alloc: Global, name: &str) -> Result<Named, AllocError>
-    ensures { IfOk result (λ named. Names named (output_of (chars name.now))) }
+fn output_named(alloc: Global, name: &str) -> Result<Destination, AllocError>
+    ensures { IfOk result (λ to. IsDestination to (output_of (chars name.now))) }
 {
     if is_stdout(name) {
-        return Ok(Named::Output(Out::Stdout));
+        return Ok(Destination::To(Out::Stdout));
     }
     if is_stderr(name) {
-        return Ok(Named::Output(Out::Stderr));
+        return Ok(Destination::To(Out::Stderr));
     }
     if is_stdin(name) {
-        return Ok(Named::Nothing(input_only(alloc)?));
+        return Ok(Destination::Nowhere(input_only(alloc)?));
     }
-    Ok(Named::Nothing(Completion::unknown_channel(alloc, name)?))
+    Ok(Destination::Nowhere(Completion::unknown_channel(alloc, name)?))
 }
 
 // Writes a text to an output.
@@ -140,7 +143,7 @@ fn write_text<R: Input, W: Output, E: Output>(
     world: &mut World<'_, '_, '_, R, W, E>,
     to: Out,
     text: &str,
-) -> Result<Completion, Fault>
+) -> Result<Completion, EvalFault>
     ensures run { (store : Store) (units : ℕ) → Follows result (exec Run (put_text (Ok (output_at to)) (chars text.now)) (world_state W.written E.written store world.old units)) (world_state W.written E.written store world.new units) }
     ensures leaves { Leaves R.to_come W.failed_calls E.failed_calls (is_io result) world.old world.new }
 {
@@ -154,7 +157,7 @@ fn write_line<R: Input, W: Output, E: Output>(
     world: &mut World<'_, '_, '_, R, W, E>,
     to: Out,
     text: &str,
-) -> Result<Completion, Fault>
+) -> Result<Completion, EvalFault>
     ensures run { (store : Store) (units : ℕ) → Follows result (exec Run (put_text (Ok (output_at to)) (line_of (chars text.now))) (world_state W.written E.written store world.old units)) (world_state W.written E.written store world.new units) }
     ensures leaves { Leaves R.to_come W.failed_calls E.failed_calls (is_io result) world.old world.new }
 {
@@ -171,13 +174,13 @@ fn write_named<R: Input, W: Output, E: Output>(
     channel: &str,
     text: &str,
     newline: bool,
-) -> Result<Completion, Fault>
+) -> Result<Completion, EvalFault>
     ensures run { (store : Store) (units : ℕ) → Follows result (exec Run (put_text (output_of (chars channel.now)) (if newline then line_of (chars text.now) else chars text.now)) (world_state W.written E.written store world.old units)) (world_state W.written E.written store world.new units) }
     ensures leaves { Leaves R.to_come W.failed_calls E.failed_calls (is_io result) world.old world.new }
 {
     match output_named(alloc, channel)? {
-        Named::Nothing(completion) => Ok(completion),
-        Named::Output(to) => {
+        Destination::Nowhere(completion) => Ok(completion),
+        Destination::To(to) => {
             if newline {
                 write_line(alloc, world, to, text)
             } else {
@@ -193,7 +196,7 @@ pub(crate) fn puts_page<R: Input, W: Output, E: Output>(
     alloc: Global,
     world: &mut World<'_, '_, '_, R, W, E>,
     args: &[Value],
-) -> Result<Completion, Fault>
+) -> Result<Completion, EvalFault>
     ensures run { (store : Store) (units : ℕ) → Follows result (exec Run (puts_page args.now) (world_state W.written E.written store world.old units)) (world_state W.written E.written store world.new units) }
     ensures leaves { Leaves R.to_come W.failed_calls E.failed_calls (is_io result) world.old world.new }
 {

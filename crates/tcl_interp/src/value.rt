@@ -16,7 +16,7 @@ pub(crate) struct Value {
 
 impl Model for Value {
     ghost use Rattle.std.specs.Prelude.{List, ℕ};
-    ghost use Rattle.tcl_interp.specs.Values.{shown_text};
+    ghost use Rattle.tcl_interp.specs.Value.{shown_text};
 
     ghost Value = { List ℕ };
 

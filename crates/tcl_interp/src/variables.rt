@@ -5,9 +5,9 @@ ghost use Rattle.std.specs.Str.{chars};
 ghost use Rattle.std.specs.Option.{option_copied};
 ghost use Rattle.tcl_meaning.specs.Variables.{get, get_in, put, put_in, put_named};
 ghost use Rattle.tcl_meaning.specs.State.{text, array};
-ghost use Rattle.tcl_interp.specs.Puts.{Refuses};
+ghost use Rattle.tcl_interp.specs.Variables.{Refuses};
 ghost use Rattle.tcl_interp.specs.Names.{name_of};
-ghost use Rattle.tcl_interp.specs.HostVars.{AreElements, IsVar, AreAll};
+ghost use Rattle.tcl_interp.specs.Host.{AreElements, IsVar, AreAll};
 
 use crate::host::HostVar;
 use crate::names::{Divided, divide};

@@ -36,7 +36,7 @@ fn beginning(closed: Closed) -> &'static str
     }
 }
 
-/// WritesBehind the characters of a text up to list space.
+/// Writes the characters of a text up to list space.
 fn push_to_space(message: &mut String, text: &str) -> Result<(), AllocError>
     ensures { OnOk result (chars (string_bytes message.new)
         ≡ chars (string_bytes message.old) ++ up_to_space (chars text.now)) }

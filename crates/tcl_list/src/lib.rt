@@ -5,8 +5,6 @@ mod braces;
 mod faults;
 pub mod laws;
 mod reading;
-#[cfg(test)]
-mod tests;
 mod writing;
 
 pub use reading::split;

@@ -97,7 +97,7 @@ fn behind_backslash(c: char) -> Option<char>
     }
 }
 
-/// WritesBehind the characters of an element, behind backslashes where they need them.
+/// Writes the characters of an element, behind backslashes where they need them.
 fn push_escaped(text: &mut String, element: &str) -> Result<(), AllocError>
     ensures { WritesBehind (chars (string_bytes text.old)) (chars (string_bytes text.new))
         (all_escaped (chars element.now)) result }
@@ -116,7 +116,7 @@ fn push_escaped(text: &mut String, element: &str) -> Result<(), AllocError>
     Ok(())
 }
 
-/// WritesBehind an element in its form.
+/// Writes an element in its form.
 #[tactic(auto, using(tcl_chars::proofs::Literals::literal_chars))]
 fn push_form(text: &mut String, element: &str, form: Form, first: bool) -> Result<(), AllocError>
     ensures { WritesBehind (chars (string_bytes text.old)) (chars (string_bytes text.new))
@@ -139,7 +139,7 @@ fn push_form(text: &mut String, element: &str, form: Form, first: bool) -> Resul
     }
 }
 
-/// WritesBehind an element, behind a space unless it is the first.
+/// Writes an element, behind a space unless it is the first.
 fn push_element(text: &mut String, element: &str, first: bool) -> Result<(), AllocError>
     ensures { WritesBehind (chars (string_bytes text.old)) (chars (string_bytes text.new))
         (appended first (chars element.now)) result }
@@ -151,7 +151,7 @@ fn push_element(text: &mut String, element: &str, first: bool) -> Result<(), All
     push_form(text, element, element_form(element, false), false)
 }
 
-/// WritesBehind one more element at the end of a list's text, behind a space unless it is the first.
+/// Writes one more element at the end of a list's text, behind a space unless it is the first.
 ///
 /// It takes the first form that reads back: `{}` for the empty text, bare, in braces, or with backslashes (list(n)).
 ///

@@ -10,9 +10,9 @@ use Rattle.tcl_meaning.specs.State.{State, with_units}
 use Rattle.tcl_meaning.specs.Completions.{Completion, failure, too_deep}
 use Rattle.tcl_meaning.specs.Beginnings.{state_of, OutputsBegin, Goes}
 use Rattle.tcl_meaning.specs.Effects.{Task, Script, Prog, Call, Got, Gives, Broke, on_got, exec, Now, paid, start, ◌>>=◌ as andthen}
-use Rattle.tcl_meaning.specs.Value.{Value, Has, Fails, ◌>>=◌, give, on_value}
-use Rattle.tcl_meaning.specs.Substitution.{piece_text, index_text, word_text, one_word, words_text}
-use Rattle.tcl_meaning.specs.Script.{most_levels, most_depth, Run, plan, by_first, sequence, rest_by, run_command, with_words}
+use Rattle.tcl_meaning.specs.Value.{Value, Has, Fails, ◌>>=◌, give, on_value, behind}
+use Rattle.tcl_meaning.specs.Substitution.{piece_text, index_text, pieces_text, one_word, words_text}
+use Rattle.tcl_meaning.specs.Script.{levels_read, most_depth, Run, plan, by_first, sequence, rest_by, run_command, with_words}
 use Rattle.tcl_meaning.proofs.Runs.{IsOnward, goes_same, exec-goes, exec-bind, outcome-goes, outcome-law}
 
 pub on_got-more : {A B : Type 0} (r : Got A) (f : A → State → Got B) → ((a : A) (t : State) → Goes t (state_of (f a t))) → Goes (state_of r) (state_of (on_got r f))
@@ -53,6 +53,33 @@ reach_call task f c r e = record { same = r.same ∙ ap (λ g. on_got g (λ b u.
 pub fails_value : {A B : Type 0} {got : Got (Value B)} (p : Prog (Value A)) (f : A → Prog (Value B)) {s t : State} (c : Completion) → Reaches got (p >>= f) s → exec Run p s ≡ Gives (Fails c) t → got ≡ Gives (Fails c) t
 fails_value p f {s} c r e = r.same ∙ exec-bind Run p (on_value f) s ∙ ap (λ g. on_got g (λ b u. exec Run (on_value f b) u)) e
 
+-- ---- values, one after another
+
+pub bind_bind : {A B C : Type 0} (p : Prog (Value A)) (f : A → Prog (Value B)) (g : B → Prog (Value C)) (s : State) → exec Run ((p >>= f) >>= g) s ≡ exec Run (p >>= (λ a. f a >>= g)) s
+bind_bind {A} {B} {C} p f g s =
+    exec-bind Run (p >>= f) (on_value g) s
+    ∙ ap (λ r. on_got r (λ v u. exec Run (on_value g v) u)) (exec-bind Run p (on_value f) s)
+    ∙ go (exec Run p s)
+    ∙ sym (exec-bind Run p (on_value (λ a. f a >>= g)) s)
+  where
+    go : (r : Got (Value A)) → on_got (on_got r (λ v u. exec Run (on_value f v) u)) (λ v u. exec Run (on_value g v) u) ≡ on_got r (λ v u. exec Run (on_value (λ a. f a >>= g) v) u)
+    go (Gives (Has a) u) = sym (exec-bind Run (f a) (on_value g) u)
+    go (Gives (Fails c) u) = refl
+    go (Broke u) = refl
+
+-- a value that is changed at once
+pub bind_give : {A B C : Type 0} (p : Prog (Value A)) (m : A → B) (f : B → Prog (Value C)) (g : A → Prog (Value C)) → ((a : A) → f (m a) ≡ g a) → (s : State) → exec Run ((p >>= (λ a. give (m a))) >>= f) s ≡ exec Run (p >>= g) s
+bind_give {A} {B} {C} p m f g h s =
+    bind_bind p (λ a. give (m a)) f s
+    ∙ exec-bind Run p (on_value (λ a. f (m a))) s
+    ∙ go (exec Run p s)
+    ∙ sym (exec-bind Run p (on_value g) s)
+  where
+    go : (r : Got (Value A)) → on_got r (λ v u. exec Run (on_value (λ a. f (m a)) v) u) ≡ on_got r (λ v u. exec Run (on_value g v) u)
+    go (Gives (Has a) u) = ap (λ q. exec Run q u) (h a)
+    go (Gives (Fails c) u) = refl
+    go (Broke u) = refl
+
 -- ---- words, gathered from left to right
 
 gather : {A B C : Type 0} (p : Prog (Value A)) (q : Prog (Value B)) (j : A → B → B) (k : B → C) (l : A → B → C) → ((a : A) (b : B) → k (j a b) ≡ l a b) → (s : State) → exec Run ((p >>= (λ a. q >>= (λ b. give (j a b)))) >>= (λ b. give (k b))) s ≡ exec Run (p >>= (λ a. q >>= (λ b. give (l a b)))) s
@@ -88,7 +115,7 @@ gather_start {B} k h q s = exec-bind Run q (on_value (λ b. give (k b))) s ∙ g
 
 -- the pieces that are left, after a text
 abbrev pub word_after : ℕ → List ℕ → List Part → Prog (Value (List ℕ))
-word_after d done ps = word_text d ps >>= (λ more. give (done ++ more))
+word_after d done ps = behind done (pieces_text d ps)
 
 abbrev pub words_after : ℕ → List (List ℕ) → List Shape → Prog (Value (List (List ℕ)))
 words_after d done ws = words_text d ws >>= (λ more. give (done ++ more))
@@ -96,14 +123,16 @@ words_after d done ws = words_text d ws >>= (λ more. give (done ++ more))
 abbrev pub shape_text : ℕ → Shape → Prog (Value (List ℕ))
 shape_text d w = one_word d w.expands w.pieces
 
-pub word_start : (d : ℕ) (ps : List Part) (s : State) → exec Run (word_text d ps) s ≡ exec Run (word_after d [] ps) s
-word_start d ps s = sym (gather_start (λ b. b) (λ b. refl) (word_text d ps) s)
+pub word_start : (d : ℕ) (ps : List Part) (s : State) → exec Run (pieces_text d ps) s ≡ exec Run (word_after d [] ps) s
+word_start d ps s = sym (gather_start (λ b. b) (λ b. refl) (pieces_text d ps) s)
 
 pub words_start : (d : ℕ) (ws : List Shape) (s : State) → exec Run (words_text d ws) s ≡ exec Run (words_after d [] ws) s
 words_start d ws s = sym (gather_start (λ b. b) (λ b. refl) (words_text d ws) s)
 
-word_next : (d : ℕ) (done : List ℕ) (p : Part) (ps : List Part) (s : State) → exec Run (word_after d done (p ∷ ps)) s ≡ exec Run (piece_text d p >>= (λ t. word_after d (done ++ t) ps)) s
-word_next d done p ps s = gather (piece_text d p) (word_text d ps) (λ t more. t ++ more) (λ more. done ++ more) (λ t more. (done ++ t) ++ more) (λ t more. sym (append_assoc done t more)) s
+word_next : (d : ℕ) (done : List ℕ) (p : Part) (ps : List Part) (s : State) → exec Run (word_after d done (p ∷ ps)) s ≡ exec Run (behind done (piece_text d p) >>= (λ t. word_after d t ps)) s
+word_next d done p ps s =
+    gather (piece_text d p) (pieces_text d ps) (λ t more. t ++ more) (λ more. done ++ more) (λ t more. (done ++ t) ++ more) (λ t more. sym (append_assoc done t more)) s
+    ∙ sym (bind_give (piece_text d p) (λ t. done ++ t) (λ t. word_after d t ps) (λ t. word_after d (done ++ t) ps) (λ t. refl) s)
 
 words_next : (d : ℕ) (done : List (List ℕ)) (w : Shape) (ws : List Shape) (s : State) → exec Run (words_after d done (w ∷ ws)) s ≡ exec Run (shape_text d w >>= (λ t. words_after d (done ++ t ∷ []) ws)) s
 words_next d done w ws s = gather (shape_text d w) (words_text d ws) (λ t more. t ∷ more) (λ more. done ++ more) (λ t more. (done ++ t ∷ []) ++ more) (λ t more. sym (append_assoc done (t ∷ []) more)) s
@@ -119,14 +148,14 @@ drop_here : {A : Type 0} (xs : List A) (i : ℕ) (x : A) → i < length xs → x
 drop_here xs i x h e = rw (add-one, drop-cons xs i x h) (ap (λ y. y ∷ drop (suc i) xs) (sym e))
 
 -- what is left of a word, at its next piece
-pub word_at : {got : Got (Value (List ℕ))} (d : ℕ) (done : List ℕ) (ps : List Part) (i : ℕ) (x : Part) (s : State) → got ≡ exec Run (word_after d done (drop i ps)) s → i < length ps → x ≡ get_or ps i x → Reaches got (piece_text d x >>= (λ t. word_after d (done ++ t) (drop (i + 1) ps))) s
+pub word_at : {got : Got (Value (List ℕ))} (d : ℕ) (done : List ℕ) (ps : List Part) (i : ℕ) (x : Part) (s : State) → got ≡ exec Run (word_after d done (drop i ps)) s → i < length ps → x ≡ get_or ps i x → Reaches got (behind done (piece_text d x) >>= (λ t. word_after d t (drop (i + 1) ps))) s
 word_at d done ps i x s r h e = record { same = r ∙ ap (λ l. exec Run (word_after d done l) s) (drop_here ps i x h e) ∙ word_next d done x (drop (i + 1) ps) s }
 
 pub words_at : {got : Got (Value (List (List ℕ)))} (d : ℕ) (done : List (List ℕ)) (ws : List Shape) (i : ℕ) (x : Shape) (s : State) → got ≡ exec Run (words_after d done (drop i ws)) s → i < length ws → x ≡ get_or ws i x → Reaches got (shape_text d x >>= (λ t. words_after d (done ++ t ∷ []) (drop (i + 1) ws))) s
 words_at d done ws i x s r h e = record { same = r ∙ ap (λ l. exec Run (words_after d done l) s) (drop_here ws i x h e) ∙ words_next d done x (drop (i + 1) ws) s }
 
 -- an index is substituted as a word is
-pub index-word : (d : ℕ) (ps : List Part) → index_text d (parts_of ps) ≡ word_text d ps
+pub index-word : (d : ℕ) (ps : List Part) → index_text d (parts_of ps) ≡ pieces_text d ps
 index-word d [] = refl
 index-word d (p ∷ ps) = ap (λ (q : Prog (Value (List ℕ))). piece_text d p >>= (λ t. q >>= (λ more. give (t ++ more)))) (index-word d ps)
 
@@ -139,25 +168,25 @@ spent s = with_units (s.units - 1) s
 module _ (d : ℕ) (last : Completion) (t : List ℕ) (s : State) where
   pub script_deep : most_depth < d → Run (Script d last t) s ≡ Gives too_deep s
   unfolding plan
-  script_deep h = outcome-law plan (Script d last t) s ∙ ap (λ b. start Run (cond b (Now too_deep) (by_first d last (first_command most_levels t))) s) (lt-ltb most_depth d h)
+  script_deep h = outcome-law plan (Script d last t) s ∙ ap (λ b. start Run (cond b (Now too_deep) (by_first d last (first_command levels_read t))) s) (lt-ltb most_depth d h)
 
-  pub script_plan : (f : First) → d ≤ most_depth → first_command most_levels t ≡ f → Run (Script d last t) s ≡ start Run (by_first d last f) s
+  pub script_plan : (f : First) → d ≤ most_depth → first_command levels_read t ≡ f → Run (Script d last t) s ≡ start Run (by_first d last f) s
   unfolding plan
   script_plan f h e =
       outcome-law plan (Script d last t) s
-      ∙ ap (λ b. start Run (cond b (Now too_deep) (by_first d last (first_command most_levels t))) s) (le-ltb most_depth d h)
+      ∙ ap (λ b. start Run (cond b (Now too_deep) (by_first d last (first_command levels_read t))) s) (le-ltb most_depth d h)
       ∙ ap (λ g. start Run (by_first d last g) s) e
 
-  pub script_end : (rest : List ℕ) → d ≤ most_depth → first_command most_levels t ≡ none rest → Run (Script d last t) s ≡ Gives last s
+  pub script_end : (rest : List ℕ) → d ≤ most_depth → first_command levels_read t ≡ none rest → Run (Script d last t) s ≡ Gives last s
   script_end rest h e = script_plan (none rest) h e
 
-  pub script_bad : (m : Syntax) → d ≤ most_depth → first_command most_levels t ≡ malformed m → Run (Script d last t) s ≡ Gives (failure (syntax_text m)) s
+  pub script_bad : (m : Syntax) → d ≤ most_depth → first_command levels_read t ≡ malformed m → Run (Script d last t) s ≡ Gives (failure (syntax_text m)) s
   script_bad m h e = script_plan (malformed m) h e
 
-  pub script_broke : (ws : List Shape) (rest : List ℕ) → d ≤ most_depth → first_command most_levels t ≡ command ws rest → s.units ≡ 0 → Run (Script d last t) s ≡ Broke s
+  pub script_broke : (ws : List Shape) (rest : List ℕ) → d ≤ most_depth → first_command levels_read t ≡ command ws rest → s.units ≡ 0 → Run (Script d last t) s ≡ Broke s
   script_broke ws rest h e z = script_plan (command ws rest) h e ∙ ap (paid Run (sequence d ws rest) s) z
 
-  pub script_paid : {got : Got Completion} (ws : List Shape) (rest : List ℕ) → d ≤ most_depth → first_command most_levels t ≡ command ws rest → 0 < s.units → got ≡ Run (Script d last t) s → Reaches got (sequence d ws rest) (spent s)
+  pub script_paid : {got : Got Completion} (ws : List Shape) (rest : List ℕ) → d ≤ most_depth → first_command levels_read t ≡ command ws rest → 0 < s.units → got ≡ Run (Script d last t) s → Reaches got (sequence d ws rest) (spent s)
   script_paid ws rest h e n r =
       let z : s.units ≡ suc (s.units - 1) = omega arith in
       record { same = r ∙ script_plan (command ws rest) h e ∙ ap (paid Run (sequence d ws rest) s) z }

@@ -4,7 +4,7 @@ use Rattle.std.specs.FinMap as map
 use Rattle.tcl_meaning.specs.declared.code.Code.{Code}
 use Rattle.tcl_meaning.specs.declared.code.Code.TheVariants as code
 use Rattle.tcl_meaning.specs.Completions.{Completion, normal, failure}
-use Rattle.tcl_meaning.specs.State.{text, Variables, State}
+use Rattle.tcl_meaning.specs.State.{text, Variables, State, state_with}
 use Rattle.tcl_meaning.specs.Effects.{Script, Got, Gives}
 use Rattle.tcl_meaning.specs.Script.{Run}
 
@@ -29,11 +29,8 @@ args_error = failure (codes "script arguments come with lists")
 abbrev pub args_put : List ℕ → Variables
 args_put name = map.insert (map.insert (map.insert map.empty (codes "argv0") (text name)) (codes "argv") (text [])) (codes "argc") (text (codes "0"))
 
-abbrev pub first_state : Variables → Option (List ℕ) → Option (List ℕ) → ℕ → State
-first_state vs out err budget = record { store = record { globals = vs }; out = out; err = err; units = budget }
-
 -- More than one word is refused until tclint writes lists.
 abbrev pub run_with_args : List ℕ → List (List ℕ) → Option (List ℕ) → Option (List ℕ) → ℕ → Got Completion
-run_with_args script [] out err budget = run_script script (first_state (args_put []) out err budget)
-run_with_args script (name ∷ []) out err budget = run_script script (first_state (args_put name) out err budget)
-run_with_args script (name ∷ more ∷ others) out err budget = Gives args_error (first_state map.empty out err budget)
+run_with_args script [] out err budget = run_script script (state_with (args_put []) out err budget)
+run_with_args script (name ∷ []) out err budget = run_script script (state_with (args_put name) out err budget)
+run_with_args script (name ∷ more ∷ others) out err budget = Gives args_error (state_with map.empty out err budget)

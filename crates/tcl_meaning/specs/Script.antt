@@ -16,19 +16,21 @@ use Rattle.tcl_meaning.specs.Variables.{without_colons}
 use Rattle.tcl_meaning.specs.Pages.{same_text, set_page, puts_page}
 
 -- Brackets and array indices may stand in one another this deep. They are refused until tclint reads lists.
-abbrev pub most_levels : ℕ
-most_levels = 0
+abbrev pub levels_read : ℕ
+levels_read = 0
 
--- the command of a name
-unfoldable pub page_named : List ℕ → Option Page
-page_named name =
-    if same_text name (codes "set") then Some Set
-    else if same_text name (codes "puts") then Some Puts
-    else None
+-- the commands by their names
+unfoldable pub page_names : List (List ℕ × Page)
+page_names = (codes "set", Set) ∷ (codes "puts", Puts) ∷ []
+
+-- what a table has for a name
+abbrev pub looked_up : {A : Type 0} → List (List ℕ × A) → List ℕ → Option A
+looked_up [] name = None
+looked_up (entry ∷ table) name = if same_text name entry.0 then Some entry.1 else looked_up table name
 
 -- Leading colons are no part of a command's name.
 abbrev pub page_of : List ℕ → Option Page
-page_of word = page_named (without_colons word)
+page_of word = looked_up page_names (without_colons word)
 
 abbrev pub unknown_command : List ℕ → Completion
 unknown_command word = failure (codes "invalid command name \"" ++ word ++ codes "\"")
@@ -74,7 +76,7 @@ abbrev pub most_depth : ℕ
 most_depth = 1000
 
 unfoldable pub plan : Task → Plan
-plan (Script d last t) = if nat_lt most_depth d then Now too_deep else by_first d last (first_command most_levels t)
+plan (Script d last t) = if nat_lt most_depth d then Now too_deep else by_first d last (first_command levels_read t)
 
 -- what a task comes to
 abbrev pub Run : Task → State → Got Completion

@@ -5,8 +5,8 @@ use Rattle.tcl_meaning.specs.declared.refusal.Refusal.{Refusal}
 use Rattle.tcl_meaning.specs.declared.code.Code.{Code}
 use Rattle.tcl_meaning.specs.declared.code.Code.TheVariants as code
 use Rattle.tcl_meaning.specs.Completions.{Completion, normal, failure}
-use Rattle.tcl_meaning.specs.Effects.{Task, Script, Prog}
-use Rattle.tcl_meaning.specs.Value.{Value, ◌>>=◌, give, fail, look, call}
+use Rattle.tcl_meaning.specs.Effects.{Task, Script, Prog, look, call}
+use Rattle.tcl_meaning.specs.Value.{Value, ◌>>=◌, give, fail, always}
 use Rattle.tcl_meaning.specs.Variables.{get, cant_read}
 
 -- a script that a command or a bracket of a script of this depth runs
@@ -20,7 +20,7 @@ read_result name (Err refusal) = fail (cant_read name refusal)
 -- the text of a variable
 abbrev pub read : List ℕ → Prog (Value (List ℕ))
 read name = do
-  s ← look
+  s ← always look
   read_result name (get s.globals name)
 
 -- A bracket is replaced by its script's result; a completion that isn't ok is the command's.
@@ -41,7 +41,7 @@ abbrev mutual
     i ← index_text d index
     read (spelled_element name.text i)
   piece_text d (bracket s script) = do
-    c ← call (inside d script.text)
+    c ← always (call (inside d script.text))
     bracket_result c.code c.result
 
   pub index_text : ℕ → Parts → Prog (Value (List ℕ))
@@ -51,11 +51,11 @@ abbrev mutual
     more ← index_text d ps
     give (t ++ more)
 
-abbrev pub word_text : ℕ → List Part → Prog (Value (List ℕ))
-word_text d [] = give []
-word_text d (p ∷ ps) = do
+abbrev pub pieces_text : ℕ → List Part → Prog (Value (List ℕ))
+pieces_text d [] = give []
+pieces_text d (p ∷ ps) = do
   t ← piece_text d p
-  more ← word_text d ps
+  more ← pieces_text d ps
   give (t ++ more)
 
 -- A word with `{*}` in front is refused until tclint reads lists.
@@ -64,7 +64,7 @@ no_expansion = failure (codes "word expansion comes with lists")
 
 abbrev pub one_word : ℕ → Bool → List Part → Prog (Value (List ℕ))
 one_word d true ps = fail no_expansion
-one_word d false ps = word_text d ps
+one_word d false ps = pieces_text d ps
 
 -- the words of a command, from left to right
 abbrev pub words_text : ℕ → List Shape → Prog (Value (List (List ℕ)))

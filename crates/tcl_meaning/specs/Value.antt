@@ -1,7 +1,7 @@
 -- Programs whose value may be missing, with the completion that stands in its place.
-use Rattle.tcl_meaning.specs.State.{Store}
+use Rattle.std.specs.Prelude.{ℕ, List, ◌++◌}
 use Rattle.tcl_meaning.specs.Completions.{Completion}
-use Rattle.tcl_meaning.specs.Effects.{Task, Prog, Give, Look, Call, ◌>>=◌ as andthen}
+use Rattle.tcl_meaning.specs.Effects.{Prog, Give, ◌>>=◌ as andthen}
 
 pub data Value (A : Type 0) : Type 0 where
   Has : A → Value A
@@ -21,8 +21,10 @@ give a = Give (Has a)
 abbrev pub fail : {A : Type 0} → Completion → Prog (Value A)
 fail c = Give (Fails c)
 
-abbrev pub look : Prog (Value Store)
-look = Look (λ s. Give (Has s))
+-- the text that a program gives, behind another
+abbrev pub behind : List ℕ → Prog (Value (List ℕ)) → Prog (Value (List ℕ))
+behind front p = p >>= λ t. give (front ++ t)
 
-abbrev pub call : Task → Prog (Value Completion)
-call task = Call task (λ c. Give (Has c))
+-- a program whose value is never missing
+abbrev pub always : {A : Type 0} → Prog A → Prog (Value A)
+always p = andthen p give

@@ -48,25 +48,25 @@ by_paren name (c ∷ index) =
     else whole_name name
 
 -- A name that ends in `)` and has a `(` is an element's, and the first `(` divides it.
-unfoldable pub divided : List ℕ → Name
-divided name = by_paren name (from_paren name)
+unfoldable pub divided_name : List ℕ → Name
+divided_name name = by_paren name (from_paren name)
 
 -- ---- reading and writing
 
-abbrev pub element_in : Option (List ℕ) → Result (List ℕ) Refusal
-element_in None = Err NoElement
-element_in (Some t) = Ok t
+abbrev pub element_text : Option (List ℕ) → Result (List ℕ) Refusal
+element_text None = Err NoElement
+element_text (Some t) = Ok t
 
 abbrev pub get_in : Option Variable → Option (List ℕ) → Result (List ℕ) Refusal
 get_in None index = Err NoSuch
 get_in (Some (text t)) None = Ok t
 get_in (Some (text t)) (Some i) = Err IsntArray
 get_in (Some (array m)) None = Err IsArray
-get_in (Some (array m)) (Some i) = element_in (map.get m i)
+get_in (Some (array m)) (Some i) = element_text (map.get m i)
 
 -- the text of a variable or of an element
 unfoldable pub get : Variables → List ℕ → Result (List ℕ) Refusal
-get vs name = get_in (map.get vs (divided name).base) (divided name).index
+get vs name = get_in (map.get vs (divided_name name).base) (divided_name name).index
 
 abbrev pub put_in : Option Variable → Option (List ℕ) → List ℕ → Result Variable Refusal
 put_in None None t = Ok (text t)
@@ -85,7 +85,7 @@ put_named vs name t = put_at vs name.base (put_in (map.get vs name.base) name.in
 
 -- the variables with a text under a name, which is made where it is missing
 unfoldable pub put : Variables → List ℕ → List ℕ → Result Variables Refusal
-put vs name t = put_named vs (divided name) t
+put vs name t = put_named vs (divided_name name) t
 
 -- ---- what the refusals say
 

@@ -79,16 +79,11 @@ abbrev pub element_or_empty : List Text → ℤ → Text
 element_or_empty es (pos k) = get_or es k []
 element_or_empty es (negsuc k) = []
 
--- A word is a list of indices, and one that is no list is itself an index, though none that can be read.
-abbrev pub listed : Text → Answer (List Text) → List Text
-listed word (Ok indices) = indices
-listed word (Err message) = word ∷ []
-
 -- the indices that words give: one word is a list of them
-abbrev pub indices_of : List Text → List Text
-indices_of [] = []
-indices_of (word ∷ []) = listed word (elements_of word)
-indices_of (word ∷ other ∷ words) = word ∷ other ∷ words
+abbrev pub indices_of : List Text → Answer (List Text)
+indices_of [] = Ok []
+indices_of (word ∷ []) = elements_of word
+indices_of (word ∷ other ∷ words) = Ok (word ∷ other ∷ words)
 
 -- ---- lassign
 
@@ -119,10 +114,17 @@ module _ (dialect : Dialect) where
     place ← index i (length es)
     element_at (element_or_empty es place) is
 
+  -- where the indices are a word that is no list, a list that is none either is the fault in front
+  abbrev pub element_by : Text → Answer (List Text) → Answer Text
+  element_by list (Ok indices) = element_at list indices
+  element_by list (Err message) = do
+    es ← elements_of list
+    Err message
+
   -- lindex list ?index ...?
   abbrev pub lindex : List Text → Answer Text
   lindex [] = usage (literal "lindex list ?index ...?")
-  lindex (list ∷ indices) = element_at list (indices_of indices)
+  lindex (list ∷ indices) = element_by list (indices_of indices)
 
   -- ---- lrange, linsert, lreplace
 
@@ -198,9 +200,15 @@ module _ (dialect : Dialect) where
     inner ← element_set (get_or es k []) is v
     Ok (written (with_element es k inner))
 
-  -- lset varName ?index ...? newValue, without its last word
+  abbrev pub set_by : Text → Answer (List Text) → Text → Answer Text
+  set_by old (Ok indices) v = element_set old indices v
+  set_by old (Err message) v = do
+    es ← elements_of old
+    Err message
+
+  -- lset varName ?index ...? newValue: the variable's text, the indices and the new value
   abbrev pub lset : Text → List Text → Text → Answer Text
-  lset old indices v = element_set old (indices_of indices) v
+  lset old indices v = set_by old (indices_of indices) v
 
 -- the list with more elements; without any it stays as it is
 abbrev pub with_more : Text → List Text → List Text → Text

@@ -1,5 +1,5 @@
-mod Budgets
 mod Joining
-mod Says
+mod LinesLemmas
+mod ProgramLemmas
 mod Texts
-mod Tools
+mod WordsLemmas

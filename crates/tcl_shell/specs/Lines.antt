@@ -27,8 +27,8 @@ SaidIf (Some text) old new = Said text old new
 abbrev pub usage : List ℕ
 usage = codes "usage: tclint ?-budget N? ?file arg ...?\n"
 
-abbrev pub unread : List ℕ → List ℕ
-unread name = codes "couldn't read file \"" ++ (name ++ codes "\"\n")
+abbrev pub unreadable : List ℕ → List ℕ
+unreadable name = codes "couldn't read file \"" ++ (name ++ codes "\"\n")
 
 abbrev pub not_utf8 : List ℕ → List ℕ
 not_utf8 name = codes "file \"" ++ (name ++ codes "\" is not UTF-8\n")
@@ -47,7 +47,7 @@ broken = codes "read or write failed\n"
 
 abbrev pub line_bytes : Line → List ℕ
 line_bytes line.Usage = usage
-line_bytes (line.Unread name) = unread name.now
+line_bytes (line.Unread name) = unreadable name.now
 line_bytes (line.NotUtf8 name) = not_utf8 name.now
 line_bytes (line.Message message) = message_line message.now
 line_bytes line.Budget = budget_spent

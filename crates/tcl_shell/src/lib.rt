@@ -3,8 +3,6 @@
 
 mod lines;
 mod program;
-#[cfg(test)]
-mod tests;
 mod words;
 
 pub use program::tool;

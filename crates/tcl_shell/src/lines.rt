@@ -2,7 +2,7 @@
 ghost use Rattle.std.specs.Prelude.{◌≡◌, ◌++◌, codes, Err, OnOk, OnErr};
 ghost use Rattle.tcl_chan.specs.Devices.{put};
 ghost use Rattle.tcl_chan.specs.Faults.{write_failures};
-ghost use Rattle.tcl_chan.specs.Worlds.{stdout, stderr, SameDevices};
+ghost use Rattle.tcl_chan.specs.Worlds.{stdin, stdout, stderr, SameDevices};
 ghost use Rattle.tcl_chan.specs.Writing.{WroteFront};
 ghost use Rattle.tcl_chan.specs.declared.fault.ChanFault.TheVariants.{Write};
 ghost use Rattle.tcl_shell.specs.Lines.{line_bytes, told, Said};
@@ -32,7 +32,7 @@ pub(crate) enum Line<'a> {
 }
 
 // Writes three texts to standard error, up to the first that fails.
-#[tactic(auto, using(crate::proofs::Says::front_first, crate::proofs::Says::front_second, crate::proofs::Says::front_third))]
+#[tactic(auto, using(crate::proofs::LinesLemmas::front_first, crate::proofs::LinesLemmas::front_second, crate::proofs::LinesLemmas::front_third))]
 fn put_three<R: Input, W: Output, E: Output>(
     world: &mut World<'_, '_, '_, R, W, E>,
     first: &str,
@@ -43,6 +43,7 @@ fn put_three<R: Input, W: Output, E: Output>(
     ensures front { OnErr result (WroteFront (E.written (stderr world.old)) (E.written (stderr world.new)) (first.now ++ (second.now ++ third.now))) }
     ensures fault { OnErr result (result ≡ Err Write) }
     ensures failures { E.failed_calls (stderr world.new) ≡ write_failures (E.failed_calls (stderr world.old)) result }
+    ensures input { stdin world.new ≡ stdin world.old }
     ensures out { stdout world.new ≡ stdout world.old }
     ensures devices { SameDevices world.old world.new }
 {
@@ -60,6 +61,7 @@ fn put_line<R: Input, W: Output, E: Output>(
     ensures front { OnErr result (WroteFront (E.written (stderr world.old)) (E.written (stderr world.new)) (line_bytes line.entry)) }
     ensures fault { OnErr result (result ≡ Err Write) }
     ensures failures { E.failed_calls (stderr world.new) ≡ write_failures (E.failed_calls (stderr world.old)) result }
+    ensures input { stdin world.new ≡ stdin world.old }
     ensures out { stdout world.new ≡ stdout world.old }
     ensures devices { SameDevices world.old world.new }
 {
@@ -75,7 +77,7 @@ fn put_line<R: Input, W: Output, E: Output>(
 }
 
 /// Writes a line to standard error. Where a write fails, the rest is not written.
-#[tactic(auto, using(crate::proofs::Says::said_by))]
+#[tactic(auto, using(crate::proofs::LinesLemmas::said_by))]
 pub(crate) fn say<R: Input, W: Output, E: Output>(
     alloc: Global,
     reader: &mut R,
@@ -84,6 +86,7 @@ pub(crate) fn say<R: Input, W: Output, E: Output>(
     line: Line<'_>,
 )
     ensures said { Said (line_bytes line.entry) (told E.written E.failed_calls err.old) (told E.written E.failed_calls err.new) }
+    ensures input { reader.new ≡ reader.old }
     ensures out { out.new ≡ out.old }
 {
     let mut world = World::new(alloc, reader, out, err);

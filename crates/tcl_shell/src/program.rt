@@ -3,7 +3,7 @@ ghost use Rattle.std.specs.Prelude.{◌≡◌, ◌<◌, length, map, option_map,
 ghost use Rattle.std.specs.Str.{chars};
 ghost use Rattle.std.specs.String.{string_bytes};
 ghost use Rattle.tcl_shell.specs.Lines.{told, SaidIf};
-ghost use Rattle.tcl_shell.specs.Program.{Answers, RunsFile, ends_line, joined, line_of, status_of};
+ghost use Rattle.tcl_shell.specs.Program.{RunsWords, RunsFile, ends_line, joined, outcome_line, status_of};
 ghost use Rattle.tcl_shell.specs.Words.{request_of};
 
 use crate::lines::{Line, say};
@@ -44,7 +44,8 @@ fn tell<R: Input, W: Output, E: Output>(
     outcome: Outcome,
 ) -> u8
     ensures status { result ≡ status_of outcome }
-    ensures says { SaidIf (line_of outcome) (told E.written E.failed_calls err.old) (told E.written E.failed_calls err.new) }
+    ensures says { SaidIf (outcome_line outcome) (told E.written E.failed_calls err.old) (told E.written E.failed_calls err.new) }
+    ensures input { reader.new ≡ reader.old }
     ensures out { out.new ≡ out.old }
 {
     match outcome {
@@ -80,7 +81,8 @@ fn run_file<R: Input, W: Output, E: Output>(
     budget: u64,
 ) -> u8
     requires { 0 < length words.now }
-    ensures { RunsFile budget (map (λ word. word.now) words.now) (option_map (λ bytes. bytes.now) file.entry) result
+    ensures input { reader.new ≡ reader.old }
+    ensures answers { RunsFile budget (map (λ word. word.now) words.now) (option_map (λ bytes. bytes.now) file.entry) result
         (told W.written W.failed_calls out.old) (told E.written E.failed_calls err.old) (told W.written W.failed_calls out.new) (told E.written E.failed_calls err.new) }
 {
     let name = words[0];
@@ -110,7 +112,7 @@ fn run_file<R: Input, W: Output, E: Output>(
 /// Runs the program for its words, its own name not among them, over the bytes of its file, or `None` where the file
 /// couldn't be read. The answer is the status: 0 done, 1 the script's error, 2 the budget is spent, 3 out of memory,
 /// 4 a read or a write failed, 5 the usage or the file is wrong, or what `exit` was given. But for 0 and `exit`, a line
-/// on standard error says so.
+/// on standard error says so. The input stays as it was: no script reads yet.
 pub fn tool<R: Input, W: Output, E: Output>(
     alloc: Global,
     words: &[&str],
@@ -119,7 +121,8 @@ pub fn tool<R: Input, W: Output, E: Output>(
     out: &mut W,
     err: &mut E,
 ) -> u8
-    ensures { Answers (request_of (map (λ word. chars word.now) words.now)) (map (λ word. word.now) words.now) (option_map (λ bytes. bytes.now) file.entry) result
+    ensures input { reader.new ≡ reader.old }
+    ensures answers { RunsWords (request_of (map (λ word. chars word.now) words.now)) (map (λ word. word.now) words.now) (option_map (λ bytes. bytes.now) file.entry) result
         (told W.written W.failed_calls out.old) (told E.written E.failed_calls err.old) (told W.written W.failed_calls out.new) (told E.written E.failed_calls err.new) }
 {
     let Some(request) = read_request(words) else {

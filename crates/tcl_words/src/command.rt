@@ -1,16 +1,15 @@
 //! The first command of a text.
 
-ghost use Rattle.std.specs.Prelude.{◌≡◌, ◌≤◌, length, drop, IfOk, IfErr};
+ghost use Rattle.std.specs.Prelude.{◌≡◌, ◌≤◌, length, drop, IfOk};
 ghost use Rattle.std.specs.Str.{chars, IsCharBoundary};
-ghost use Rattle.tcl_chars.specs.declared.fault.Fault.TheVariants.{Memory};
 ghost use Rattle.tcl_chars.specs.Place.{EndsWith};
 ghost use Rattle.tcl_words.specs.First as spec;
 ghost use Rattle.tcl_words.specs.First.{IsParsed, most_levels, first_command};
 
 use crate::nesting::{Reader, first};
 use crate::word::Parsed;
-use std::alloc::Global;
-use tcl_chars::{Fault, ReadFault, place};
+use std::alloc::{AllocError, Global};
+use tcl_chars::{ReadFault, place};
 
 /// The first command of what is left of a text.
 fn parse<'a>(
@@ -18,11 +17,10 @@ fn parse<'a>(
     nested: bool,
     text: &'a str,
     rest: &'a str,
-) -> Result<Parsed<'a>, Fault>
+) -> Result<Parsed<'a>, AllocError>
     requires size { reader.size ≡ length text.now }
     requires ends { EndsWith (chars text.now) (chars rest.now) }
-    ensures first { IfOk result (λ p. IsParsed text.now p (spec.first reader.size reader.levels nested (chars rest.now))) }
-    ensures fault { IfErr result (λ e. e ≡ Memory) }
+    ensures { IfOk result (λ p. IsParsed text.now p (spec.first reader.size reader.levels nested (chars rest.now))) }
 {
     match first(reader, nested, rest) {
         Ok((words, after)) => {
@@ -33,15 +31,14 @@ fn parse<'a>(
             }
         }
         Err(ReadFault::Bad(fault)) => Ok(Parsed::Bad(fault)),
-        Err(ReadFault::Memory) => Err(Fault::Memory),
+        Err(ReadFault::Memory) => Err(AllocError),
     }
 }
 
 /// The first command of a whole text, in which brackets and indices stand in one another at most `levels` deep.
-pub fn parse_first(alloc: Global, text: &str, levels: u32) -> Result<Parsed<'_>, Fault>
+pub fn parse_first(alloc: Global, text: &str, levels: u32) -> Result<Parsed<'_>, AllocError>
     requires { levels ≤ most_levels }
-    ensures first { IfOk result (λ p. IsParsed text.now p (first_command levels (chars text.now))) }
-    ensures fault { IfErr result (λ e. e ≡ Memory) }
+    ensures { IfOk result (λ p. IsParsed text.now p (first_command levels (chars text.now))) }
 {
     let reader = Reader {
         alloc,
@@ -56,16 +53,15 @@ pub fn parse_first(alloc: Global, text: &str, levels: u32) -> Result<Parsed<'_>,
 /// Tcl(n), rules 1 to 12.
 ///
 /// # Errors
-/// `Fault::Memory` where a growth was refused.
+/// A growth was refused.
 pub fn parse_command(
     alloc: Global,
     text: &str,
     from: usize,
     nested: bool,
-) -> Result<Parsed<'_>, Fault>
+) -> Result<Parsed<'_>, AllocError>
     requires { IsCharBoundary text.now from }
-    ensures first { IfOk result (λ p. IsParsed text.now p (spec.first (length text.now) most_levels nested (chars (drop from text.now)))) }
-    ensures fault { IfErr result (λ e. e ≡ Memory) }
+    ensures { IfOk result (λ p. IsParsed text.now p (spec.first (length text.now) most_levels nested (chars (drop from text.now)))) }
 {
     let reader = Reader {
         alloc,

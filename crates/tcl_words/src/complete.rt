@@ -1,14 +1,13 @@
 //! Whether a text waits for more.
 
-ghost use Rattle.std.specs.Prelude.{◌≡◌, false, IfOk, IfErr};
+ghost use Rattle.std.specs.Prelude.{◌≡◌, false, IfOk};
 ghost use Rattle.std.specs.Str.{chars};
-ghost use Rattle.tcl_chars.specs.declared.fault.Fault.TheVariants.{Memory};
 ghost use Rattle.tcl_words.specs.Complete as spec;
 
 use crate::fault::Syntax;
 use crate::nesting::{Reader, after_commands};
-use std::alloc::Global;
-use tcl_chars::{Fault, ReadFault, split_first};
+use std::alloc::{AllocError, Global};
+use tcl_chars::{ReadFault, split_first};
 
 /// Does the text end in a newline behind an odd run of backslashes?
 #[tactic(auto, unfolding(crate::specs::Complete::ends_hidden))]
@@ -44,10 +43,9 @@ fn is_open(fault: Syntax) -> bool
 /// backslash hides, and where its first faulty command is open at its end. info(n), complete.
 ///
 /// # Errors
-/// `Fault::Memory` where a growth was refused.
-pub fn is_complete(alloc: Global, text: &str) -> Result<bool, Fault>
-    ensures complete { IfOk result (λ b. b ≡ spec.is_complete (chars text.now)) }
-    ensures fault { IfErr result (λ e. e ≡ Memory) }
+/// A growth was refused.
+pub fn is_complete(alloc: Global, text: &str) -> Result<bool, AllocError>
+    ensures { IfOk result (λ b. b ≡ spec.is_complete (chars text.now)) }
 {
     if ends_hidden(text) {
         return Ok(false);
@@ -60,6 +58,6 @@ pub fn is_complete(alloc: Global, text: &str) -> Result<bool, Fault>
     match after_commands(reader, false, text) {
         Ok(_) => Ok(true),
         Err(ReadFault::Bad(fault)) => Ok(!is_open(fault)),
-        Err(ReadFault::Memory) => Err(Fault::Memory),
+        Err(ReadFault::Memory) => Err(AllocError),
     }
 }

@@ -11,8 +11,6 @@ pub mod laws;
 mod nesting;
 mod operand;
 mod stretch;
-#[cfg(test)]
-mod tests;
 mod word;
 
 pub use command::{parse_command, parse_first};

@@ -1,8 +1,7 @@
 //! Words, brackets and variables as operands of an expression.
 
-ghost use Rattle.std.specs.Prelude.{◌≡◌, ◌≤◌, true, length, drop, IfOk, IfErr};
+ghost use Rattle.std.specs.Prelude.{◌≡◌, ◌≤◌, true, length, drop, IfOk};
 ghost use Rattle.std.specs.Str.{chars, IsCharBoundary};
-ghost use Rattle.tcl_chars.specs.declared.fault.Fault.TheVariants.{Memory};
 ghost use Rattle.tcl_chars.specs.Reading.{Gives};
 ghost use Rattle.tcl_words.specs.First as first;
 ghost use Rattle.tcl_words.specs.First.{IsOperand, begins_operand, most_levels};
@@ -14,8 +13,8 @@ use crate::fault::Syntax;
 use crate::front::begins_variable;
 use crate::nesting::{Reader, bracket, quoted, variable};
 use crate::word::{Form, Operand, Word};
-use std::alloc::Global;
-use tcl_chars::{Fault, ReadFault, begins, place, split_first};
+use std::alloc::{AllocError, Global};
+use tcl_chars::{ReadFault, begins, place, split_first};
 
 /// Does a braced or a quoted word, a bracket or a variable begin the text?
 pub fn begins_operand(text: &str) -> bool
@@ -72,18 +71,17 @@ fn operand(reader: Reader, text: &str) -> Result<(Word<'_>, &str), ReadFault<Syn
 /// fault. Brackets and indices stand in one another at most `levels` deep in it. expr(n), Operands.
 ///
 /// # Errors
-/// `Fault::Memory` where a growth was refused.
+/// A growth was refused.
 pub fn parse_operand(
     alloc: Global,
     text: &str,
     from: usize,
     levels: u32,
-) -> Result<Operand<'_>, Fault>
+) -> Result<Operand<'_>, AllocError>
     requires boundary { IsCharBoundary text.now from }
     requires begins { begins_operand (chars (drop from text.now)) ≡ true }
     requires levels { levels ≤ most_levels }
-    ensures operand { IfOk result (λ o. IsOperand text.now o (first.operand (length text.now) levels (chars (drop from text.now)))) }
-    ensures fault { IfErr result (λ e. e ≡ Memory) }
+    ensures { IfOk result (λ o. IsOperand text.now o (first.operand (length text.now) levels (chars (drop from text.now)))) }
 {
     let reader = Reader {
         alloc,
@@ -93,6 +91,6 @@ pub fn parse_operand(
     match operand(reader, &text[from..]) {
         Ok((word, rest)) => Ok(Operand::Found(word, place(text.len(), rest))),
         Err(ReadFault::Bad(fault)) => Ok(Operand::Bad(fault)),
-        Err(ReadFault::Memory) => Err(Fault::Memory),
+        Err(ReadFault::Memory) => Err(AllocError),
     }
 }

@@ -12,26 +12,26 @@ parse_operand-requires-clause-begins c =
     let p = rest_at c.args.text.now c.args.here.now c.place-from.result c.requires.ends c.utf8.text c.utf8.here c.place-from.ensures in
     begins_there c.args.text.now (chars c.args.here.now) c.place-from.result p c.requires.begins
 
-pub returns-in-Ok-Found-clause-token : goal.returns-in-Ok-Found-clause-token
-returns-in-Ok-Found-clause-token c =
+pub returns-in-Found-clause-token : goal.returns-in-Found-clause-token
+returns-in-Found-clause-token c =
     let p = rest_at c.args.text.now c.args.here.now c.place-from.result c.requires.ends c.utf8.text c.utf8.here c.place-from.ensures in
-    let h = rw c.in-Ok-Found.field-0-is at c.in-Ok-Found.ensures.operand in
-    (word_here c.args.text.now (chars c.args.here.now) c.args.levels c.place-from.result c.in-Ok-Found.at c.in-Ok-Found.word p h).0
+    let h = rw c.in-Found.is at c.in_ok-word.ensures in
+    (word_here c.args.text.now (chars c.args.here.now) c.args.levels c.place-from.result c.in-Found.at c.in-Found.word p h).0
 
-pub returns-in-Ok-Found-clause-rest : goal.returns-in-Ok-Found-clause-rest
-returns-in-Ok-Found-clause-rest c =
+pub returns-in-Found-clause-rest : goal.returns-in-Found-clause-rest
+returns-in-Found-clause-rest c =
     let p = rest_at c.args.text.now c.args.here.now c.place-from.result c.requires.ends c.utf8.text c.utf8.here c.place-from.ensures in
-    let h = rw c.in-Ok-Found.field-0-is at c.in-Ok-Found.ensures.operand in
-    ap chars c.range_from.ensures.value ∙ (word_here c.args.text.now (chars c.args.here.now) c.args.levels c.place-from.result c.in-Ok-Found.at c.in-Ok-Found.word p h).1
+    let h = rw c.in-Found.is at c.in_ok-word.ensures in
+    ap chars c.range_from.ensures.value ∙ (word_here c.args.text.now (chars c.args.here.now) c.args.levels c.place-from.result c.in-Found.at c.in-Found.word p h).1
 
-pub returns-in-Ok-Bad-clause-token : goal.returns-in-Ok-Bad-clause-token
-returns-in-Ok-Bad-clause-token c =
+pub returns-in-Bad-clause-token : goal.returns-in-Bad-clause-token
+returns-in-Bad-clause-token c =
     let p = rest_at c.args.text.now c.args.here.now c.place-from.result c.requires.ends c.utf8.text c.utf8.here c.place-from.ensures in
-    let h = rw c.in-Ok-Bad.field-0-is at c.in-Ok-Bad.ensures.operand in
-    (bad_here c.args.text.now (chars c.args.here.now) c.args.levels c.place-from.result c.in-Ok-Bad.fault p h).0
+    let h = rw c.in-Bad.is at c.in_ok-word.ensures in
+    (bad_here c.args.text.now (chars c.args.here.now) c.args.levels c.place-from.result c.in-Bad.fault p h).0
 
-pub returns-in-Ok-Bad-clause-rest : goal.returns-in-Ok-Bad-clause-rest
-returns-in-Ok-Bad-clause-rest c =
+pub returns-in-Bad-clause-rest : goal.returns-in-Bad-clause-rest
+returns-in-Bad-clause-rest c =
     let p = rest_at c.args.text.now c.args.here.now c.place-from.result c.requires.ends c.utf8.text c.utf8.here c.place-from.ensures in
-    let h = rw c.in-Ok-Bad.field-0-is at c.in-Ok-Bad.ensures.operand in
-    (bad_here c.args.text.now (chars c.args.here.now) c.args.levels c.place-from.result c.in-Ok-Bad.fault p h).1
+    let h = rw c.in-Bad.is at c.in_ok-word.ensures in
+    (bad_here c.args.text.now (chars c.args.here.now) c.args.levels c.place-from.result c.in-Bad.fault p h).1

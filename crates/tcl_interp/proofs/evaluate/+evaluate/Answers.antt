@@ -1,4 +1,4 @@
-use Rattle.std.proofs.Common.{rules, ◌≡◌, ◌<◌, ◌+◌, [], ◌∷◌, ◌++◌, length, map, drop, false, sym, ap, ◌∙◌, arith, refl, append-nil}
+use Rattle.std.proofs.Common.{rules, ◌≡◌, ◌<◌, ◌+◌, [], ◌∷◌, ◌++◌, length, map, drop, false, sym, ap, ◌∙◌, arith, refl}
 use Rattle.std.proofs.lemmas.Result.{err_from_is_err_and}
 use Rattle.std.proofs.lemmas.List.{length-map}
 use Rattle.std.specs.Str.{chars}
@@ -7,14 +7,16 @@ use Rattle.tcl_words.specs.Parts.{shape_of, part_of, parts_of, stretch_of}
 use Rattle.tcl_meaning.specs.Completions.{failure}
 use Rattle.tcl_meaning.specs.Effects.{Script, Gives}
 use Rattle.tcl_meaning.specs.Nesting.{PartNests, PartsNest, WordsNest}
-use Rattle.tcl_meaning.specs.Substitution.{piece_text}
-use Rattle.tcl_meaning.specs.Script.{Run, most_levels, run_command, rest_by}
+use Rattle.tcl_meaning.specs.Substitution.{piece_text, pieces_text, read}
+use Rattle.tcl_meaning.specs.Value.{Has, behind}
+use Rattle.tcl_meaning.specs.Script.{Run, levels_read, run_command, rest_by}
 use Rattle.tcl_meaning.proofs.Nests.{first_nests, parts_nest_at, words_nest_at}
-use Rattle.tcl_meaning.proofs.Rules.{begins_run, begins_of, begins_here, script_deep, script_end, script_bad, script_broke, script_paid, sequence_next, sequence_ends, shape_text, word_start, words_start, words_after, words_at, reach_value}
-use Rattle.tcl_interp.specs.Endings.{completion_of}
-use Rattle.tcl_interp.specs.Shown.{shown}
-use Rattle.tcl_interp.proofs.Evaluating.{fault_bind, halt_value, command_invokes, command_stopped, parsed_end, parsed_bad, parsed_command, map_at, part-elem, pieces_halt, piece_added, element_reach, element_halt, element_name, element_adds, word_is}
-use Rattle.tcl_interp.proofs.Leaving.{leaves_same, leaves_trans}
+use Rattle.tcl_meaning.proofs.Runs.{outputs_same}
+use Rattle.tcl_meaning.proofs.Rules.{begins_run, begins_of, begins_here, script_deep, script_end, script_bad, script_broke, script_paid, sequence_next, sequence_ends, shape_text, words_start, word_after, word_at, words_after, words_at, reach_value}
+use Rattle.tcl_interp.specs.Completion.{completion_of}
+use Rattle.tcl_interp.specs.Evaluation.{shown}
+use Rattle.tcl_interp.proofs.EvaluateLemmas.{fault_bind, halt_value, command_invokes, command_stopped, parsed_end, parsed_bad, parsed_command, map_at, part-var, part-elem, element_reach, element_front, element_adds, word_reach}
+use Rattle.tcl_interp.proofs.ChannelsLemmas.{leaves_same, leaves_trans}
 use Rattle.tcl_interp.proofs.evaluate.+evaluate.Goals as goal
 
 pub eval_command-returns-in-Ok-clause-run : goal.eval_command-returns-in-Ok-clause-run
@@ -43,24 +45,24 @@ eval_script-returns-in_err-failure-in-Bad-clause-run g t c =
 
 pub eval_script-returns-in-End-clause-run : goal.eval_script-returns-in-End-clause-run
 eval_script-returns-in-End-clause-run g t c =
-    let e = parsed_end _ _ _ _ c.in_ok-parse_first.ensures.first c.in-End.is in
+    let e = parsed_end _ _ _ _ c.in_ok-parse_first.ensures c.in-End.is in
     c.commands.invariant.1.same ∙ script_end _ _ _ _ e.rest c.commands.invariant.1.shallow e.is
 
 pub eval_script-returns-in-Bad-clause-run : goal.eval_script-returns-in-Bad-clause-run
 eval_script-returns-in-Bad-clause-run g t c =
-    let e = parsed_bad _ _ _ _ c.in_ok-parse_first.ensures.first c.in-Bad.is in
+    let e = parsed_bad _ _ _ _ c.in_ok-parse_first.ensures c.in-Bad.is in
     c.commands.invariant.1.same ∙ script_bad _ _ _ _ c.in-Bad.fault c.commands.invariant.1.shallow e
     ∙ ap (λ k. Gives k (shown g.W.Output.written g.E.Output.written c.commands.state c.commands.world)) (sym (c.in_ok-failure-in-Bad.ensures ∙ ap failure c.text.ensures.text))
 
 pub eval_script-returns-then-state-eq0-clause-run : goal.eval_script-returns-then-state-eq0-clause-run
 eval_script-returns-then-state-eq0-clause-run g t c =
-    let e = parsed_command _ _ c.in-Command.words c.in-Command.after _ c.in_ok-parse_first.ensures.first c.in-Command.is in
+    let e = parsed_command _ _ c.in-Command.words c.in-Command.after _ c.in_ok-parse_first.ensures c.in-Command.is in
     c.commands.invariant.1.same ∙ script_broke _ _ _ _ _ e.rest c.commands.invariant.1.shallow e.is c.if-state-eq0.true
 
 pub eval_script-eval_command-requires : goal.eval_script-eval_command-requires
 eval_script-eval_command-requires g t c =
-    let e = parsed_command _ _ c.in-Command.words c.in-Command.after _ c.in_ok-parse_first.ensures.first c.in-Command.is in
-    let nests : WordsNest most_levels (map shape_of c.as_slice.result.now) = rw c.as_slice.ensures.value (first_nests most_levels (chars c.commands.rest.now) _ e.rest e.is) in
+    let e = parsed_command _ _ c.in-Command.words c.in-Command.after _ c.in_ok-parse_first.ensures c.in-Command.is in
+    let nests : WordsNest levels_read (map shape_of c.as_slice.result.now) = rw c.as_slice.ensures.value (first_nests levels_read (chars c.commands.rest.now) _ e.rest e.is) in
     search rules
 
 pub eval_script-returns-in_err-done-in-Command-clause-run : goal.eval_script-returns-in_err-done-in-Command-clause-run
@@ -68,7 +70,7 @@ eval_script-returns-in_err-done-in-Command-clause-run g t c =
     let p = err_from_is_err_and c.from_residual-in_err-done-in-Command.result c.from_residual-in_err-done-in-Command.ensures.1 in
     let d = c.args.depth in
     let ws = map shape_of c.in-Command.words.items in
-    let e = parsed_command _ _ c.in-Command.words c.in-Command.after _ c.in_ok-parse_first.ensures.first c.in-Command.is in
+    let e = parsed_command _ _ c.in-Command.words c.in-Command.after _ c.in_ok-parse_first.ensures c.in-Command.is in
     let r = script_paid d _ _ _ ws e.rest c.commands.invariant.1.shallow e.is (omega arith) c.commands.invariant.1.same in
     rw (p.1, p.2) (fault_bind (run_command d ws) (λ k. rest_by d e.rest k.code k.result) _ _ r (rw c.as_slice.ensures.value at c.in_err-done-in-Command.ensures.run))
 
@@ -76,7 +78,7 @@ pub eval_script-returns-in-Error-clause-run : goal.eval_script-returns-in-Error-
 eval_script-returns-in-Error-clause-run g t c =
     let d = c.args.depth in
     let ws = map shape_of c.in-Command.words.items in
-    let e = parsed_command _ _ c.in-Command.words c.in-Command.after _ c.in_ok-parse_first.ensures.first c.in-Command.is in
+    let e = parsed_command _ _ c.in-Command.words c.in-Command.after _ c.in_ok-parse_first.ensures c.in-Command.is in
     let r = script_paid d _ _ _ ws e.rest c.commands.invariant.1.shallow e.is (omega arith) c.commands.invariant.1.same in
     sequence_ends d ws e.rest (completion_of c.in_ok-done-in-Command.done) r (rw c.as_slice.ensures.value at c.in_ok-done-in-Command.ensures.run) c.in-Error.is
 
@@ -84,7 +86,7 @@ pub eval_script-commands-preserved : goal.eval_script-commands-preserved
 eval_script-commands-preserved g t c =
     let d = c.args.depth in
     let ws = map shape_of c.in-Command.words.items in
-    let e = parsed_command _ _ c.in-Command.words c.in-Command.after _ c.in_ok-parse_first.ensures.first c.in-Command.is in
+    let e = parsed_command _ _ c.in-Command.words c.in-Command.after _ c.in_ok-parse_first.ensures c.in-Command.is in
     let r = script_paid d _ _ _ ws e.rest c.commands.invariant.1.shallow e.is (omega arith) c.commands.invariant.1.same in
     let left : chars c.range_from-rest.result.now ≡ e.rest = ap chars c.range_from-rest.ensures.value ∙ e.left in (
       search rules,
@@ -110,8 +112,8 @@ pub subst_words-subst_word-requires : goal.subst_words-subst_word-requires
 subst_words-subst_word-requires g t c =
     let ws = map shape_of c.args.words.now in
     let lt : c.words.word-index < length ws = omega (arith, length-map c.args.words.now shape_of) in
-    let nests : PartsNest most_levels (parts_of (map part_of c.word-item.result.pieces.items)) =
-    words_nest_at most_levels ws c.words.word-index (shape_of c.word-item.result) c.words.invariant.nests lt (map_at shape_of c.args.words.now c.words.word-index c.word-item.result c.word-item.is) in
+    let nests : PartsNest levels_read (parts_of (map part_of c.word-item.result.pieces.items)) =
+    words_nest_at levels_read ws c.words.word-index (shape_of c.word-item.result) c.words.invariant.nests lt (map_at shape_of c.args.words.now c.words.word-index c.word-item.result c.word-item.is) in
     search rules
 
 pub subst_words-returns-in_err-value-clause-run : goal.subst_words-returns-in_err-value-clause-run
@@ -150,14 +152,28 @@ subst_words-words-preserved g t c =
       leaves = leaves_trans g.R.Input.to_come g.W.Output.failed_calls g.E.Output.failed_calls false _ _ _ c.words.invariant.leaves c.in_ok-value.ensures.leaves;
     }
 
+pub subst_word-returns-in_err-subst_pieces-clause-run : goal.subst_word-returns-in_err-subst_pieces-clause-run
+subst_word-returns-in_err-subst_pieces-clause-run g t c =
+    let p = err_from_is_err_and c.from_residual-in_err-subst_pieces.result c.from_residual-in_err-subst_pieces.ensures.1 in
+    let e = word_reach c.args.depth c.args.word.now.expands (map part_of c.args.word.now.pieces.items) (shown g.W.Output.written g.E.Output.written c.args.state.now c.args.world.now) _ c.if-word.false c.new-text.ensures.bytes in
+    rw (p.1, p.2, e) (rw c.as_slice.ensures.value at c.in_err-subst_pieces.ensures.run)
+
+pub subst_word-returns-in_err-from_string-clause-run : goal.subst_word-returns-in_err-from_string-clause-run
+subst_word-returns-in_err-from_string-clause-run g t c =
+    let p = err_from_is_err_and c.from_residual-in_err-from_string.result c.from_residual-in_err-from_string.ensures.1 in
+    let s = shown g.W.Output.written g.E.Output.written c.args.state.now c.args.world.now in
+    let e = word_reach c.args.depth c.args.word.now.expands (map part_of c.args.word.now.pieces.items) s _ c.if-word.false c.new-text.ensures.bytes ∙ (rw c.as_slice.ensures.value at c.in_ok-subst_pieces.ensures.run) in
+    rw (p.1, p.2, e) (outputs_same (shown g.W.Output.written g.E.Output.written c.subst_pieces.new.state c.subst_pieces.new.world))
+
 pub subst_word-returns-clause-run : goal.subst_word-returns-clause-run
 subst_word-returns-clause-run g t c =
-    word_is c.args.depth c.args.word.now.expands (map part_of c.args.word.now.pieces.items) _ _ _ _ _ c.if-word.false c.new-text.ensures.bytes
-    (rw c.as_slice.ensures.value at c.in_ok-subst_pieces.ensures.run) (c.of_text.ensures ∙ ap chars c.in_ok-from_string.ensures.ok)
+    word_reach c.args.depth c.args.word.now.expands (map part_of c.args.word.now.pieces.items) _ _ c.if-word.false c.new-text.ensures.bytes
+    ∙ (rw c.as_slice.ensures.value at c.in_ok-subst_pieces.ensures.run)
+    ∙ ap (λ t. Gives (Has t) (shown g.W.Output.written g.E.Output.written c.subst_pieces.new.state c.subst_pieces.new.world)) (sym (c.of_text.ensures ∙ ap chars c.in_ok-from_string.ensures.ok))
 
 pub subst_pieces-pieces-init : goal.subst_pieces-pieces-init
 subst_pieces-pieces-init g t c = record {
-  so_far = record { done = []; added = sym (append-nil (chars (string_bytes c.args.text.now))); holds = word_start c.args.depth (map part_of c.args.pieces.now) (shown g.W.Output.written g.E.Output.written c.args.state.now c.args.world.now) };
+  same = refl;
   shallow = c.requires.shallow;
   nests = c.requires.nests;
   spends = omega arith;
@@ -175,48 +191,67 @@ subst_pieces-subst_piece-requires g t c =
 pub subst_pieces-returns-in_err-subst_piece-clause-run : goal.subst_pieces-returns-in_err-subst_piece-clause-run
 subst_pieces-returns-in_err-subst_piece-clause-run g t c =
     let p = err_from_is_err_and c.from_residual.result c.from_residual.ensures.1 in
+    let d = c.args.depth in
     let ps = map part_of c.args.pieces.now in
     let i = c.pieces.piece-index in
+    let x = part_of c.piece-item.result in
+    let done = chars (string_bytes c.pieces.text) in
     let lt : i < length ps = omega (arith, length-map c.args.pieces.now part_of) in
-    let a = c.pieces.invariant.so_far in
-    rw (p.1, p.2) (pieces_halt c.args.depth a.done ps i (part_of c.piece-item.result) _ _ _ a.holds lt (map_at part_of c.args.pieces.now i c.piece-item.result c.piece-item.is) c.in_err-subst_piece.ensures.run)
+    let r = word_at d done ps i x _ c.pieces.invariant.same lt (map_at part_of c.args.pieces.now i c.piece-item.result c.piece-item.is) in
+    rw (p.1, p.2) (halt_value (behind done (piece_text d x)) (λ t. word_after d t (drop (i + 1) ps)) _ _ r c.in_err-subst_piece.ensures.run)
 
 pub subst_pieces-pieces-preserved : goal.subst_pieces-pieces-preserved
 subst_pieces-pieces-preserved g t c =
+    let d = c.args.depth in
     let ps = map part_of c.args.pieces.now in
     let i = c.pieces.piece-index in
+    let x = part_of c.piece-item.result in
+    let done = chars (string_bytes c.pieces.text) in
     let lt : i < length ps = omega (arith, length-map c.args.pieces.now part_of) in
+    let r = word_at d done ps i x _ c.pieces.invariant.same lt (map_at part_of c.args.pieces.now i c.piece-item.result c.piece-item.is) in
     record {
-      so_far = piece_added c.args.depth _ _ _ ps i (part_of c.piece-item.result) _ _ c.pieces.invariant.so_far lt (map_at part_of c.args.pieces.now i c.piece-item.result c.piece-item.is) c.in_ok-subst_piece.ensures.run;
+      same = (reach_value (behind done (piece_text d x)) (λ t. word_after d t (drop (i + 1) ps)) _ r c.in_ok-subst_piece.ensures.run).same;
       shallow = c.pieces.invariant.shallow;
       nests = c.pieces.invariant.nests;
       spends = omega arith;
       leaves = leaves_trans g.R.Input.to_come g.W.Output.failed_calls g.E.Output.failed_calls false _ _ _ c.pieces.invariant.leaves c.in_ok-subst_piece.ensures.leaves;
     }
 
+pub subst_piece-returns-in-Var-clause-run : goal.subst_piece-returns-in-Var-clause-run
+subst_piece-returns-in-Var-clause-run g t c = rw (part-var _ _ _ c.in-Var.is) (c.add_variable.ensures.run _ _ _)
+
 pub subst_piece-returns-in_err-push_text-in-Elem-clause-run : goal.subst_piece-returns-in_err-push_text-in-Elem-clause-run
 subst_piece-returns-in_err-push_text-in-Elem-clause-run g t c =
     let p = err_from_is_err_and c.from_residual-in_err-push_text-in-Elem.result c.from_residual-in_err-push_text-in-Elem.ensures.1 in
-    rw (p.1, p.2) (begins_of (piece_text c.args.depth (part_of c.args.piece.now)) (shown g.W.Output.written g.E.Output.written c.args.state.now c.args.world.now))
+    rw (p.1, p.2) (begins_of (behind (chars (string_bytes c.args.text.now)) (piece_text c.args.depth (part_of c.args.piece.now))) (shown g.W.Output.written g.E.Output.written c.args.state.now c.args.world.now))
 
 pub subst_piece-returns-in_err-push-in-Elem-clause-run : goal.subst_piece-returns-in_err-push-in-Elem-clause-run
 subst_piece-returns-in_err-push-in-Elem-clause-run g t c =
     let p = err_from_is_err_and c.from_residual-in_err-push-in-Elem.result c.from_residual-in_err-push-in-Elem.ensures.1 in
-    rw (p.1, p.2) (begins_of (piece_text c.args.depth (part_of c.args.piece.now)) (shown g.W.Output.written g.E.Output.written c.args.state.now c.args.world.now))
+    rw (p.1, p.2) (begins_of (behind (chars (string_bytes c.args.text.now)) (piece_text c.args.depth (part_of c.args.piece.now))) (shown g.W.Output.written g.E.Output.written c.args.state.now c.args.world.now))
 
 pub subst_piece-returns-in_err-subst_pieces-in-Elem-clause-run : goal.subst_piece-returns-in_err-subst_pieces-in-Elem-clause-run
 subst_piece-returns-in_err-subst_pieces-in-Elem-clause-run g t c =
     let p = err_from_is_err_and c.from_residual-in_err-subst_pieces-in-Elem.result c.from_residual-in_err-subst_pieces-in-Elem.ensures.1 in
-    rw (p.1, p.2, part-elem _ _ _ _ c.in-Elem.is) (element_halt c.args.depth (stretch_of c.in-Elem.field-0) (stretch_of c.in-Elem.name) (map part_of c.in-Elem.index.items) _ _ _ (rw c.deref.ensures.value at c.in_err-subst_pieces-in-Elem.ensures.run))
+    let old = chars (string_bytes c.args.text.now) in
+    let ps = map part_of c.in-Elem.index.items in
+    let front = element_front _ _ _ _ c.new-element.ensures.bytes c.in_ok-push_text-in-Elem.ensures.ok c.in_ok-push-in-Elem.ensures.ok in
+    let r = element_reach c.args.depth (stretch_of c.in-Elem.field-0) (stretch_of c.in-Elem.name) ps old _ (shown g.W.Output.written g.E.Output.written c.args.state.now c.args.world.now) front in
+    rw (p.1, p.2, part-elem _ _ _ _ c.in-Elem.is) (halt_value (behind _ (pieces_text c.args.depth ps)) (λ t. behind old (read (t ++ 41 ∷ []))) _ _ r (rw c.deref.ensures.value at c.in_err-subst_pieces-in-Elem.ensures.run))
 
 pub subst_piece-returns-in_err-push-in-Elem-2-clause-run : goal.subst_piece-returns-in_err-push-in-Elem-2-clause-run
 subst_piece-returns-in_err-push-in-Elem-2-clause-run g t c =
     let p = err_from_is_err_and c.from_residual-in_err-push-in-Elem-2.result c.from_residual-in_err-push-in-Elem-2.ensures.1 in
-    let a = rw c.deref.ensures.value at c.in_ok-subst_pieces-in-Elem.ensures.run in
-    rw (p.1, p.2, part-elem _ _ _ _ c.in-Elem.is) (begins_here (element_reach c.args.depth (stretch_of c.in-Elem.field-0) (stretch_of c.in-Elem.name) (map part_of c.in-Elem.index.items) _ a.text _ a.same))
+    let old = chars (string_bytes c.args.text.now) in
+    let ps = map part_of c.in-Elem.index.items in
+    let front = element_front _ _ _ _ c.new-element.ensures.bytes c.in_ok-push_text-in-Elem.ensures.ok c.in_ok-push-in-Elem.ensures.ok in
+    let r = element_reach c.args.depth (stretch_of c.in-Elem.field-0) (stretch_of c.in-Elem.name) ps old _ (shown g.W.Output.written g.E.Output.written c.args.state.now c.args.world.now) front in
+    rw (p.1, p.2, part-elem _ _ _ _ c.in-Elem.is) (begins_here (reach_value (behind _ (pieces_text c.args.depth ps)) (λ t. behind old (read (t ++ 41 ∷ []))) _ r (rw c.deref.ensures.value at c.in_ok-subst_pieces-in-Elem.ensures.run)))
 
 pub subst_piece-returns-in_ok-push-in-Elem-2-clause-run : goal.subst_piece-returns-in_ok-push-in-Elem-2-clause-run
 subst_piece-returns-in_ok-push-in-Elem-2-clause-run g t c =
-    let a = rw c.deref.ensures.value at c.in_ok-subst_pieces-in-Elem.ensures.run in
-    let n = ap chars c.as_str.ensures.value ∙ element_name _ _ _ _ _ _ a.text c.new-element.ensures.bytes c.in_ok-push_text-in-Elem.ensures.ok c.in_ok-push-in-Elem.ensures.ok a.added c.in_ok-push-in-Elem-2.ensures.ok in
-    rw (part-elem _ _ _ _ c.in-Elem.is) (element_adds c.args.depth (stretch_of c.in-Elem.field-0) (stretch_of c.in-Elem.name) (map part_of c.in-Elem.index.items) _ _ _ _ a.text _ _ a.same n (c.add_variable-in-Elem.ensures.run _ _ _))
+    let old = chars (string_bytes c.args.text.now) in
+    let ps = map part_of c.in-Elem.index.items in
+    let front = element_front _ _ _ _ c.new-element.ensures.bytes c.in_ok-push_text-in-Elem.ensures.ok c.in_ok-push-in-Elem.ensures.ok in
+    let r = element_reach c.args.depth (stretch_of c.in-Elem.field-0) (stretch_of c.in-Elem.name) ps old _ (shown g.W.Output.written g.E.Output.written c.args.state.now c.args.world.now) front in
+    rw (part-elem _ _ _ _ c.in-Elem.is) (element_adds _ c.args.depth ps old _ _ _ _ _ _ r (rw c.deref.ensures.value at c.in_ok-subst_pieces-in-Elem.ensures.run) (ap chars c.as_str.ensures.value ∙ c.in_ok-push-in-Elem-2.ensures.ok) (c.add_variable-in-Elem.ensures.run _ _ _))

@@ -7,12 +7,13 @@ use Rattle.tcl_words.specs.Parts.{shape_of, part_of, parts_of}
 use Rattle.tcl_meaning.specs.Completions.{normal}
 use Rattle.tcl_meaning.specs.Effects.{Script, exec}
 use Rattle.tcl_meaning.specs.Nesting.{PartsNest, WordsNest}
-use Rattle.tcl_meaning.specs.Substitution.{word_text, words_text}
-use Rattle.tcl_meaning.specs.Script.{Run, most_depth, most_levels}
+use Rattle.tcl_meaning.specs.Substitution.{pieces_text, words_text}
+use Rattle.tcl_meaning.specs.Value.{behind}
+use Rattle.tcl_meaning.specs.Script.{Run, most_depth, levels_read}
 use Rattle.tcl_meaning.proofs.Rules.{word_after, words_after}
-use Rattle.tcl_interp.specs.Endings.{completion_of}
-use Rattle.tcl_interp.specs.Shown.{shown, Leaves}
-use Rattle.tcl_interp.proofs.Adding.{Added}
+use Rattle.tcl_interp.specs.Completion.{completion_of}
+use Rattle.tcl_interp.specs.Evaluation.{shown}
+use Rattle.tcl_interp.specs.Channels.{Leaves}
 use Rattle.tcl_interp.proofs.evaluate.+evaluate.Given as goal
 
 -- the units that are left, and then the calls in their order
@@ -26,13 +27,13 @@ abbrev pub decreases-subst_pieces : goal.decreases-subst_pieces
 decreases-subst_pieces g l = 1000 * l.state.now.units + (2 * l.levels + 2)
 
 abbrev pub decreases-subst_word : goal.decreases-subst_word
-decreases-subst_word g l = 1000 * l.state.now.units + (2 * most_levels + 3)
+decreases-subst_word g l = 1000 * l.state.now.units + (2 * levels_read + 3)
 
 abbrev pub decreases-subst_words : goal.decreases-subst_words
-decreases-subst_words g l = 1000 * l.state.now.units + (2 * most_levels + 4)
+decreases-subst_words g l = 1000 * l.state.now.units + (2 * levels_read + 4)
 
 abbrev pub decreases-eval_command : goal.decreases-eval_command
-decreases-eval_command g l = 1000 * l.state.now.units + (2 * most_levels + 5)
+decreases-eval_command g l = 1000 * l.state.now.units + (2 * levels_read + 5)
 
 abbrev pub invariant-eval_script-commands : goal.invariant-eval_script-commands
 invariant-eval_script-commands g l = shadow (Utf8 l.rest) × record {
@@ -49,14 +50,14 @@ abbrev pub invariant-subst_words-words : goal.invariant-subst_words-words
 invariant-subst_words-words g l = record {
   same : exec Run (words_text l.depth (map shape_of l.fn.words)) (shown g.W.Output.written g.E.Output.written l.fn.state l.fn.world) ≡ exec Run (words_after l.depth l.values.items (drop l.word-index (map shape_of l.words))) (shown g.W.Output.written g.E.Output.written l.state l.world);
   shallow : l.depth ≤ most_depth;
-  nests : WordsNest most_levels (map shape_of l.words);
+  nests : WordsNest levels_read (map shape_of l.words);
   spends : l.state.units ≤ l.fn.state.units;
   leaves : Leaves g.R.Input.to_come g.W.Output.failed_calls g.E.Output.failed_calls false l.fn.world l.world;
 }
 
 abbrev pub invariant-subst_pieces-pieces : goal.invariant-subst_pieces-pieces
 invariant-subst_pieces-pieces g l = record {
-  so_far : Added (chars (string_bytes l.fn.text)) (chars (string_bytes l.text)) (λ done. exec Run (word_text l.depth (map part_of l.fn.pieces)) (shown g.W.Output.written g.E.Output.written l.fn.state l.fn.world) ≡ exec Run (word_after l.depth done (drop l.piece-index (map part_of l.pieces))) (shown g.W.Output.written g.E.Output.written l.state l.world));
+  same : exec Run (behind (chars (string_bytes l.fn.text)) (pieces_text l.depth (map part_of l.fn.pieces))) (shown g.W.Output.written g.E.Output.written l.fn.state l.fn.world) ≡ exec Run (word_after l.depth (chars (string_bytes l.text)) (drop l.piece-index (map part_of l.pieces))) (shown g.W.Output.written g.E.Output.written l.state l.world);
   shallow : l.depth ≤ most_depth;
   nests : PartsNest l.levels (parts_of (map part_of l.pieces));
   spends : l.state.units ≤ l.fn.state.units;

@@ -1,6 +1,6 @@
 use Rattle.std.proofs.Common.{subst, sym}
-use Rattle.tcl_interp.specs.Shown.{Leaves}
-use Rattle.tcl_interp.proofs.Leaving.{leaves_same}
+use Rattle.tcl_interp.specs.Channels.{Leaves}
+use Rattle.tcl_interp.proofs.ChannelsLemmas.{leaves_same}
 use Rattle.tcl_interp.proofs.lookup.invoke.Goals as goal
 
 pub returns-in-Some-Set-clause-leaves : goal.returns-in-Some-Set-clause-leaves

@@ -1,7 +1,7 @@
 use Rattle.std.proofs.Common.{ap}
 use Rattle.tcl_meaning.specs.Completions.{wrong_words}
 use Rattle.tcl_interp.proofs.Messages.{puts_usage_text}
-use Rattle.tcl_interp.proofs.Says.{says}
+use Rattle.tcl_interp.proofs.CompletionLemmas.{says}
 use Rattle.tcl_interp.proofs.pages.puts_usage.Goals as goal
 
 pub returns : goal.returns

@@ -6,11 +6,11 @@ use Rattle.tcl_meaning.specs.Effects.{Gives}
 use Rattle.tcl_chan.specs.declared.fault.Out.{Out}
 use Rattle.tcl_meaning.specs.State.{State, wrote}
 use Rattle.tcl_interp.specs.declared.completion.Completion.{Completion}
-use Rattle.tcl_interp.specs.declared.fault.Fault.{Fault}
+use Rattle.tcl_interp.specs.declared.fault.EvalFault.{EvalFault}
 use Rattle.tcl_meaning.specs.Pages.{line_of}
-use Rattle.tcl_interp.specs.Endings.{Follows}
-use Rattle.tcl_interp.specs.Named.{output_at}
-use Rattle.tcl_interp.specs.Shown.{world_state}
+use Rattle.tcl_interp.specs.Evaluate.{Follows}
+use Rattle.tcl_interp.specs.Pages.{output_at}
+use Rattle.tcl_interp.specs.Evaluation.{world_state}
 use Rattle.tcl_interp.proofs.pages.write_line.Goals as goal
 
 -- the characters of a line that was written in two steps
@@ -19,7 +19,7 @@ line_is m₀ m₁ m₂ text z p q =
     let p' : chars m₁ ≡ chars text = p ∙ ap (λ m. chars m ++ chars text) z ∙ ap (λ t. t ++ chars text) chars-nil in
     q ∙ ap (λ t. t ++ 10 ∷ []) p'
 
-follows_line : (r : Result Completion Fault) (to : Out) (text line : List ℕ) (s t : State) → text ≡ line → Follows r (Gives (normal []) (wrote (output_at to) (encode_utf8_all text) s)) t → Follows r (Gives (normal []) (wrote (output_at to) (encode_utf8_all line) s)) t
+follows_line : (r : Result Completion EvalFault) (to : Out) (text line : List ℕ) (s t : State) → text ≡ line → Follows r (Gives (normal []) (wrote (output_at to) (encode_utf8_all text) s)) t → Follows r (Gives (normal []) (wrote (output_at to) (encode_utf8_all line) s)) t
 follows_line r to text line s t e h = subst (λ x. Follows r (Gives (normal []) (wrote (output_at to) (encode_utf8_all x) s)) t) e h
 
 pub returns-clause-run : goal.returns-clause-run

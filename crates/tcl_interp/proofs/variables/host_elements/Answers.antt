@@ -1,7 +1,7 @@
 use Rattle.std.proofs.Common.{◌≡◌, [], ◌++◌, ap, sym, ◌∙◌}
 use Rattle.std.proofs.lemmas.List.{append-nil, nil_from_length}
-use Rattle.tcl_interp.specs.HostVars.{elements_shown}
-use Rattle.tcl_interp.proofs.Lent.{lent}
+use Rattle.tcl_interp.specs.Host.{elements_shown}
+use Rattle.tcl_interp.proofs.VariablesLemmas.{lent}
 use Rattle.tcl_interp.proofs.variables.host_elements.Goals as goal
 
 pub returns : goal.returns

@@ -1,6 +1,6 @@
 use Rattle.std.proofs.Common.{◌≡◌, ◌++◌}
-use Rattle.tcl_interp.specs.HostVars.{elements_shown}
-use Rattle.tcl_interp.proofs.Lent.{lent}
+use Rattle.tcl_interp.specs.Host.{elements_shown}
+use Rattle.tcl_interp.proofs.VariablesLemmas.{lent}
 use Rattle.tcl_interp.proofs.variables.host_elements.Given as goal
 
 -- what was pushed and what is left are the entries

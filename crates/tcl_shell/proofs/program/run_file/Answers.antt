@@ -2,26 +2,26 @@ use Rattle.std.proofs.Common.{ap, ◌∙◌}
 use Rattle.std.specs.Str.{chars}
 use Rattle.tcl_shell.specs.Lines.{told}
 use Rattle.tcl_shell.specs.Program.{joined}
-use Rattle.tcl_shell.proofs.Tools.{counted_told, unread_file, bad_file, refused_file, read_file}
+use Rattle.tcl_shell.proofs.ProgramLemmas.{counted_told, unread_file, bad_file, refused_file, read_file}
 use Rattle.tcl_shell.proofs.program.run_file.Goals as goal
 
-pub returns-in_default : goal.returns-in_default
-returns-in_default g c =
+pub returns-in_default-clause-answers : goal.returns-in_default-clause-answers
+returns-in_default-clause-answers g c =
     let says = c.say.ensures in
     unread_file c.args.budget c.args.words.now c.args.file _ _ _ _ _ c.requires c.in_default.is (ap (told g.W.Output.written g.W.Output.failed_calls) says.out) says.said
 
-pub returns-in_default-from_utf8 : goal.returns-in_default-from_utf8
-returns-in_default-from_utf8 g c =
+pub returns-in_default-from_utf8-clause-answers : goal.returns-in_default-from_utf8-clause-answers
+returns-in_default-from_utf8-clause-answers g c =
     let says = c.say-in_default-from_utf8.ensures in
     bad_file c.args.budget c.args.words.now c.args.file _ _ _ _ _ c.in-Some.bytes c.requires c.in-Some.is c.in_default-from_utf8.ensures.cases.0 (ap (told g.W.Output.written g.W.Output.failed_calls) says.out) says.said
 
-pub returns-in_default-joined_lines : goal.returns-in_default-joined_lines
-returns-in_default-joined_lines g c =
+pub returns-in_default-joined_lines-clause-answers : goal.returns-in_default-joined_lines-clause-answers
+returns-in_default-joined_lines-clause-answers g c =
     let tells = c.tell.ensures in
     refused_file c.args.budget c.args.words.now c.args.file _ _ _ _ c.in-Some.bytes _ c.in-Some.is c.in-Ok.ensures.cases.1 (ap (told g.W.Output.written g.W.Output.failed_calls) tells.out) tells.status tells.says
 
-pub returns : goal.returns
-returns g c =
+pub returns-clause-answers : goal.returns-clause-answers
+returns-clause-answers g c =
     let tells = c.tell-2.ensures in
     let text = c.in-Ok.ensures.cases in
     let script = ap chars c.as_str.ensures.value ∙ c.in-Ok-joined_lines.ensures ∙ ap (λ t. joined (chars t)) text.0 in

@@ -1,7 +1,7 @@
 use Rattle.std.proofs.Common.{◌<◌, ◌^◌, sym, ap, ◌∙◌, subst, arith}
 use Rattle.std.specs.Str.{chars}
 use Rattle.std.specs.Str.Parse.{IsNumeral, digits_value}
-use Rattle.tcl_shell.proofs.Budgets.{budget_is, budget_is_none, plus_is_none, no_plus}
+use Rattle.tcl_shell.proofs.WordsLemmas.{budget_is, budget_is_none, plus_is_none, no_plus}
 use Rattle.tcl_shell.proofs.words.read_budget.Goals as goal
 
 pub returns-then-begins : goal.returns-then-begins

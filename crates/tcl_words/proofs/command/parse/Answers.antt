@@ -5,8 +5,8 @@ use Rattle.tcl_words.specs.First.{IsParsed}
 use Rattle.tcl_words.proofs.Placed.{rest_at, after_first, first_is}
 use Rattle.tcl_words.proofs.command.parse.Goals as goal
 
-pub returns-in-Some-clause-first : goal.returns-in-Some-clause-first
-returns-in-Some-clause-first c =
+pub returns-in-Some : goal.returns-in-Some
+returns-in-Some c =
     let bs = c.args.text.now in
     let cs = chars c.args.rest.now in
     let e = rw c.in-Some.is at c.in-Ok.ensures in
@@ -14,8 +14,8 @@ returns-in-Some-clause-first c =
     subst (IsParsed bs (parsed.Command c.in-Some.words c.place-end.result)) (sym (first_is c.args.reader.size c.args.reader.levels c.args.nested cs _ e))
     (refl, rest_at bs c.in-Ok.after.now c.place-end.result w c.utf8.text (search rules) c.place-end.ensures)
 
-pub returns-in-None-clause-first : goal.returns-in-None-clause-first
-returns-in-None-clause-first c =
+pub returns-in-None : goal.returns-in-None
+returns-in-None c =
     let bs = c.args.text.now in
     let cs = chars c.args.rest.now in
     let e = rw c.in-None.is at c.in-Ok.ensures in
@@ -23,8 +23,8 @@ returns-in-None-clause-first c =
     subst (IsParsed bs (parsed.End c.place-end.result)) (sym (first_is c.args.reader.size c.args.reader.levels c.args.nested cs _ e))
     (rest_at bs c.in-Ok.after.now c.place-end.result w c.utf8.text (search rules) c.place-end.ensures)
 
-pub returns-in-Err-Bad-clause-first : goal.returns-in-Err-Bad-clause-first
-returns-in-Err-Bad-clause-first c =
+pub returns-in-Err-Bad : goal.returns-in-Err-Bad
+returns-in-Err-Bad c =
     let cs = chars c.args.rest.now in
     let e = rw c.in-Err-Bad.field-0-is at c.in-Err-Bad.ensures in
     subst (IsParsed c.args.text.now (parsed.Bad c.in-Err-Bad.fault)) (sym (first_is c.args.reader.size c.args.reader.levels c.args.nested cs _ e)) refl

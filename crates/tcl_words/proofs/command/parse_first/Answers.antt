@@ -6,7 +6,7 @@ use Rattle.tcl_chars.specs.Place.{bytes}
 use Rattle.tcl_words.specs.First.{IsParsed, first}
 use Rattle.tcl_words.proofs.command.parse_first.Goals as goal
 
-pub returns-clause-first : goal.returns-clause-first
-returns-clause-first c =
+pub returns : goal.returns
+returns c =
     let e : bytes (chars c.args.text.now) ≡ length c.args.text.now = ap length (encodes-chars c.args.text.now c.utf8.text) in
-    subst (λ n. IfOk c.parse.result (λ p. IsParsed c.args.text.now p (first n c.args.levels false (chars c.args.text.now)))) (sym e) c.parse.ensures.first
+    subst (λ n. IfOk c.parse.result (λ p. IsParsed c.args.text.now p (first n c.args.levels false (chars c.args.text.now)))) (sym e) c.parse.ensures

@@ -1,6 +1,6 @@
 use Rattle.std.specs.Str.{chars}
 use Rattle.tcl_interp.proofs.Messages.{cant_read_text, quote_text}
-use Rattle.tcl_interp.proofs.Says.{says, quoted}
+use Rattle.tcl_interp.proofs.CompletionLemmas.{says, quoted}
 use Rattle.tcl_interp.proofs.completion.Completion.cant_read.Goals as goal
 
 pub returns : goal.returns

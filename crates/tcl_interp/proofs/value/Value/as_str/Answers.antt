@@ -1,6 +1,6 @@
 use Rattle.std.proofs.Common.{ap, sym, ◌∙◌}
 use Rattle.std.proofs.lemmas.Str.{chars-nil}
-use Rattle.tcl_interp.specs.Values.{shown_text}
+use Rattle.tcl_interp.specs.Value.{shown_text}
 use Rattle.tcl_interp.proofs.value.Value.as_str.Goals as goal
 
 pub returns-in-None : goal.returns-in-None

@@ -6,7 +6,7 @@ use Rattle.std.specs.declared.rc.RcStr.{RcStr}
 use Rattle.std.specs.declared.alloc.Global.{Global}
 use Rattle.std.proofs.lemmas.Str.{chars-nil}
 use Rattle.tcl_names.specs.Named.{text_of}
-use Rattle.tcl_interp.specs.Values.{shown_text}
+use Rattle.tcl_interp.specs.Value.{shown_text}
 use Rattle.tcl_interp.proofs.value.Value.into_text.Goals as goal
 
 empty_text : {E : Type 0} (r : Result (RcStr Global) E) (t : List ℕ) → IfOk r (λ rc. rc_str_bytes rc ≡ []) → [] ≡ t → IfOk r (λ text. text_of text ≡ t)

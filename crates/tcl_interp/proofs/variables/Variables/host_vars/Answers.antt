@@ -1,8 +1,8 @@
 use Rattle.std.proofs.Common.{◌≡◌, [], ap, sym, subst, ◌∙◌}
 use Rattle.std.proofs.lemmas.List.{append-nil, nil_from_length}
 use Rattle.std.specs.FinMap as map
-use Rattle.tcl_interp.specs.HostVars.{EachIs}
-use Rattle.tcl_interp.proofs.Lent.{lent}
+use Rattle.tcl_interp.specs.Host.{EachIs}
+use Rattle.tcl_interp.proofs.VariablesLemmas.{lent}
 use Rattle.tcl_interp.proofs.variables.Variables.host_vars.Goals as goal
 
 pub returns : goal.returns

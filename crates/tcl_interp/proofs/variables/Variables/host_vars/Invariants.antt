@@ -2,8 +2,8 @@ use Rattle.std.proofs.Common.{List, ◌++◌}
 use Rattle.std.specs.declared.rc.RcStr.{RcStr}
 use Rattle.std.specs.declared.alloc.Global.{Global}
 use Rattle.tcl_interp.specs.declared.host.HostVar.{HostVar}
-use Rattle.tcl_interp.specs.HostVars.{EachIs}
-use Rattle.tcl_interp.proofs.Lent.{lent}
+use Rattle.tcl_interp.specs.Host.{EachIs}
+use Rattle.tcl_interp.proofs.VariablesLemmas.{lent}
 use Rattle.tcl_interp.proofs.variables.Variables.host_vars.Given as goal
 
 -- what shows the entries that are left, behind what was pushed, shows them all

@@ -1,5 +1,0 @@
-mod callers;
-mod cuts;
-mod devices;
-mod input;
-mod output;

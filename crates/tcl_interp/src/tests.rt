@@ -1,6 +1,0 @@
-//! Scripts over devices in memory, as tclsh 8.6 runs them, and what a host asks.
-mod faults;
-mod hosts;
-mod runs;
-mod scripts;
-mod setting;

@@ -1,0 +1,41 @@
+//! What a caller of a world learns of the devices that it lent.
+ghost use Rattle.std.specs.Prelude.{◌≡◌, ◌++◌, [], OnOk, Some};
+ghost use Rattle.tcl_chan.specs.Devices.{put};
+
+use std::alloc::Global;
+use std::test::Fail;
+use tcl_chan::device::{Input, Output};
+use tcl_chan::fault::{ChanFault, Out};
+use tcl_chan::memory::{MemoryInput, MemoryOutput};
+use tcl_chan::world::World;
+
+/// Writes both texts, the second one to standard error, and flushes.
+fn write_both<R: Input, W: Output, E: Output>(
+    alloc: Global,
+    input: &mut R,
+    out: &mut W,
+    err: &mut E,
+    first: &str,
+    second: &str,
+) -> Result<(), ChanFault>
+    ensures out { OnOk result (W.written out.new ≡ put (W.written out.old) first.now) }
+    ensures err { OnOk result (E.written err.new ≡ put (E.written err.old) second.now) }
+    ensures input { R.to_come input.new ≡ R.to_come input.old }
+{
+    let mut world = World::new(alloc, input, out, err);
+    world.puts(Out::Stdout, first)?;
+    world.puts(Out::Stderr, second)?;
+    world.flush(Out::Stdout)
+}
+
+#[test]
+fn devices_end_as_the_world_leaves_them(rt: HostRuntime) -> Result<(), Fail> {
+    let alloc = rt.alloc();
+    let mut input = MemoryInput::new(b"");
+    let mut out = MemoryOutput::new(alloc, 9)?;
+    let mut err = MemoryOutput::new(alloc, 9)?;
+    write_both(alloc, &mut input, &mut out, &mut err, "one", "two")?;
+    assert_eq!(rt; out.bytes(), b"one".as_slice());
+    assert_eq!(rt; err.bytes(), b"two".as_slice());
+    Ok(())
+}

@@ -1,0 +1,20 @@
+//! The unit tests of the public calls of the crates below, a file or a folder a crate: what no contract can say.
+//! That memory is there for an answer, that the definitions are the manual's, and how large texts fare.
+#![tactic(auto)]
+
+#[cfg(test)]
+mod chan;
+#[cfg(test)]
+mod chars;
+#[cfg(test)]
+mod expr;
+#[cfg(test)]
+mod interp;
+#[cfg(test)]
+mod list;
+#[cfg(test)]
+mod names;
+#[cfg(test)]
+mod shell;
+#[cfg(test)]
+mod words;
