@@ -5,6 +5,7 @@ pub mod EscapesLemmas
 pub mod Figures
 pub mod Forms
 pub mod Literals
+pub mod LongestEscapes
 pub mod MessagesLemmas
 pub mod Numerals
 pub mod Order

@@ -1,5 +1,10 @@
 //! Laws of the definitions: each function's contract is one, and its body does nothing.
-ghost use Rattle.tcl_chars.specs.Laws.{DivisionIsExact, DecimalReadsBack, OrderIsKept};
+ghost use Rattle.tcl_chars.specs.Laws.{EscapeIsLongest, DivisionIsExact, DecimalReadsBack, OrderIsKept};
+
+/// An escape is the longest that the text allows.
+pub fn escape_is_longest()
+    ensures { EscapeIsLongest }
+{}
 
 /// A number is the divisor times the quotient, and the remainder, which has the divisor's sign.
 pub fn division_is_exact()
