@@ -2,7 +2,7 @@
 use Rattle.std.proofs.Common.{◌≡◌, ◌≢◌, ℕ, ◌≤◌, ◌-◌, Bool, true, false, List, [], ◌∷◌, ◌++◌, length, take, Option, Some, None, Result, Ok, Err, refl, sym, ap, subst, ◌∙◌, inl, inr, arith}
 use Rattle.std.specs.Prelude.{◌==◌, not, ◌&&◌, ◌||◌, ◌⊎◌, if◌then◌else◌, IfSome, codes}
 use Rattle.std.specs.List.{list_all}
-use Rattle.std.specs.Cmp.Lexicographic.{same_text}
+use Rattle.std.specs.Cmp.Lexicographic.{same_text as equal_by_test}
 use Rattle.std.proofs.lemmas.Bool.{eqb-true, eqb-false, ne_eqb}
 use Rattle.std.proofs.lemmas.List.{length-append}
 use Rattle.std.proofs.Math.Seq.{take-append_seam}
@@ -10,6 +10,7 @@ use Rattle.std.proofs.Math.Nat.{add-sub_cancel}
 use Rattle.tcl_chars.specs.Characters.{open_paren, open_brace, open_bracket, quote, dollar}
 use Rattle.tcl_chars.specs.Classes.{is_list_space}
 use Rattle.tcl_chars.specs.Place.{begins, tail, before, place}
+use Rattle.tcl_chars.specs.Texts.{same_text}
 use Rattle.tcl_chars.specs.Truth.{truth_of}
 use Rattle.tcl_chars.specs.Whole.{skip_space}
 use Rattle.tcl_chars.specs.declared.numbers.Dialect.{Dialect}
@@ -30,7 +31,7 @@ use Rattle.tcl_expr.specs.Spelling.{begins_space, IsGap, IsFront, IsRun, IsSigne
 use Rattle.tcl_expr.specs.Spelling as spelling
 use Rattle.tcl_expr.specs.Texts.{unary_text, binary_text, function_text, symbol_text}
 use Rattle.tcl_expr.specs.Token.{Token, Operand, Bareword, Unary, Open}
-use Rattle.tcl_expr.specs.Tokens.{minus, equals, is_run_char, after_run, begins_run, begins_digit, begins_letter, begins_signed, is_text, function_of, word_operator, says_something, called, run_token, two, one, with_rest, or_one, symbol_at, symbol_token, prefix, word_token, or_bareword, or_symbol, operand_token, or_stray, operator_or_stray, operator_token, next_token}
+use Rattle.tcl_expr.specs.Tokens.{minus, equals, is_run_char, after_run, begins_run, begins_digit, begins_letter, begins_signed, function_of, word_operator, says_something, called, run_token, two, one, with_rest, or_one, symbol_at, symbol_token, prefix, word_token, or_bareword, or_symbol, operand_token, or_stray, operator_or_stray, operator_token, next_token}
 
 -- ---- tests
 
@@ -229,15 +230,15 @@ plain_token dialect s rest n =
 
 -- ---- functions and the operators that are runs
 
-text_is : (cs ds : List ℕ) → is_text cs ds ≡ true → cs ≡ ds
-text_is cs ds e = same_text cs ds (sym e)
+text_is : (cs ds : List ℕ) → same_text cs ds ≡ true → cs ≡ ds
+text_is cs ds e = equal_by_test cs ds (sym e)
 
 function_named : (cs : List ℕ) → IfSome (function_of cs) (λ f. cs ≡ function_text f)
 function_named cs =
     let P : Option Function → Type 0 = λ o. IfSome o (λ f. cs ≡ function_text f) in
-    branch P (is_text cs (codes "abs")) _ _ (λ e. text_is cs _ e) (λ _. branch P (is_text cs (codes "bool")) _ _ (λ e. text_is cs _ e)
-    (λ _. branch P (is_text cs (codes "int")) _ _ (λ e. text_is cs _ e) (λ _. branch P (is_text cs (codes "wide")) _ _ (λ e. text_is cs _ e)
-    (λ _. branch P (is_text cs (codes "max")) _ _ (λ e. text_is cs _ e) (λ _. branch P (is_text cs (codes "min")) _ _ (λ e. text_is cs _ e) (λ _. tt))))))
+    branch P (same_text cs (codes "abs")) _ _ (λ e. text_is cs _ e) (λ _. branch P (same_text cs (codes "bool")) _ _ (λ e. text_is cs _ e)
+    (λ _. branch P (same_text cs (codes "int")) _ _ (λ e. text_is cs _ e) (λ _. branch P (same_text cs (codes "wide")) _ _ (λ e. text_is cs _ e)
+    (λ _. branch P (same_text cs (codes "max")) _ _ (λ e. text_is cs _ e) (λ _. branch P (same_text cs (codes "min")) _ _ (λ e. text_is cs _ e) (λ _. tt))))))
 
 function_found : (f : Function) → function_of (function_text f) ≡ Some f
 function_found function.Abs = refl
@@ -254,8 +255,8 @@ no_function cs (Some f) e n = let P : Option Function → Type 0 = λ o. IfSome 
 word_named : (cs : List ℕ) → IfSome (word_operator cs) (λ op. cs ≡ binary_text op)
 word_named cs =
     let P : Option BinaryOp → Type 0 = λ o. IfSome o (λ op. cs ≡ binary_text op) in
-    branch P (is_text cs (codes "eq")) _ _ (λ e. text_is cs _ e) (λ _. branch P (is_text cs (codes "ne")) _ _ (λ e. text_is cs _ e)
-    (λ _. branch P (is_text cs (codes "in")) _ _ (λ e. text_is cs _ e) (λ _. branch P (is_text cs (codes "ni")) _ _ (λ e. text_is cs _ e) (λ _. tt))))
+    branch P (same_text cs (codes "eq")) _ _ (λ e. text_is cs _ e) (λ _. branch P (same_text cs (codes "ne")) _ _ (λ e. text_is cs _ e)
+    (λ _. branch P (same_text cs (codes "in")) _ _ (λ e. text_is cs _ e) (λ _. branch P (same_text cs (codes "ni")) _ _ (λ e. text_is cs _ e) (λ _. tt))))
 
 word_found : (op : BinaryOp) → begins_run (binary_text op) ≡ true → word_operator (binary_text op) ≡ Some op
 word_found binary.TextEqual r = refl
