@@ -119,6 +119,8 @@ impl Reader {
         ensures within { IfOk result (λ taken. taken.1 ≤ length self.new.held) }
         ensures taken { IfSome (left_of R.to_come self.old input.old)
             (λ bytes. IfOk result (λ taken. TakesCount count bytes (string_bytes taken.0) taken.1 taken.2)) }
+        ensures ended { IfOk result (λ taken. taken.2 ≡ true → self.new.ended ≡ true) }
+        ensures all { IfOk result (λ taken. taken.2 ≡ true → taken.1 ≡ length self.new.held) }
     {
         let mut text = String::new(alloc);
         let mut size = 0;
@@ -153,6 +155,9 @@ impl Reader {
             TakesLine bytes self.old.met_end (option_map rc_str_bytes line) (left_of R.to_come self.new input.new) self.new.met_end)) }
         ensures kept { OnErr result (StaysLeft (left_of R.to_come self.old input.old) (left_of R.to_come self.new input.new)) }
         ensures kept_end { OnErr result (self.new.met_end ≡ self.old.met_end) }
+
+        // A call that meets the end leaves nothing, also where the device tells nothing.
+        ensures end { self.old.met_end ≡ false → self.new.met_end ≡ true → left_of R.to_come self.new input.new ≡ Some [] }
     {
         match self.line_end(input)? {
             Some(place) => self.whole_line(alloc, place),
@@ -170,6 +175,7 @@ impl Reader {
         ensures line { IfOk result (λ line. (device : Option (List ℕ)) → IfSome (unread self.old.held self.old.ended device)
             (λ bytes. TakesLine bytes self.old.met_end (option_map rc_str_bytes line)
             (unread self.new.held self.new.ended device) self.new.met_end)) }
+        ensures met_end { self.new.met_end ≡ self.old.met_end }
         ensures memory { OnErr result (result ≡ Err Memory) }
         ensures kept { OnErr result (self.new ≡ self.old) }
     {
@@ -185,6 +191,8 @@ impl Reader {
         ensures line { IfOk result (λ line. (device : Option (List ℕ)) → IfSome (unread self.old.held self.old.ended device)
             (λ bytes. TakesLine bytes self.old.met_end (option_map rc_str_bytes line)
             (unread self.new.held self.new.ended device) self.new.met_end)) }
+        ensures all { OnOk result (self.new.held ≡ []) }
+        ensures ended { self.new.ended ≡ true }
         ensures memory { OnErr result (result ≡ Err Memory) }
         ensures kept { OnErr result (self.new ≡ self.old) }
     {
@@ -212,6 +220,9 @@ impl Reader {
             TakesText count bytes self.old.met_end (rc_str_bytes text) (left_of R.to_come self.new input.new) self.new.met_end)) }
         ensures kept { OnErr result (StaysLeft (left_of R.to_come self.old input.old) (left_of R.to_come self.new input.new)) }
         ensures kept_end { OnErr result (self.new.met_end ≡ self.old.met_end) }
+
+        // A call that meets the end leaves nothing, also where the device tells nothing.
+        ensures end { self.old.met_end ≡ false → self.new.met_end ≡ true → left_of R.to_come self.new input.new ≡ Some [] }
     {
         let (text, size, fewer) = self.chars_ahead(alloc, input, count.unwrap_or(u64::MAX))?;
         let text = RcStr::from_string(text)?;

@@ -1,5 +1,5 @@
 //! What a script reads and writes.
-ghost use Rattle.std.specs.Prelude.{◌≡◌, ◌≤◌, ◌++◌, false, ℕ, List, Err, take, drop, length, OnOk, OnErr, IfSome, IfOk, IfErr, Some, None, option_map};
+ghost use Rattle.std.specs.Prelude.{◌≡◌, ◌≤◌, ◌++◌, [], true, false, ℕ, List, Err, take, drop, length, OnOk, OnErr, IfSome, IfOk, IfErr, Some, None, option_map};
 ghost use Rattle.std.specs.Rc.{rc_str_bytes};
 ghost use Rattle.tcl_chan.specs.Devices.{put, StaysLeft};
 ghost use Rattle.tcl_chan.specs.Faults.{IsInputFault, write_failures, read_failures};
@@ -156,6 +156,9 @@ impl<'input, 'out, 'err, R: Input, W: Output, E: Output> World<
         ensures fault { IfErr result IsInputFault }
         ensures failures { R.failed_calls (stdin self.new) ≡ read_failures (R.failed_calls (stdin self.old)) result }
 
+        // A call that meets the end leaves nothing, also where the device tells nothing: the input stays ended.
+        ensures end { met_end self.old ≡ false → met_end self.new ≡ true → unread_of R.to_come self.new ≡ Some [] }
+
         // After a fault the input left is as it was.
         ensures kept { OnErr result (StaysLeft (unread_of R.to_come self.old) (unread_of R.to_come self.new)) }
         ensures kept_end { OnErr result (met_end self.new ≡ met_end self.old) }
@@ -171,6 +174,9 @@ impl<'input, 'out, 'err, R: Input, W: Output, E: Output> World<
             TakesText count bytes (met_end self.old) (rc_str_bytes text) (unread_of R.to_come self.new) (met_end self.new))) }
         ensures fault { IfErr result IsInputFault }
         ensures failures { R.failed_calls (stdin self.new) ≡ read_failures (R.failed_calls (stdin self.old)) result }
+
+        // A call that meets the end leaves nothing, also where the device tells nothing: the input stays ended.
+        ensures end { met_end self.old ≡ false → met_end self.new ≡ true → unread_of R.to_come self.new ≡ Some [] }
 
         // After a fault the input left is as it was.
         ensures kept { OnErr result (StaysLeft (unread_of R.to_come self.old) (unread_of R.to_come self.new)) }

@@ -5,6 +5,10 @@ use Rattle.tcl_expr.specs.declared.token.UnaryOp.{UnaryOp}
 use Rattle.tcl_expr.specs.declared.token.UnaryOp.TheVariants as unary
 use Rattle.tcl_expr.specs.declared.token.BinaryOp.{BinaryOp}
 use Rattle.tcl_expr.specs.declared.token.BinaryOp.TheVariants as binary
+use Rattle.tcl_expr.specs.declared.token.Function.{Function}
+use Rattle.tcl_expr.specs.declared.token.Function.TheVariants as function
+use Rattle.tcl_expr.specs.declared.token.Symbol.{Symbol}
+use Rattle.tcl_expr.specs.declared.token.Symbol.TheVariants as symbol
 use Rattle.tcl_expr.specs.ExprFault.{ExprFault}
 use Rattle.tcl_expr.specs.ExprFault as fault
 
@@ -38,6 +42,24 @@ binary_text binary.BitXor = codes "^"
 binary_text binary.BitOr = codes "|"
 binary_text binary.And = codes "&&"
 binary_text binary.Or = codes "||"
+
+-- operators and marks that are no runs
+abbrev pub symbol_text : Symbol → List ℕ
+symbol_text (symbol.Binary op) = binary_text op
+symbol_text symbol.Power = codes "**"
+symbol_text symbol.Question = codes "?"
+symbol_text symbol.Colon = codes ":"
+symbol_text symbol.Comma = codes ","
+symbol_text symbol.Close = codes ")"
+
+-- expr(n), Math functions
+abbrev pub function_text : Function → List ℕ
+function_text function.Abs = codes "abs"
+function_text function.Bool = codes "bool"
+function_text function.Int = codes "int"
+function_text function.Wide = codes "wide"
+function_text function.Max = codes "max"
+function_text function.Min = codes "min"
 
 -- a sentence about a name
 abbrev pub naming : List ℕ → List ℕ → List ℕ

@@ -10,26 +10,23 @@ ghost use Rattle.tcl_list.specs.Texts.{text_of};
 use crate::reading::Closed;
 use std::alloc::{AllocError, Global};
 use std::rc::RcStr;
-use tcl_chars::{is_list_space, push, push_text, split_first};
+use tcl_chars::{is_list_space, message, push, push_text, split_first};
 
 /// No brace matches the one that opens an element.
-#[tactic(auto, using(crate::proofs::Messages::chars_unmatched_brace))]
 pub(crate) fn unmatched_brace(alloc: Global) -> Result<RcStr, AllocError>
     ensures { IfOk result (λ s. text_of s ≡ unmatched_brace) }
 {
-    RcStr::from_str(alloc, "unmatched open brace in list")
+    message(alloc, "unmatched open brace in list")
 }
 
 /// No quote closes an element that a quote opens.
-#[tactic(auto, using(crate::proofs::Messages::chars_unmatched_quote))]
 pub(crate) fn unmatched_quote(alloc: Global) -> Result<RcStr, AllocError>
     ensures { IfOk result (λ s. text_of s ≡ unmatched_quote) }
 {
-    RcStr::from_str(alloc, "unmatched open quote in list")
+    message(alloc, "unmatched open quote in list")
 }
 
 /// The message's beginning, up to what follows.
-#[tactic(auto, using(crate::proofs::Messages::chars_braces_followed, crate::proofs::Messages::chars_quotes_followed))]
 fn beginning(closed: Closed) -> &'static str
     ensures { chars result.now ≡ beginning closed }
 {

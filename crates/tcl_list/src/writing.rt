@@ -117,7 +117,7 @@ fn push_escaped(text: &mut String, element: &str) -> Result<(), AllocError>
 }
 
 /// Writes an element in its form.
-#[tactic(auto, using(crate::proofs::Messages::chars_empty_braces))]
+#[tactic(auto, using(tcl_chars::proofs::Literals::literal_chars))]
 fn push_form(text: &mut String, element: &str, form: Form, first: bool) -> Result<(), AllocError>
     ensures { WritesBehind (chars (string_bytes text.old)) (chars (string_bytes text.new))
         (spelled form first (chars element.now)) result }

@@ -1,38 +1,45 @@
 -- The test of a pattern is right.
 use Rattle.std.proofs.Common.{◌≡◌, ◌≢◌, ℕ, zero, suc, ◌≤◌, ◌==◌, Bool, true, false, ◌||◌, ◌&&◌, List, [], ◌∷◌, ◌++◌, length, sym, ap, ◌∙◌, subst, refl, arith, inl, inr}
 use Rattle.std.specs.Prelude.{if◌then◌else◌, ◌↔◌}
-use Rattle.std.proofs.lemmas.Bool.{cases_Bool, cond_both, and_parts, eqb-true, ne_eqb, false≢true}
+use Rattle.std.proofs.lemmas.Bool.{cases_Bool, cond_both, and_parts, cond-true, cond-false, eq-eqb, eqb-true, ne_eqb, false≢true}
 use Rattle.tcl_chars.specs.Characters.{star, backslash, open_bracket, close_bracket}
-use Rattle.tcl_pages.specs.Glob.{One, takes, set_of, first_part, Matches, some_rest, one_taken, glob_within, glob, GlobIsMatch, question}
+use Rattle.tcl_chars.specs.Place.{tail}
+use Rattle.tcl_pages.specs.Glob.{One, takes, to_bracket, escaped_part, first_part, Matches, some_rest, one_taken, glob_within, glob, GlobIsMatch, question}
 use Rattle.tcl_pages.specs.Glob as pattern
 use Rattle.tcl_pages.specs.Texts.{Text}
 
 -- ---- a part takes a character of the pattern at least
 
-set_shorter : (cs : Text) → length (set_of cs).1 ≤ length cs
-set_shorter [] = omega arith
-set_shorter (c ∷ cs) = cond_both (c == close_bracket) _ _ (λ (s : Text × Text). length s.1 ≤ length (c ∷ cs)) (λ _. omega arith) (λ _. omega (arith, set_shorter cs))
+tail_shorter : (cs : Text) → length (tail cs) ≤ length cs
+tail_shorter [] = omega arith
+tail_shorter (c ∷ cs) = omega arith
+
+bracket_shorter : (cs : Text) → length (to_bracket cs) ≤ length cs
+bracket_shorter [] = omega arith
+bracket_shorter (c ∷ cs) = cond_both (c == close_bracket) _ _ (λ (t : Text). length t ≤ length (c ∷ cs)) (λ _. omega arith) (λ _. omega (arith, bracket_shorter cs))
 
 abbrev Shorter : ℕ → One × Text → Type 0
 Shorter n part = length part.1 ≤ n
 
-part_shorter : (p : ℕ) (ps : Text) → Shorter (length ps) (first_part p ps)
-part_shorter p [] =
-    cond_both (p == question) _ _ (Shorter 0) (λ _. omega arith) (λ _. cond_both (p == open_bracket) _ _ (Shorter 0) (λ _. omega arith) (λ _. omega arith))
-part_shorter p (q ∷ ps) =
-    cond_both (p == question) _ _ (Shorter (length (q ∷ ps))) (λ _. omega arith)
-    (λ _. cond_both (p == backslash) _ _ (Shorter (length (q ∷ ps))) (λ _. omega arith)
-    (λ _. cond_both (p == open_bracket) _ _ (Shorter (length (q ∷ ps))) (λ _. set_shorter (q ∷ ps)) (λ _. omega arith)))
+escaped_shorter : (cs : Text) → Shorter (length cs) (escaped_part cs)
+escaped_shorter [] = omega arith
+escaped_shorter (c ∷ cs) = omega arith
+
+pub part_shorter : (p : ℕ) (ps : Text) → Shorter (length ps) (first_part p ps)
+part_shorter p ps =
+    cond_both (p == question) _ _ (Shorter (length ps)) (λ _. omega arith)
+    (λ _. cond_both (p == open_bracket) _ _ (Shorter (length ps)) (λ _. omega (arith, tail_shorter (to_bracket ps), bracket_shorter ps))
+    (λ _. cond_both (p == backslash) _ _ (Shorter (length ps)) (λ _. escaped_shorter ps) (λ _. omega arith)))
 
 -- ---- what the test finds is a match
 
-record Rest (test : Text → Bool) (t : Text) : Type 0 where
-  front : Text
-  rest : Text
-  joined : t ≡ front ++ rest
-  passes : test rest ≡ true
+pub record Rest (test : Text → Bool) (t : Text) : Type 0 where
+  pub front : Text
+  pub rest : Text
+  pub joined : t ≡ front ++ rest
+  pub passes : test rest ≡ true
 
-found_rest : (test : Text → Bool) (t : Text) → some_rest test t ≡ true → Rest test t
+pub found_rest : (test : Text → Bool) (t : Text) → some_rest test t ≡ true → Rest test t
 found_rest test [] h = record { front = []; rest = []; joined = refl; passes = h }
 found_rest test (c ∷ cs) h =
     elim (cases_Bool (test (c ∷ cs))) [
@@ -84,3 +91,39 @@ is_found (suc n) _ _ (pattern.one p c ps rest s t m) l =
 pub glob_is_match : GlobIsMatch
 unfolding glob
 glob_is_match ps t = (λ m. is_found (length ps) ps t m (omega arith), is_match (length ps) ps t)
+
+pub same_truth : (a b : Bool) → (a ≡ true → b ≡ true) → (b ≡ true → a ≡ true) → a ≡ b
+same_truth true b h k = sym (h refl)
+same_truth false true h k = k refl
+same_truth false false h k = refl
+
+-- any count of parts that is enough gives the same
+enough : (n : ℕ) (ps t : Text) → length ps ≤ n → glob_within n ps t ≡ glob ps t
+unfolding glob
+enough n ps t l = same_truth _ _ (λ e. is_found (length ps) ps t (is_match n ps t e) (omega arith)) (λ e. is_found n ps t (is_match (length ps) ps t e) l)
+
+same_rest : (f g : Text → Bool) (t : Text) → ((u : Text) → f u ≡ g u) → some_rest f t ≡ some_rest g t
+same_rest f g [] h = h []
+same_rest f g (c ∷ cs) h = ap (λ b. b || some_rest f cs) (h (c ∷ cs)) ∙ ap (λ b. g (c ∷ cs) || b) (same_rest f g cs h)
+
+-- ---- a pattern from the left
+
+pub no_pattern : glob [] [] ≡ true
+unfolding glob
+no_pattern = refl
+
+pub text_left : (c : ℕ) (cs : Text) → glob [] (c ∷ cs) ≡ false
+unfolding glob
+text_left c cs = refl
+
+pub at_star : (p : ℕ) (ps t : Text) → p ≡ star → glob (p ∷ ps) t ≡ some_rest (glob ps) t
+unfolding glob
+at_star p ps t e = cond-true _ _ _ (eq-eqb p star e) ∙ same_rest (glob_within (length ps) ps) (glob ps) t (λ u. refl)
+
+pub no_text : (p : ℕ) (ps : Text) → p ≢ star → glob (p ∷ ps) [] ≡ false
+unfolding glob
+no_text p ps n = cond-false _ _ _ (ne_eqb p star n)
+
+pub at_part : (p c : ℕ) (ps t : Text) → p ≢ star → glob (p ∷ ps) (c ∷ t) ≡ (takes (first_part p ps).0 c && glob (first_part p ps).1 t)
+unfolding glob
+at_part p c ps t n = cond-false _ _ _ (ne_eqb p star n) ∙ ap (λ b. takes (first_part p ps).0 c && b) (enough (length ps) (first_part p ps).1 t (part_shorter p ps))

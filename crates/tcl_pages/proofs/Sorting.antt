@@ -10,7 +10,7 @@ use Rattle.tcl_pages.specs.Sorting.{inserted, sorted, SortedIsStable}
 
 module _ {A : Type 0} (before : A → A → Bool) (order : IsStrictWeakOrder before) where
   not_itself : (x : A) → before x x ≡ false
-  not_itself x = elim (cases_Bool (before x x)) [ | inl t ↦ order.one_way x x t | inr f ↦ f ]
+  not_itself x = elim (cases_Bool (before x x)) [ inl t ↦ order.one_way x x t | inr f ↦ f ]
 
   -- neither is before the other
   record Tie (x y : A) : Type 0 where

@@ -1,6 +1,7 @@
 -- Patterns (string(n), string match; lsearch(n), -glob).
 use Rattle.std.specs.Prelude.{◌≡◌, ◌≢◌, ℕ, zero, suc, Bool, true, false, nat_le, length, ◌==◌, ◌&&◌, ◌||◌, List, [], ◌∷◌, ◌++◌, ◌↔◌, if◌then◌else◌}
 use Rattle.tcl_chars.specs.Characters.{star, backslash, open_bracket, close_bracket}
+use Rattle.tcl_chars.specs.Place.{before, tail}
 use Rattle.tcl_pages.specs.Texts.{Text}
 
 abbrev pub question : ℕ
@@ -20,10 +21,10 @@ in_set (x ∷ []) c = x == c
 in_set (x ∷ d ∷ []) c = (x == c) || (d == c)
 in_set (x ∷ d ∷ y ∷ set) c = if d == minus then is_between x y c || in_set set c else (x == c) || in_set (d ∷ y ∷ set) c
 
--- a set up to the next `]` or the pattern's end, and the pattern behind it
-abbrev pub set_of : Text → Text × Text
-set_of [] = ([], [])
-set_of (c ∷ cs) = if c == close_bracket then ([], cs) else (c ∷ (set_of cs).0, (set_of cs).1)
+-- what a pattern has left at its next `]`
+abbrev pub to_bracket : Text → Text
+to_bracket [] = []
+to_bracket (c ∷ cs) = if c == close_bracket then c ∷ cs else to_bracket cs
 
 -- what one part of a pattern but `*` takes of a text: one character, of these
 pub data One : Type 0 where
@@ -36,13 +37,18 @@ takes any c = true
 takes (just d) c = d == c
 takes (one_of set) c = in_set set c
 
--- the first part of a pattern that doesn't begin with `*`, and the pattern behind it; a backslash at the end is itself
+-- a backslash and the character behind it, which stands for itself; at the end the backslash does
+abbrev pub escaped_part : Text → One × Text
+escaped_part [] = (just backslash, [])
+escaped_part (c ∷ cs) = (just c, cs)
+
+-- The first part of a pattern that doesn't begin with `*`, and the pattern behind it. A set goes up to the next `]`, or to
+-- the pattern's end.
 abbrev pub first_part : ℕ → Text → One × Text
-first_part p [] = if p == question then (any, []) else (if p == open_bracket then (one_of [], []) else (just p, []))
-first_part p (q ∷ ps) =
-    if p == question then (any, q ∷ ps) else (
-    if p == backslash then (just q, ps) else (
-    if p == open_bracket then (one_of (set_of (q ∷ ps)).0, (set_of (q ∷ ps)).1) else (just p, q ∷ ps)))
+first_part p ps =
+    if p == question then (any, ps) else (
+    if p == open_bracket then (one_of (before ps (to_bracket ps)), tail (to_bracket ps)) else (
+    if p == backslash then escaped_part ps else (just p, ps)))
 
 -- A text matches a pattern: `*` is any text, and another part one character that it takes.
 pub data Matches : Text → Text → Type 0 where

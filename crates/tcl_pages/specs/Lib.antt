@@ -2,7 +2,6 @@ pub mod Answers
 pub mod Glob
 pub mod ListPages
 pub mod Lists
-pub mod Messages
 pub mod Numbers
 pub mod Searching
 pub mod Sorting

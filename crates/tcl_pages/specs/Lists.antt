@@ -1,10 +1,11 @@
 -- Commands on lists: list(n), llength(n), lreverse(n), concat(n), lindex(n), lrange(n), linsert(n), lreplace(n), lrepeat(n),
 -- lassign(n), lset(n), lappend(n). In a dialect of numbers.
-use Rattle.std.specs.Prelude.{ℕ, zero, suc, ◌+◌, Bool, true, false, ◌==◌, min, max, ℤ, pos, negsuc, ◌+ℤ◌, nat_le, nat_lt, List, [], ◌∷◌, ◌++◌, take, drop, get_or, length, reverse, replicate, codes, Result, Ok, Err, if◌then◌else◌}
+use Rattle.std.specs.Prelude.{ℕ, zero, suc, ◌+◌, Bool, true, false, ◌==◌, min, max, ℤ, pos, negsuc, ◌+ℤ◌, nat_le, nat_lt, List, [], ◌∷◌, ◌++◌, take, drop, get_or, length, reverse, replicate, Result, Ok, Err, if◌then◌else◌}
 use Rattle.tcl_chars.specs.Characters.{backslash}
 use Rattle.tcl_chars.specs.Classes.{is_list_space}
 use Rattle.tcl_chars.specs.Index.{place_of}
-use Rattle.tcl_pages.specs.Messages.{number, position, about}
+use Rattle.tcl_chars.specs.Messages.{number, position, about}
+use Rattle.tcl_chars.specs.Texts.{literal}
 use Rattle.tcl_chars.specs.Whole.{skip_space}
 use Rattle.tcl_chars.specs.declared.numbers.Dialect.{Dialect}
 use Rattle.tcl_list.specs.Elements.{elements_of}
@@ -20,14 +21,14 @@ abbrev pub llength : List Text → Answer Text
 llength (list ∷ []) = do
   es ← elements_of list
   Ok (count_text (length es))
-llength _ = usage (codes "llength list")
+llength _ = usage (literal "llength list")
 
 -- lreverse list
 abbrev pub lreverse : List Text → Answer Text
 lreverse (list ∷ []) = do
   es ← elements_of list
   Ok (written (reverse es))
-lreverse _ = usage (codes "lreverse list")
+lreverse _ = usage (literal "lreverse list")
 
 -- ---- concat
 
@@ -78,16 +79,11 @@ abbrev pub element_or_empty : List Text → ℤ → Text
 element_or_empty es (pos k) = get_or es k []
 element_or_empty es (negsuc k) = []
 
--- A word is a list of indices, and one that is no list is itself an index, though none that can be read.
-abbrev pub listed : Text → Answer (List Text) → List Text
-listed word (Ok indices) = indices
-listed word (Err message) = word ∷ []
-
 -- the indices that words give: one word is a list of them
-abbrev pub indices_of : List Text → List Text
-indices_of [] = []
-indices_of (word ∷ []) = listed word (elements_of word)
-indices_of (word ∷ other ∷ words) = word ∷ other ∷ words
+abbrev pub indices_of : List Text → Answer (List Text)
+indices_of [] = Ok []
+indices_of (word ∷ []) = elements_of word
+indices_of (word ∷ other ∷ words) = Ok (word ∷ other ∷ words)
 
 -- ---- lassign
 
@@ -118,10 +114,17 @@ module _ (dialect : Dialect) where
     place ← index i (length es)
     element_at (element_or_empty es place) is
 
+  -- where the indices are a word that is no list, a list that is none either is the fault in front
+  abbrev pub element_by : Text → Answer (List Text) → Answer Text
+  element_by list (Ok indices) = element_at list indices
+  element_by list (Err message) = do
+    es ← elements_of list
+    Err message
+
   -- lindex list ?index ...?
   abbrev pub lindex : List Text → Answer Text
-  lindex [] = usage (codes "lindex list ?index ...?")
-  lindex (list ∷ indices) = element_at list (indices_of indices)
+  lindex [] = usage (literal "lindex list ?index ...?")
+  lindex (list ∷ indices) = element_by list (indices_of indices)
 
   -- ---- lrange, linsert, lreplace
 
@@ -132,7 +135,7 @@ module _ (dialect : Dialect) where
     first ← index first (length es)
     last ← index last (length es)
     Ok (written (drop (clamped first (length es)) (take (clamped (last +ℤ pos 1) (length es)) es)))
-  lrange _ = usage (codes "lrange list first last")
+  lrange _ = usage (literal "lrange list first last")
 
   -- linsert list index ?element ...?, where `end` is behind the last element
   abbrev pub linsert : List Text → Answer Text
@@ -140,7 +143,7 @@ module _ (dialect : Dialect) where
     es ← elements_of list
     place ← index i (length es + 1)
     Ok (written (take (clamped place (length es)) es ++ new ++ drop (clamped place (length es)) es))
-  linsert _ = usage (codes "linsert list index ?element ...?")
+  linsert _ = usage (literal "linsert list index ?element ...?")
 
   -- in place of the elements from first to last, others; none are taken out where last is before first
   abbrev pub replaced : List Text → ℕ → ℕ → List Text → List Text
@@ -153,7 +156,7 @@ module _ (dialect : Dialect) where
     first ← index first (length es)
     last ← index last (length es)
     Ok (written (replaced es (clamped first (length es)) (clamped (last +ℤ pos 1) (length es)) new))
-  lreplace _ = usage (codes "lreplace list first last ?element ...?")
+  lreplace _ = usage (literal "lreplace list first last ?element ...?")
 
   -- ---- lrepeat
 
@@ -164,19 +167,19 @@ module _ (dialect : Dialect) where
 
   abbrev pub repeated : Text → ℤ → List Text → Answer Text
   repeated count (pos n) es = Ok (written (times n es))
-  repeated count (negsuc n) es = Err (about (codes "bad count") count (codes ": must be integer >= 0"))
+  repeated count (negsuc n) es = Err (about (literal "bad count") count (literal ": must be integer >= 0"))
 
   -- lrepeat count ?element ...?
   abbrev pub lrepeat : List Text → Answer Text
   lrepeat (count ∷ es) = do
     n ← number dialect count
     repeated count n es
-  lrepeat [] = usage (codes "lrepeat count ?element ...?")
+  lrepeat [] = usage (literal "lrepeat count ?element ...?")
 
   -- ---- lset, lappend: the text of the variable, and what it becomes
 
   abbrev pub out_of_range : Text
-  out_of_range = codes "list index out of range"
+  out_of_range = literal "list index out of range"
 
   -- with the element v at the place k, or behind the last
   abbrev pub with_element : List Text → ℕ → Text → List Text
@@ -197,9 +200,15 @@ module _ (dialect : Dialect) where
     inner ← element_set (get_or es k []) is v
     Ok (written (with_element es k inner))
 
-  -- lset varName ?index ...? newValue, without its last word
+  abbrev pub set_by : Text → Answer (List Text) → Text → Answer Text
+  set_by old (Ok indices) v = element_set old indices v
+  set_by old (Err message) v = do
+    es ← elements_of old
+    Err message
+
+  -- lset varName ?index ...? newValue: the variable's text, the indices and the new value
   abbrev pub lset : Text → List Text → Text → Answer Text
-  lset old indices v = element_set old (indices_of indices) v
+  lset old indices v = set_by old (indices_of indices) v
 
 -- the list with more elements; without any it stays as it is
 abbrev pub with_more : Text → List Text → List Text → Text

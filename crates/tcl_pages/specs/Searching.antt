@@ -1,10 +1,11 @@
 -- lsearch(n).
-use Rattle.std.specs.Prelude.{ℕ, suc, Bool, true, false, not, List, [], ◌∷◌, map, codes, Ok, if◌then◌else◌}
+use Rattle.std.specs.Prelude.{ℕ, suc, Bool, true, false, not, List, [], ◌∷◌, map, Ok, if◌then◌else◌}
+use Rattle.tcl_chars.specs.Texts.{literal, same_text}
 use Rattle.tcl_list.specs.Elements.{elements_of}
 use Rattle.tcl_list.specs.Written.{written}
 use Rattle.tcl_pages.specs.Answers.{Answer, ◌>>=◌}
 use Rattle.tcl_pages.specs.Glob.{glob}
-use Rattle.tcl_pages.specs.Texts.{Text, count_text, same_text}
+use Rattle.tcl_pages.specs.Texts.{Text, count_text}
 use Rattle.tcl_pages.specs.Usage.{usage, bad_option}
 use Rattle.tcl_pages.specs.declared.lists.SearchOptions.{SearchOptions}
 
@@ -13,16 +14,16 @@ abbrev pub plain_search : SearchOptions
 plain_search = record { exact = false; all = false; inline = false; negated = false }
 
 abbrev pub search_options : List Text
-search_options = codes "-exact" ∷ codes "-glob" ∷ codes "-all" ∷ codes "-inline" ∷ codes "-not" ∷ []
+search_options = literal "-exact" ∷ literal "-glob" ∷ literal "-all" ∷ literal "-inline" ∷ literal "-not" ∷ []
 
 -- Options, with those in front of them: of two that clash the later counts.
 abbrev pub with_search_option : SearchOptions → Text → Answer SearchOptions
 with_search_option o t =
-    if same_text t (codes "-exact") then Ok (record o { exact = true }) else (
-    if same_text t (codes "-glob") then Ok (record o { exact = false }) else (
-    if same_text t (codes "-all") then Ok (record o { all = true }) else (
-    if same_text t (codes "-inline") then Ok (record o { inline = true }) else (
-    if same_text t (codes "-not") then Ok (record o { negated = true }) else bad_option t search_options))))
+    if same_text t (literal "-exact") then Ok (record o { exact = true }) else (
+    if same_text t (literal "-glob") then Ok (record o { exact = false }) else (
+    if same_text t (literal "-all") then Ok (record o { all = true }) else (
+    if same_text t (literal "-inline") then Ok (record o { inline = true }) else (
+    if same_text t (literal "-not") then Ok (record o { negated = true }) else bad_option t search_options))))
 
 -- does the element fit the pattern
 abbrev pub fits : SearchOptions → Text → Text → Bool
@@ -39,7 +40,7 @@ fitting o pattern n (e ∷ es) = if fits o pattern e then (n, e) ∷ fitting o p
 abbrev pub first_found : Bool → List (ℕ × Text) → Text
 first_found true [] = []
 first_found true (f ∷ fs) = f.1
-first_found false [] = codes "-1"
+first_found false [] = literal "-1"
 first_found false (f ∷ fs) = count_text f.0
 
 abbrev pub shown : Bool → ℕ × Text → Text
@@ -51,8 +52,8 @@ found o fs = if o.all then written (map (shown o.inline) fs) else first_found o.
 
 -- lsearch ?-option ...? list pattern: all words but the last two are options
 abbrev pub search_with : SearchOptions → List Text → Answer Text
-search_with o [] = usage (codes "lsearch ?-option ...? list pattern")
-search_with o (t ∷ []) = usage (codes "lsearch ?-option ...? list pattern")
+search_with o [] = usage (literal "lsearch ?-option ...? list pattern")
+search_with o (t ∷ []) = usage (literal "lsearch ?-option ...? list pattern")
 search_with o (list ∷ pattern ∷ []) = do
   es ← elements_of list
   Ok (found o (fitting o pattern 0 es))

@@ -1,15 +1,16 @@
 -- lsort(n).
-use Rattle.std.specs.Prelude.{◌≡◌, ℕ, Bool, true, false, not, ◌&&◌, ℤ, int_lt, List, [], ◌∷◌, map, codes, Ok, ◌↔◌, if◌then◌else◌}
+use Rattle.std.specs.Prelude.{◌≡◌, ℕ, Bool, true, false, not, ◌&&◌, ℤ, int_lt, List, [], ◌∷◌, map, Ok, ◌↔◌, if◌then◌else◌}
 use Rattle.std.specs.Cmp.Lexicographic.{slice_cmp}
 use Rattle.std.specs.List.Sorted.{IsPermutation, IsSortedBy, IsStableBy, ties}
 use Rattle.std.specs.Cmp.{IsStrictWeakOrder}
 use Rattle.std.specs.Ordering.{is_lt, nat_cmp}
-use Rattle.tcl_pages.specs.Messages.{number}
+use Rattle.tcl_chars.specs.Messages.{number}
+use Rattle.tcl_chars.specs.Texts.{literal, same_text}
 use Rattle.tcl_chars.specs.declared.numbers.Dialect.{Dialect}
 use Rattle.tcl_list.specs.Elements.{elements_of}
 use Rattle.tcl_list.specs.Written.{written}
 use Rattle.tcl_pages.specs.Answers.{Answer, ◌>>=◌}
-use Rattle.tcl_pages.specs.Texts.{Text, same_text}
+use Rattle.tcl_pages.specs.Texts.{Text}
 use Rattle.tcl_pages.specs.Usage.{usage, bad_option}
 use Rattle.tcl_pages.specs.declared.lists.SortOptions.{SortOptions}
 
@@ -58,16 +59,16 @@ abbrev pub plain_sort : SortOptions
 plain_sort = record { integer = false; decreasing = false; unique = false }
 
 abbrev pub sort_options : List Text
-sort_options = codes "-ascii" ∷ codes "-integer" ∷ codes "-increasing" ∷ codes "-decreasing" ∷ codes "-unique" ∷ []
+sort_options = literal "-ascii" ∷ literal "-integer" ∷ literal "-increasing" ∷ literal "-decreasing" ∷ literal "-unique" ∷ []
 
 -- Options, with those in front of them: of two that clash the later counts.
 abbrev pub with_sort_option : SortOptions → Text → Answer SortOptions
 with_sort_option o t =
-    if same_text t (codes "-ascii") then Ok (record o { integer = false }) else (
-    if same_text t (codes "-integer") then Ok (record o { integer = true }) else (
-    if same_text t (codes "-increasing") then Ok (record o { decreasing = false }) else (
-    if same_text t (codes "-decreasing") then Ok (record o { decreasing = true }) else (
-    if same_text t (codes "-unique") then Ok (record o { unique = true }) else bad_option t sort_options))))
+    if same_text t (literal "-ascii") then Ok (record o { integer = false }) else (
+    if same_text t (literal "-integer") then Ok (record o { integer = true }) else (
+    if same_text t (literal "-increasing") then Ok (record o { decreasing = false }) else (
+    if same_text t (literal "-decreasing") then Ok (record o { decreasing = true }) else (
+    if same_text t (literal "-unique") then Ok (record o { unique = true }) else bad_option t sort_options))))
 
 module _ (dialect : Dialect) where
   -- each element with its number
@@ -87,7 +88,7 @@ module _ (dialect : Dialect) where
 
   -- lsort ?-option ...? list: all words but the last are options
   abbrev pub sort_with : SortOptions → List Text → Answer Text
-  sort_with o [] = usage (codes "lsort ?-option ...? list")
+  sort_with o [] = usage (literal "lsort ?-option ...? list")
   sort_with o (list ∷ []) = do
     es ← elements_of list
     ordered ← sorted_elements o es

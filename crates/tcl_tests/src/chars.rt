@@ -329,3 +329,21 @@ fn first_of(text: &str) -> &str {
         None => text,
     }
 }
+
+#[test]
+fn long_texts_are_pushed(rt: HostRuntime) -> Result<(), Fail> {
+    let mut text = String::new(rt.alloc());
+    for _ in 0..1000u32 {
+        push_text(&mut text, "abcdé")?;
+        push(&mut text, '中')?;
+    }
+    assert_eq!(rt; text.len(), 9000);
+    assert!(rt; text.chars().filter(|c| *c == '中').count() == 1000);
+    let mut twice = String::new(rt.alloc());
+    push_text(&mut twice, &text)?;
+    push_text(&mut twice, &text)?;
+    assert_eq!(rt; twice.len(), 18_000);
+    assert!(rt; twice.starts_with(text.as_str()));
+    assert!(rt; twice.ends_with(text.as_str()));
+    Ok(())
+}

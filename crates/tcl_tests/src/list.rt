@@ -144,3 +144,52 @@ fn appended_elements(rt: HostRuntime) -> Result<(), Fail> {
     assert_eq!(rt; text.as_str(), "{#} # {}");
     Ok(())
 }
+
+#[test]
+fn a_thousand_elements(rt: HostRuntime) -> Result<(), Fail> {
+    let alloc = rt.alloc();
+    let mut text = String::new(alloc);
+    let mut elements = Vec::new(alloc);
+    for number in 0..1000u32 {
+        if number > 0 {
+            text.push(' ')?;
+        }
+        let element = format!(in alloc; "e{number}")?;
+        text.push_str(&element)?;
+        elements.push(RcStr::from_str(alloc, &element)?)?;
+    }
+    let read = split(alloc, &text)?;
+    assert_eq!(rt; read.len(), 1000);
+    assert!(rt;
+        read.iter()
+            .zip(&elements)
+            .all(|(found, want)| found.as_str() == want.as_str())
+    );
+    let written = write(alloc, elements.as_slice())?;
+    assert_eq!(rt; written.as_str(), text.as_str());
+    let mut appended = String::new(alloc);
+    for (at, element) in elements.iter().enumerate() {
+        append_element(&mut appended, element.as_str(), at == 0)?;
+    }
+    assert_eq!(rt; appended.as_str(), text.as_str());
+    Ok(())
+}
+
+#[test]
+fn long_elements(rt: HostRuntime) -> Result<(), Fail> {
+    let alloc = rt.alloc();
+    for (part, before, behind) in [("é", "", ""), ("a b ", "{", "}"), ("}", "", "")] {
+        let mut element = String::new(alloc);
+        for _ in 0..10_000u32 {
+            element.push_str(part)?;
+        }
+        let shared = RcStr::from_str(alloc, &element)?;
+        let written = write(alloc, &[shared])?;
+        assert!(rt; written.as_str().starts_with(before));
+        assert!(rt; written.as_str().ends_with(behind));
+        let read = split(alloc, written.as_str())?;
+        assert_eq!(rt; read.len(), 1);
+        assert_eq!(rt; read[0].as_str(), element.as_str());
+    }
+    Ok(())
+}

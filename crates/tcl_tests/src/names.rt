@@ -53,3 +53,41 @@ fn values_are_found_and_changed(rt: HostRuntime) -> Result<(), Fail> {
     assert_eq!(rt; letters.names(rt.alloc())?.len(), 2);
     Ok(())
 }
+
+#[test]
+fn a_thousand_names(rt: HostRuntime) -> Result<(), Fail> {
+    let alloc = rt.alloc();
+    let mut map = NameMap::new(alloc);
+    for number in 0..1000u32 {
+        let name = format!(in alloc; "n{}", 1999 - number)?;
+        map.insert(alloc, &name, number)?;
+    }
+    let names = map.names(alloc)?;
+    assert_eq!(rt; names.len(), 1000);
+    assert_eq!(rt; names[0].as_str(), "n1000");
+    assert_eq!(rt; names[999].as_str(), "n1999");
+    let entries = map.entries(alloc)?;
+    assert_eq!(rt; entries.len(), 1000);
+    assert!(rt;
+        entries
+            .iter()
+            .zip((0..1000u32).rev())
+            .all(|(entry, want)| *entry.1 == want)
+    );
+    assert_eq!(rt; map.get("n1500").copied(), Some(499));
+    Ok(())
+}
+
+#[test]
+fn a_long_name(rt: HostRuntime) -> Result<(), Fail> {
+    let alloc = rt.alloc();
+    let mut name = String::new(alloc);
+    for _ in 0..100_000u32 {
+        name.push('é')?;
+    }
+    let mut map = NameMap::new(alloc);
+    map.insert(alloc, &name, 1u8)?;
+    assert_eq!(rt; map.get(&name).copied(), Some(1));
+    assert_eq!(rt; map.names(alloc)?[0].as_str(), name.as_str());
+    Ok(())
+}

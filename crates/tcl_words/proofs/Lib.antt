@@ -21,9 +21,12 @@ pub mod LongerWords
 pub mod Newlines
 pub mod NewlinesWords
 pub mod Placed
+pub mod ReadIsSpelled
 pub mod Scans
+pub mod ScansSpelled
 pub mod Single
 pub mod Spelled
+pub mod SpelledIsRead
 pub mod Tiles
 pub mod Verbatim
 pub mod Whole

@@ -121,7 +121,7 @@ is_braced cs e = (form_is (begins open_brace cs) (begins quote cs) form.Braced e
 is_quoted : (cs : List ℕ) → form_of cs ≡ form.Quoted → begins quote cs ≡ true
 is_quoted cs e = (form_is (begins open_brace cs) (begins quote cs) form.Quoted e).1 refl
 
-marked_text : (nested : Bool) (cs : List ℕ) → marked nested cs ≡ true → cs ≡ mark true ++ tail (tail (tail cs))
+pub marked_text : (nested : Bool) (cs : List ℕ) → marked nested cs ≡ true → cs ≡ mark true ++ tail (tail (tail cs))
 marked_text nested cs e =
     let front = and_parts (begins open_brace cs && begins star (tail cs) && begins close_brace (tail (tail cs))) _ e in
     let third = and_parts (begins open_brace cs && begins star (tail cs)) (begins close_brace (tail (tail cs))) front.0 in

@@ -12,6 +12,7 @@ use Rattle.tcl_words.specs.declared.word.Parsed.{Parsed}
 use Rattle.tcl_words.specs.declared.word.Parsed.TheVariants as parsed
 use Rattle.tcl_words.specs.First.{First, IsParsed}
 use Rattle.tcl_words.specs.Parts.{Stretch, Part, text, escape, var, elem_, bracket, Shape, shape_of}
+pub use Rattle.tcl_words.specs.Spelling.{is_name}
 use Rattle.tcl_words.specs.Words.{after_gaps, after_name, at_brace, ends_word, after_command, commands_at, first_at, inner_at, pieces_at, words_at}
 
 -- The text in a bracket, read alone, has the same commands as inside, with the same places: before the bracket's end
@@ -113,11 +114,6 @@ CommentEnds = (cs : List ℕ) →
     ((count newline (unhidden false cs) ≡ 0) × (after_gaps (gap.Comment false) cs ≡ []))
     ⊎ ((body : List ℕ) × (after : List ℕ) × (cs ≡ body ++ newline ∷ after) × (count newline (unhidden false body) ≡ 0) × (count newline (unhidden false (body ++ newline ∷ [])) ≡ 1)
     × (after_gaps (gap.Comment false) cs ≡ after_gaps gap.Between after))
-
--- letters, digits, underscores, and colons in runs of two or more; so many colons stand before the text
-abbrev pub is_name : ℕ → List ℕ → Bool
-is_name colons [] = not (colons == 1)
-is_name colons (c ∷ cs) = if c == colon then is_name (colons + 1) cs else not (colons == 1) && is_name_char c && is_name 0 cs
 
 -- The name of a variable is the longest front of the text that is one.
 abbrev pub NameLongest : Type 0

@@ -16,6 +16,7 @@ use Rattle.tcl_words.specs.declared.front.Kind.{Kind}
 use Rattle.tcl_words.specs.declared.front.Kind.TheVariants as kind
 use Rattle.tcl_words.specs.declared.front.Mode.{Mode}
 use Rattle.tcl_words.specs.declared.front.Mode.TheVariants as mode
+pub use Rattle.tcl_words.specs.Spelling.{ends_word, begins_variable}
 use Rattle.tcl_words.specs.Parts.{Stretch, Part, text, escape, var, elem_, bracket, Parts, parts_of, Shape}
 
 -- ---- between words and commands
@@ -42,12 +43,6 @@ after_gaps (gap.Comment hidden) (c ∷ cs) =
     else if c == newline then after_gaps gap.Between cs
     else after_gaps (gap.Comment (c == backslash)) cs
 
--- the word ends here: at the end of the text, a separator, the command's end, or inside brackets `]`
-abbrev pub ends_word : Bool → List ℕ → Bool
-ends_word nested [] = true
-ends_word nested (c ∷ cs) =
-    is_word_space c || c == newline || c == semicolon || (nested && c == close_bracket) || (c == backslash && begins newline cs)
-
 -- ---- pieces
 
 -- what follows the name at the front: letters, digits, underscores and runs of two or more colons (rule 8)
@@ -57,11 +52,6 @@ after_name in_colons (c ∷ cs) =
     if is_name_char c then after_name false cs
     else if c == colon && (in_colons || begins colon cs) then after_name true cs
     else c ∷ cs
-
--- what follows `$` makes a variable
-abbrev pub begins_variable : List ℕ → Bool
-begins_variable [] = false
-begins_variable (c ∷ cs) = is_name_char c || (c == colon && begins colon cs) || c == open_brace || c == open_paren
 
 -- the end of the text ends a bare word, and leaves the others open
 abbrev pub kind_at_end : Mode → Kind

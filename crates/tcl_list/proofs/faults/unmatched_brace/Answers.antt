@@ -1,5 +1,0 @@
-use Rattle.tcl_list.proofs.Messages.{says, chars_unmatched_brace}
-use Rattle.tcl_list.proofs.faults.unmatched_brace.Goals as goal
-
-pub returns : goal.returns
-returns c = says c.from_str.result _ _ c.from_str.ensures.ok chars_unmatched_brace

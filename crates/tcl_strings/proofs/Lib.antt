@@ -1,0 +1,2 @@
+pub mod FirstFit
+pub mod Sets

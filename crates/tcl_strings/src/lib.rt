@@ -1,0 +1,6 @@
+//! Commands on strings.
+#![tactic(auto)]
+
+mod glob;
+
+pub use glob::glob_match;
