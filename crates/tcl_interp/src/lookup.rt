@@ -15,14 +15,14 @@ ghost use Rattle.tcl_meaning.specs.State.{state_with};
 use crate::completion::Completion;
 use crate::evaluation::Evaluation;
 use crate::fault::{EvalFault, Halt};
-use crate::names::{is_text, without_colons};
+use crate::names::without_colons;
 use crate::pages::{puts_page, set_page};
 use crate::value::Value;
 use crate::variables::Variables;
 use std::alloc::Global;
 use tcl_chan::device::{Input, Output};
 use tcl_chan::world::World;
-use tcl_chars::push_text;
+use tcl_chars::{is_text, push_text};
 use tcl_meaning::Page;
 
 /// Adds the text of a variable to a text.

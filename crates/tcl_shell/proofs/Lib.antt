@@ -1,5 +1,4 @@
 mod Joining
 mod LinesLemmas
 mod ProgramLemmas
-mod Texts
 mod WordsLemmas

@@ -1,5 +1,5 @@
 -- Texts that go to an output one behind another.
-use Rattle.std.proofs.Common.{◌≡◌, ℕ, List, ◌++◌, Option, Some, None, Result, Ok, Err, OnOk, OnErr, refl, sym, ap, ◌∙◌, append_assoc, inl, inr}
+use Rattle.std.proofs.Common.{◌≡◌, ℕ, List, ◌++◌, Option, Result, Ok, Err, OnOk, OnErr, sym, ap, ◌∙◌, append_assoc, inl, inr}
 use Rattle.tcl_chan.specs.Devices.{put}
 use Rattle.tcl_chan.specs.Faults.{write_failures}
 use Rattle.tcl_chan.specs.Writing.{WroteFront}

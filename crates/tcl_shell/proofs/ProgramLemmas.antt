@@ -7,6 +7,7 @@ use Rattle.std.proofs.Math.Seq.{take-length}
 use Rattle.tcl_meaning.specs.Beginnings.{state_of, OutputsBegin}
 use Rattle.tcl_meaning.specs.Completions.{Completion, normal}
 use Rattle.tcl_meaning.specs.Effects.{Got, Script}
+use Rattle.tcl_chars.specs.Texts.{literal}
 use Rattle.tcl_meaning.specs.Run.{run_with_args, args_put}
 use Rattle.tcl_meaning.specs.State.{state_with}
 use Rattle.tcl_meaning.proofs.Rules.{begins_run}
@@ -26,7 +27,7 @@ use Rattle.tcl_shell.specs.declared.words.Request.{Request}
 
 args_begin : (script : List ℕ) (args : List (List ℕ)) (out err : Option (List ℕ)) (budget : ℕ) → OutputsBegin (state_with finmap.empty out err 0) (state_of (run_with_args script args out err budget))
 args_begin script [] out err budget =
-    let b = begins_run (Script 1 (normal []) script) (state_with (args_put []) out err budget) refl in record { out = b.out; err = b.err }
+    let b = begins_run (Script 1 (normal []) script) (state_with (args_put (literal "")) out err budget) refl in record { out = b.out; err = b.err }
 args_begin script (name ∷ []) out err budget =
     let b = begins_run (Script 1 (normal []) script) (state_with (args_put name) out err budget) refl in record { out = b.out; err = b.err }
 args_begin script (name ∷ more ∷ others) out err budget = record { out = out_same out; err = out_same err }

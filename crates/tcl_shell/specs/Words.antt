@@ -1,8 +1,8 @@
 -- The program's words: `?-budget N? file`.
-use Rattle.std.specs.Prelude.{ℕ, ◌-◌, ◌^◌, ◌&&◌, nat_lt, Bool, List, [], ◌∷◌, codes, Option, Some, None, if◌then◌else◌}
+use Rattle.std.specs.Prelude.{ℕ, ◌-◌, ◌^◌, ◌&&◌, nat_lt, List, [], ◌∷◌, Option, Some, None, if◌then◌else◌}
 use Rattle.std.specs.Str.{all_ascii_digits}
 use Rattle.std.specs.Str.Parse.{digits_value}
-use Rattle.tcl_meaning.specs.Pages.{same_text}
+use Rattle.tcl_chars.specs.Texts.{literal, same_text}
 use Rattle.tcl_shell.specs.declared.words.Request.{Request}
 
 -- a budget: decimal digits, at most 2^63 - 1
@@ -26,10 +26,7 @@ budgeted [] = None
 budgeted (number ∷ []) = None
 budgeted (number ∷ file ∷ args) = asks 2 (budget_of number)
 
-abbrev pub is_budget : List ℕ → Bool
-is_budget word = same_text word (codes "-budget")
-
 -- What the words ask, if they are the program's usage.
 unfoldable pub request_of : List (List ℕ) → Option Request
 request_of [] = None
-request_of (word ∷ words) = if is_budget word then budgeted words else asks 0 (Some most_budget)
+request_of (word ∷ words) = if same_text word (literal "-budget") then budgeted words else asks 0 (Some most_budget)

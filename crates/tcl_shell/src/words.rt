@@ -1,9 +1,9 @@
 //! The program's words: `?-budget N? file`.
 ghost use Rattle.std.specs.Prelude.{◌≡◌, ◌+◌, ◌<◌, length, map, option_map, IfSome};
 ghost use Rattle.std.specs.Str.{chars};
-ghost use Rattle.tcl_shell.specs.Words.{budget_of, is_budget, budgeted, request_of};
+ghost use Rattle.tcl_shell.specs.Words.{budget_of, budgeted, request_of};
 
-use tcl_chars::begins;
+use tcl_chars::{begins, is_text};
 
 // The greatest budget.
 const MOST_BUDGET: u64 = 0x7fff_ffff_ffff_ffff;
@@ -30,14 +30,6 @@ fn read_budget(word: &str) -> Option<u64>
     }
 }
 
-// Is the word the option for a budget?
-#[tactic(auto, using(tcl_chars::proofs::Same::eq_by_chars))]
-fn is_budget(word: &str) -> bool
-    ensures { result ≡ is_budget (chars word.now) }
-{
-    word == "-budget"
-}
-
 // What the words behind `-budget` ask.
 fn read_budgeted(words: &[&str]) -> Option<Request>
     ensures request { result ≡ budgeted (map (λ word. chars word.now) words.now) }
@@ -61,7 +53,7 @@ pub(crate) fn read_request(words: &[&str]) -> Option<Request>
     let [first, others @ ..] = words else {
         return None;
     };
-    if is_budget(first) {
+    if is_text(first, "-budget") {
         return read_budgeted(others);
     }
     Some(Request {
