@@ -1,6 +1,6 @@
 -- Lines on standard error.
 use Rattle.std.specs.Prelude.{◌≡◌, ℕ, ◌⊎◌, List, ◌++◌, codes, Option, Some, None}
-use Rattle.tcl_chan.specs.Devices.{put, one_more}
+use Rattle.tcl_chan.specs.Devices.{put_behind, one_more}
 use Rattle.tcl_chan.specs.Writing.{WroteFront}
 use Rattle.tcl_shell.specs.declared.lines.Line.{Line}
 use Rattle.tcl_shell.specs.declared.lines.Line.TheVariants as line
@@ -16,7 +16,7 @@ told written failed_calls device = record { bytes = written device; failed = fai
 -- A text goes to an output: all of it, or a beginning of it where a write failed.
 abbrev pub Said : List ℕ → Told → Told → Type 0
 Said text old new =
-    ((new.bytes ≡ put old.bytes text) × (new.failed ≡ old.failed)) ⊎ (WroteFront old.bytes new.bytes text × (new.failed ≡ one_more old.failed))
+    ((new.bytes ≡ put_behind old.bytes text) × (new.failed ≡ old.failed)) ⊎ (WroteFront old.bytes new.bytes text × (new.failed ≡ one_more old.failed))
 
 abbrev pub SaidIf : Option (List ℕ) → Told → Told → Type 0
 SaidIf None old new = new ≡ old
