@@ -24,8 +24,8 @@ SaidIf (Some text) old new = Said text old new
 
 -- the lines, with their newlines, in bytes
 
-abbrev pub usage : List ℕ
-usage = codes "usage: tclint ?-budget N? ?file arg ...?\n"
+abbrev pub usage_line : List ℕ
+usage_line = codes "usage: tclint ?-budget N? ?file arg ...?\n"
 
 abbrev pub unreadable : List ℕ → List ℕ
 unreadable name = codes "couldn't read file \"" ++ (name ++ codes "\"\n")
@@ -46,7 +46,7 @@ abbrev pub broken : List ℕ
 broken = codes "read or write failed\n"
 
 abbrev pub line_bytes : Line → List ℕ
-line_bytes line.Usage = usage
+line_bytes line.Usage = usage_line
 line_bytes (line.Unread name) = unreadable name.now
 line_bytes (line.NotUtf8 name) = not_utf8 name.now
 line_bytes (line.Message message) = message_line message.now

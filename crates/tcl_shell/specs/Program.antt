@@ -11,7 +11,7 @@ use Rattle.tcl_interp.specs.Outcome.{Ends, outcome_is_io}
 use Rattle.tcl_interp.specs.Channels.{RunCounted}
 use Rattle.tcl_interp.specs.declared.host.Outcome.{Outcome}
 use Rattle.tcl_interp.specs.declared.host.Outcome.TheVariants as outcome
-use Rattle.tcl_shell.specs.Lines.{Told, Said, SaidIf, usage, unreadable, not_utf8, message_line, budget_spent, out_of_memory, broken}
+use Rattle.tcl_shell.specs.Lines.{Told, Said, SaidIf, usage_line, unreadable, not_utf8, message_line, budget_spent, out_of_memory, broken}
 use Rattle.tcl_shell.specs.declared.words.Request.{Request}
 
 -- the status of a return code
@@ -72,5 +72,5 @@ RunsFile budget words (Some bytes) status out err out' err' =
 -- What the program does for what its words ask, the words in UTF-8, and its file: the status that it answers, and what
 -- its outputs tell before and after.
 abbrev pub RunsWords : Option Request → List (List ℕ) → Option (List ℕ) → ℕ → Told → Told → Told → Told → Type 0
-RunsWords None words file status out err out' err' = Refused usage status out err out' err'
+RunsWords None words file status out err out' err' = Refused usage_line status out err out' err'
 RunsWords (Some request) words file status out err out' err' = RunsFile request.budget (drop request.file words) file status out err out' err'

@@ -15,7 +15,7 @@ use tcl_chars::{begins, push, split_first};
 use tcl_interp::{Outcome, Report, run};
 
 // Is the character the CR of a CR LF, where this follows it?
-#[tactic(auto, using(crate::proofs::Joining::return_is))]
+#[tactic(auto, using(crate::proofs::JoinedNewlines::return_is))]
 fn is_joined_return(c: char, after: &str) -> bool
     ensures { result ≡ is_joined_return c (chars after.now) }
 {

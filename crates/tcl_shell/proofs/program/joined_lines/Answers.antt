@@ -4,7 +4,7 @@ use Rattle.std.specs.String.{string_bytes}
 use Rattle.std.proofs.lemmas.List.{append_assoc, append-nil}
 use Rattle.std.proofs.lemmas.Str.{chars-nil, IsUtf8-past_char}
 use Rattle.tcl_chan.specs.Newlines.{joined_newlines}
-use Rattle.tcl_shell.proofs.Joining.{passed, kept, none_left}
+use Rattle.tcl_shell.proofs.JoinedNewlines.{passed, kept, none_left}
 use Rattle.tcl_shell.proofs.program.joined_lines.Goals as goal
 
 pub characters-init : goal.characters-init
