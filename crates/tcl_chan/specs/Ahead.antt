@@ -2,7 +2,8 @@
 use Rattle.std.specs.Prelude.{◌≡◌, ◌≢◌, ◌<◌, ◌≤◌, ◌⊎◌, ℕ, Bool, true, false, nat_lt, List, [], ◌∷◌, ◌++◌, length, take, drop, Option, Some, None, option_to_list, slice_index}
 use Rattle.std.specs.Str.{encode_utf8_all}
 use Rattle.bstr.specs.Utf8.{bad, decoded, lead_len, lossy_chars}
-use Rattle.tcl_chan.specs.Characters.{input_chars, joined_newlines}
+use Rattle.tcl_chan.specs.Characters.{input_chars}
+use Rattle.tcl_chan.specs.Newlines.{joined_newlines}
 
 -- more bytes stand behind the old ones, or the input has ended
 pub record Grew (old new : List ℕ) (ended : Bool) : Type 0 where

@@ -3,7 +3,7 @@ ghost use Rattle.std.specs.Prelude.{[], ◌≡◌, ◌≤◌, ◌<◌, ◌+◌, 
 ghost use Rattle.memchr.specs.Find.{IsFirstByte, is_byte};
 ghost use Rattle.std.specs.Rc.{rc_str_bytes};
 ghost use Rattle.std.specs.String.{string_bytes};
-ghost use Rattle.tcl_chan.specs.Devices.{unread, StaysLeft};
+ghost use Rattle.tcl_chan.specs.Devices.{unread_bytes, StaysLeft};
 ghost use Rattle.tcl_chan.specs.Faults.{IsInputFault, read_failures};
 ghost use Rattle.tcl_chan.specs.declared.fault.ChanFault.TheVariants.{Memory};
 ghost use Rattle.tcl_chan.specs.Ahead.{Grew, Decides, TakesCount};
@@ -172,9 +172,9 @@ impl Reader {
         place: usize,
     ) -> Result<Option<RcStr<Global>>, ChanFault>
         requires { IsFirstByte (is_byte 10) self.old.held (Some place) }
-        ensures line { IfOk result (λ line. (device : Option (List ℕ)) → IfSome (unread self.old.held self.old.ended device)
+        ensures line { IfOk result (λ line. (device : Option (List ℕ)) → IfSome (unread_bytes self.old.held self.old.ended device)
             (λ bytes. TakesLine bytes self.old.met_end (option_map rc_str_bytes line)
-            (unread self.new.held self.new.ended device) self.new.met_end)) }
+            (unread_bytes self.new.held self.new.ended device) self.new.met_end)) }
         ensures met_end { self.new.met_end ≡ self.old.met_end }
         ensures memory { OnErr result (result ≡ Err Memory) }
         ensures kept { OnErr result (self.new ≡ self.old) }
@@ -188,9 +188,9 @@ impl Reader {
     fn last_line(&mut self, alloc: Global) -> Result<Option<RcStr<Global>>, ChanFault>
         requires ended { self.old.ended ≡ true }
         requires one { IsFirstByte (is_byte 10) self.old.held None }
-        ensures line { IfOk result (λ line. (device : Option (List ℕ)) → IfSome (unread self.old.held self.old.ended device)
+        ensures line { IfOk result (λ line. (device : Option (List ℕ)) → IfSome (unread_bytes self.old.held self.old.ended device)
             (λ bytes. TakesLine bytes self.old.met_end (option_map rc_str_bytes line)
-            (unread self.new.held self.new.ended device) self.new.met_end)) }
+            (unread_bytes self.new.held self.new.ended device) self.new.met_end)) }
         ensures all { OnOk result (self.new.held ≡ []) }
         ensures ended { self.new.ended ≡ true }
         ensures memory { OnErr result (result ≡ Err Memory) }

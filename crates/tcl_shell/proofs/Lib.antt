@@ -1,4 +1,3 @@
-mod Joining
+mod JoinedNewlines
 mod LinesLemmas
 mod ProgramLemmas
-mod WordsLemmas

@@ -1,15 +1,19 @@
 -- The program's words: `?-budget N? file`.
-use Rattle.std.specs.Prelude.{ℕ, ◌-◌, ◌^◌, ◌&&◌, nat_lt, List, [], ◌∷◌, Option, Some, None, if◌then◌else◌}
-use Rattle.std.specs.Str.{all_ascii_digits}
-use Rattle.std.specs.Str.Parse.{digits_value}
+use Rattle.std.specs.Prelude.{ℕ, ◌-◌, ◌^◌, List, [], ◌∷◌, Option, Some, None, if◌then◌else◌}
 use Rattle.tcl_chars.specs.Texts.{literal, same_text}
+use Rattle.tcl_chars.specs.Whole.{decimal_of}
+use Rattle.tcl_chars.specs.declared.numbers.Decimal.{Decimal}
+use Rattle.tcl_chars.specs.declared.numbers.Decimal.TheVariants as decimal
 use Rattle.tcl_shell.specs.declared.words.Request.{Request}
 
 -- a budget: decimal digits, at most 2^63 - 1
-unfoldable pub budget_of : List ℕ → Option ℕ
-budget_of [] = None
-budget_of (c ∷ cs) =
-    if all_ascii_digits (c ∷ cs) && nat_lt (digits_value 10 (c ∷ cs)) (2 ^ 63) then Some (digits_value 10 (c ∷ cs)) else None
+abbrev pub within_bounds : Decimal → Option ℕ
+within_bounds (decimal.Number n) = Some n
+within_bounds decimal.TooLarge = None
+within_bounds decimal.Not = None
+
+abbrev pub budget_of : List ℕ → Option ℕ
+budget_of word = within_bounds (decimal_of word)
 
 -- the budget of a run for which none is given
 abbrev pub most_budget : ℕ

@@ -3,7 +3,7 @@ ghost use Rattle.std.specs.Prelude.{◌≡◌, ◌+◌, ◌<◌, length, map, op
 ghost use Rattle.std.specs.Str.{chars};
 ghost use Rattle.tcl_shell.specs.Words.{budget_of, budgeted, request_of};
 
-use tcl_chars::{begins, is_text};
+use tcl_chars::{Decimal, is_text, read_decimal};
 
 // The greatest budget.
 const MOST_BUDGET: u64 = 0x7fff_ffff_ffff_ffff;
@@ -21,12 +21,9 @@ pub(crate) struct Request {
 fn read_budget(word: &str) -> Option<u64>
     ensures { result ≡ budget_of (chars word.now) }
 {
-    if begins('+', word) {
-        return None;
-    }
-    match word.parse::<u64>() {
-        Ok(budget) if budget <= MOST_BUDGET => Some(budget),
-        _ => None,
+    match read_decimal(word) {
+        Decimal::Number(budget) => Some(budget),
+        Decimal::TooLarge | Decimal::Not => None,
     }
 }
 
