@@ -44,7 +44,10 @@ pub(crate) fn show(row: &mut Rc<Items>, alloc: Global) -> Result<RcStr, AllocErr
     ensures same { items_text row.new.value ≡ items_text row.old.value }
     ensures kept { AreKept row.new.value }
 {
-    let text = row_text(row, alloc)?;
+    if let Some(text) = &row.text {
+        return text.clone();
+    }
+    let text = write_items(alloc, &row.items)?;
     let copy = text.clone()?;
     if let Some(own) = Rc::get_mut(row) {
         own.text = Some(copy);
@@ -123,23 +126,21 @@ pub(crate) fn push_element(row: &mut Rc<Items>, element: Element) -> Result<(), 
     add(own, element)
 }
 
-/// The text of a list, which stands beside it from now on. A list that has other owners is copied first.
-pub(crate) fn settle(row: &mut Rc<Items>, alloc: Global) -> Result<RcStr, AllocError>
+/// Writes the text of a list beside it, where it isn't there yet. A list that has other owners is copied first.
+pub(crate) fn settle(row: &mut Rc<Items>, alloc: Global) -> Result<(), AllocError>
     requires { AreKept row.old.value }
-    ensures text { IfOk result (λ t. text_of t ≡ items_text row.old.value) }
     ensures there { OnOk result (IsSome row.new.value.text) }
     ensures same { items_text row.new.value ≡ items_text row.old.value }
     ensures depth { row.new.value.depth ≡ row.old.value.depth }
     ensures kept { AreKept row.new.value }
 {
-    if let Some(text) = &row.text {
-        return text.clone();
+    if row.text.is_some() {
+        return Ok(());
     }
-    let text = row_text(row, alloc)?;
-    let copy = text.clone()?;
+    let text = write_items(alloc, &row.items)?;
     let own = Rc::make_mut(row)?;
-    own.text = Some(copy);
-    Ok(text)
+    own.text = Some(text);
+    Ok(())
 }
 
 /// How deep a list is, one of whose elements has been replaced: it was `whole` deep, one with the element before as its only

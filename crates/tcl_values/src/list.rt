@@ -9,7 +9,9 @@ ghost use Rattle.tcl_values.specs.Lists.{count_of, item_of, part_of, pushed, spl
 ghost use Rattle.tcl_values.specs.Shape.{elements, elements_held, held_text, is_row, items_text, AreKept, IsHeld};
 
 use crate::element::{Element, Entry, Items};
-use crate::items::{gathered, part, push_element, set_element, settle, splice, take_element};
+use crate::items::{
+    gathered, part, push_element, row_text, set_element, settle, splice, take_element,
+};
 use crate::row::Row;
 use crate::value::{Held, Value};
 use std::alloc::{AllocError, Global};
@@ -70,14 +72,14 @@ fn row_element(mut row: Rc<Items>, alloc: Global) -> Result<Element, AllocError>
     ensures text { IfOk result (λ e. e.text ≡ items_text row.value) }
     ensures depth { IfOk result (λ e. e.depth < 64) }
 {
-    let text = settle(&mut row, alloc)?;
     if row.depth < 64 {
+        settle(&mut row, alloc)?;
         return Ok(Element {
             entry: Entry::Row(row),
         });
     }
     Ok(Element {
-        entry: Entry::Text(text),
+        entry: Entry::Text(row_text(&row, alloc)?),
     })
 }
 
