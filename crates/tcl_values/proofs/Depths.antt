@@ -85,3 +85,11 @@ set_lower ks now i k b d n m g set exact same before low was = omega (arith, ap 
 
 pub set_within : (ks now : List Kept) (i : ℕ) (k : Kept) (d : ℕ) → now ≡ slice_set ks i k → d ≡ depth_over ks → d ≤ 64 → k.depth < 64 → depth_over now ≤ 64
 set_within ks now i k d set exact limit low = omega (arith, ap depth_over set, depth_set-bound ks i k, exact, limit, low)
+
+depth_over-append : (ks ls : List Kept) → depth_over (ks ++ ls) ≡ max (depth_over ks) (depth_over ls)
+depth_over-append [] ls = omega (arith, depth_least ls)
+depth_over-append (x ∷ ks) ls = omega (arith, depth_over-append ks ls)
+
+pub depth_spliced : (ks ls now : List Kept) (i n d : ℕ) → now ≡ take i ks ++ ls ++ drop n ks → d ≡ depth_over ks → d ≤ 64 → depth_over ls ≤ 64 → depth_over now ≤ 64
+depth_spliced ks ls now i n d e exact limit low =
+    omega (arith, ap depth_over e, depth_over-append (take i ks ++ ls) (drop n ks), depth_over-append (take i ks) ls, depth_take i ks, depth_drop n ks, exact, limit, low)

@@ -110,4 +110,21 @@ impl Element {
         };
         Value { held }
     }
+
+    /// The element as its text alone.
+    pub(crate) fn plain(&self) -> Result<Element, AllocError>
+        ensures text { IfOk result (λ e. e.text ≡ self.now.text) }
+        ensures depth { IfOk result (λ e. e.depth ≡ 0) }
+    {
+        let text = match &self.entry {
+            Entry::Text(text) => text.clone()?,
+            Entry::Row(row) => match &row.text {
+                Some(text) => text.clone()?,
+                None => unreachable!(),
+            },
+        };
+        Ok(Element {
+            entry: Entry::Text(text),
+        })
+    }
 }

@@ -1,11 +1,11 @@
 //! The elements of a list that is kept, behind a shared pointer: read, written, changed.
 
-ghost use Rattle.std.specs.Prelude.{◌≡◌, ◌<◌, ◌≤◌, ◌∷◌, [], ◌++◌, None, map, length, take, drop, slice_get, slice_set, IfOk, OnOk, OnErr};
+ghost use Rattle.std.specs.Prelude.{◌≡◌, ◌<◌, ◌≤◌, ◌+◌, ◌∷◌, [], ◌++◌, None, map, length, take, drop, slice_get, slice_set, IfOk, OnOk, OnErr};
 ghost use Rattle.std.specs.Str.{chars};
 ghost use Rattle.std.specs.Option.{IsSome};
 ghost use Rattle.tcl_list.specs.Texts.{text_of};
 ghost use Rattle.tcl_list.specs.Written.{written};
-ghost use Rattle.tcl_values.specs.Kept.{texts, depth_over};
+ghost use Rattle.tcl_values.specs.Kept.{texts, depth_over, rotated};
 ghost use Rattle.tcl_values.specs.Shape.{elements, items_text, AreKept, AreSame};
 
 use crate::element::{Element, Items};
@@ -44,7 +44,10 @@ pub(crate) fn show(row: &mut Rc<Items>, alloc: Global) -> Result<RcStr, AllocErr
     ensures same { items_text row.new.value ≡ items_text row.old.value }
     ensures kept { AreKept row.new.value }
 {
-    let text = row_text(row, alloc)?;
+    if let Some(text) = &row.text {
+        return text.clone();
+    }
+    let text = write_items(alloc, &row.items)?;
     let copy = text.clone()?;
     if let Some(own) = Rc::get_mut(row) {
         own.text = Some(copy);
@@ -123,23 +126,21 @@ pub(crate) fn push_element(row: &mut Rc<Items>, element: Element) -> Result<(), 
     add(own, element)
 }
 
-/// The text of a list, which stands beside it from now on. A list that has other owners is copied first.
-pub(crate) fn settle(row: &mut Rc<Items>, alloc: Global) -> Result<RcStr, AllocError>
+/// Writes the text of a list beside it, where it isn't there yet. A list that has other owners is copied first.
+pub(crate) fn settle(row: &mut Rc<Items>, alloc: Global) -> Result<(), AllocError>
     requires { AreKept row.old.value }
-    ensures text { IfOk result (λ t. text_of t ≡ items_text row.old.value) }
     ensures there { OnOk result (IsSome row.new.value.text) }
     ensures same { items_text row.new.value ≡ items_text row.old.value }
     ensures depth { row.new.value.depth ≡ row.old.value.depth }
     ensures kept { AreKept row.new.value }
 {
-    if let Some(text) = &row.text {
-        return text.clone();
+    if row.text.is_some() {
+        return Ok(());
     }
-    let text = row_text(row, alloc)?;
-    let copy = text.clone()?;
+    let text = write_items(alloc, &row.items)?;
     let own = Rc::make_mut(row)?;
-    own.text = Some(copy);
-    Ok(text)
+    own.text = Some(text);
+    Ok(())
 }
 
 /// How deep a list is, one of whose elements has been replaced: it was `whole` deep, one with the element before as its only
@@ -238,4 +239,126 @@ pub(crate) fn part(
         None => behind,
     };
     copy_elements(alloc, some)
+}
+
+/// Leaves of a list its elements alone.
+fn drop_text(own: &mut Items)
+    requires { AreKept own.old }
+    ensures text { items_text own.new ≡ written (texts (elements own.old)) }
+    ensures kept { AreKept own.new }
+{
+    own.text = None;
+}
+
+/// Leaves of a list its elements alone, so that its text is how they are written.
+pub(crate) fn forget_text(row: &mut Rc<Items>) -> Result<(), AllocError>
+    requires { AreKept row.old.value }
+    ensures text { OnOk result (items_text row.new.value ≡ written (texts (elements row.old.value))) }
+    ensures kept { AreKept row.new.value }
+{
+    if row.text.is_some() {
+        let own = Rc::make_mut(row)?;
+        drop_text(own);
+    }
+    Ok(())
+}
+
+/// Takes an element out of a list and leaves its text in its place.
+fn detach(own: &mut Items, index: usize) -> Result<Element, AllocError>
+    requires place { index < length (elements own.old) }
+    requires kept { AreKept own.old }
+    ensures element { IfOk result (λ e. slice_get (elements own.old) index ≡ Some e) }
+    ensures same { items_text own.new ≡ items_text own.old }
+    ensures kept { AreKept own.new }
+{
+    let plain = own.items[index].plain()?;
+    let before = put(&mut own.items, index, plain);
+    let alone = before.depth() + 1;
+    own.depth = depth_after(&own.items, own.depth, alone, 1);
+    Ok(before)
+}
+
+/// An element of a list. Where nobody else holds the list, its text alone stays there, so that nobody else holds the element either.
+pub(crate) fn take_element(row: &mut Rc<Items>, index: usize) -> Result<Element, AllocError>
+    requires place { index < length (elements row.old.value) }
+    requires kept { AreKept row.old.value }
+    ensures element { IfOk result (λ e. slice_get (elements row.old.value) index ≡ Some e) }
+    ensures same { items_text row.new.value ≡ items_text row.old.value }
+    ensures kept { AreKept row.new.value }
+{
+    match Rc::get_mut(row) {
+        Some(own) => detach(own, index),
+        None => row.items[index].duplicate(),
+    }
+}
+
+/// Puts so many elements behind the first ones at the end.
+fn rotate_tail(elements: &mut Vec<Element>, first: usize, count: usize)
+    requires { first + count ≤ length elements.old.items }
+    ensures { elements.new.items ≡ rotated first count elements.old.items }
+{
+    elements[first..].rotate_left(count);
+}
+
+/// Puts elements in the place of so many others behind the first ones.
+fn splice_elements(
+    elements: &mut Vec<Element>,
+    first: usize,
+    count: usize,
+    mut inserted: Vec<Element>,
+) -> Result<(), AllocError>
+    ensures done { OnOk result (elements.new.items
+        ≡ take first elements.old.items ++ inserted.items ++ drop (first + count) elements.old.items) }
+    ensures same { OnErr result (elements.new.items ≡ elements.old.items) }
+{
+    let size = elements.len();
+    let first = first.min(size);
+    let count = count.min(size - first);
+    let between = first + inserted.len();
+    elements.append(&mut inserted)?;
+    rotate_tail(elements, first, size - first);
+    rotate_tail(elements, between, count);
+    let left = elements.len() - count;
+    elements.truncate(left);
+    Ok(())
+}
+
+/// Puts elements in the place of so many others of a list behind the first ones, in place where nobody else holds the list.
+pub(crate) fn splice(
+    row: &mut Rc<Items>,
+    first: usize,
+    count: usize,
+    inserted: Vec<Element>,
+) -> Result<(), AllocError>
+    requires inserted { depth_over inserted.items ≤ 64 }
+    requires kept { AreKept row.old.value }
+    ensures done { OnOk result (elements row.new.value
+        ≡ take first (elements row.old.value) ++ inserted.items ++ drop (first + count) (elements row.old.value)) }
+    ensures text { OnOk result (items_text row.new.value ≡ written (texts (elements row.new.value))) }
+    ensures same { OnErr result (items_text row.new.value ≡ items_text row.old.value) }
+    ensures kept { AreKept row.new.value }
+{
+    let own = Rc::make_mut(row)?;
+    splice_own(own, first, count, inserted)
+}
+
+/// Puts elements in the place of so many others of a list behind the first ones.
+fn splice_own(
+    own: &mut Items,
+    first: usize,
+    count: usize,
+    inserted: Vec<Element>,
+) -> Result<(), AllocError>
+    requires inserted { depth_over inserted.items ≤ 64 }
+    requires kept { AreKept own.old }
+    ensures done { OnOk result (elements own.new
+        ≡ take first (elements own.old) ++ inserted.items ++ drop (first + count) (elements own.old)) }
+    ensures text { OnOk result (items_text own.new ≡ written (texts (elements own.new))) }
+    ensures same { OnErr result (items_text own.new ≡ items_text own.old) }
+    ensures kept { AreKept own.new }
+{
+    splice_elements(&mut own.items, first, count, inserted)?;
+    own.depth = deepest(&own.items);
+    own.text = None;
+    Ok(())
 }

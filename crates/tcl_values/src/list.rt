@@ -5,11 +5,13 @@ ghost use Rattle.tcl_list.specs.Elements.{elements_of};
 ghost use Rattle.tcl_list.specs.Texts.{text_of, Answers};
 ghost use Rattle.tcl_list.specs.Written.{written};
 ghost use Rattle.tcl_values.specs.Kept.{texts, depth_over};
-ghost use Rattle.tcl_values.specs.Lists.{count_of, item_of, part_of, pushed, with_item, Leaves};
+ghost use Rattle.tcl_values.specs.Lists.{count_of, item_of, part_of, pushed, spliced, with_item, Leaves};
 ghost use Rattle.tcl_values.specs.Shape.{elements, elements_held, held_text, is_row, items_text, AreKept, IsHeld};
 
 use crate::element::{Element, Entry, Items};
-use crate::items::{gathered, part, push_element, set_element, settle};
+use crate::items::{
+    gathered, part, push_element, row_text, set_element, settle, splice, take_element,
+};
 use crate::row::Row;
 use crate::value::{Held, Value};
 use std::alloc::{AllocError, Global};
@@ -70,14 +72,14 @@ fn row_element(mut row: Rc<Items>, alloc: Global) -> Result<Element, AllocError>
     ensures text { IfOk result (λ e. e.text ≡ items_text row.value) }
     ensures depth { IfOk result (λ e. e.depth < 64) }
 {
-    let text = settle(&mut row, alloc)?;
     if row.depth < 64 {
+        settle(&mut row, alloc)?;
         return Ok(Element {
             entry: Entry::Row(row),
         });
     }
     Ok(Element {
-        entry: Entry::Text(text),
+        entry: Entry::Text(row_text(&row, alloc)?),
     })
 }
 
@@ -272,6 +274,56 @@ impl Value {
                 }
                 let before = set_element(row, index, element)?;
                 Ok(Some(before.into_value()))
+            }
+            _ => unreachable!(),
+        }
+    }
+
+    /// The element at a place of the list that the text is read as, as [`Value::item`], but taken out where nobody else holds the
+    /// list: its text alone stays. So the element is changed in place, before it is put back by [`Value::replace_item`].
+    ///
+    /// # Errors
+    ///
+    /// `Fault::Error` with the list's fault, `Fault::Memory`.
+    pub fn take_item(&mut self, alloc: Global, index: usize) -> Result<Option<Value>, Fault>
+        ensures item { Answers (λ o. o) result (item_of self.old index) }
+        ensures same { self.new ≡ self.old }
+    {
+        read_row(&mut self.held, alloc)?;
+        match &mut self.held {
+            Held::Row(row) => {
+                if row.items.len() <= index {
+                    return Ok(None);
+                }
+                let element = take_element(row, index)?;
+                Ok(Some(element.into_value()))
+            }
+            _ => unreachable!(),
+        }
+    }
+
+    /// Puts elements in the place of `count` others, or of as many as there are, behind the first ones of the list that the text is read
+    /// as: linsert(n), lreplace(n).
+    ///
+    /// # Errors
+    ///
+    /// `Fault::Error` with the list's fault, `Fault::Memory`; the value is then as it was.
+    pub fn splice(
+        &mut self,
+        alloc: Global,
+        first: usize,
+        count: usize,
+        items: Vec<Value>,
+    ) -> Result<(), Fault>
+        ensures done { Leaves self.new (spliced self.old first count items.items) result }
+        ensures same { OnErr result (self.new ≡ self.old) }
+    {
+        let inserted = into_elements(alloc, items)?;
+        read_row(&mut self.held, alloc)?;
+        match &mut self.held {
+            Held::Row(row) => {
+                splice(row, first, count, inserted)?;
+                Ok(())
             }
             _ => unreachable!(),
         }

@@ -1,9 +1,13 @@
 //! A list that is shared with the value that it was read from.
 
-ghost use Rattle.std.specs.Prelude.{◌≡◌};
+ghost use Rattle.std.specs.Prelude.{◌≡◌, length, IfOk};
+ghost use Rattle.tcl_list.specs.Written.{written};
 ghost use Rattle.tcl_values.specs.Kept.{texts};
 
 use crate::element::{Element, Items};
+use crate::items::forget_text;
+use crate::value::{Held, Value};
+use std::alloc::AllocError;
 use std::marker::Model;
 use std::rc::Rc;
 
@@ -31,5 +35,23 @@ impl Row {
         ensures { texts result.now ≡ self.now }
     {
         &self.items.items
+    }
+
+    /// How many they are.
+    pub fn len(&self) -> usize
+        ensures { result ≡ length self.now }
+    {
+        self.items.items.len()
+    }
+
+    /// The value that is a list of them: their written form (list(n)).
+    pub fn into_value(self) -> Result<Value, AllocError>
+        ensures { IfOk result (λ v. v ≡ written self) }
+    {
+        let mut row = self.items;
+        forget_text(&mut row)?;
+        Ok(Value {
+            held: Held::Row(row),
+        })
     }
 }

@@ -1,6 +1,6 @@
 //! Values: made, read as texts and as numbers, copied.
 
-ghost use Rattle.std.specs.Prelude.{◌≡◌, ◌<◌, IfOk, IfSome, true};
+ghost use Rattle.std.specs.Prelude.{◌≡◌, ◌<◌, ◌++◌, IfOk, IfSome, OnOk, OnErr, true};
 ghost use Rattle.std.specs.Fmt.{signed_decimal};
 ghost use Rattle.std.specs.Str.{chars};
 ghost use Rattle.std.specs.String.{string_bytes};
@@ -14,7 +14,7 @@ use itoa::Buffer;
 use std::alloc::{AllocError, Global};
 use std::marker::Model;
 use std::rc::{Rc, RcStr};
-use tcl_chars::{Dialect, Whole, read_whole};
+use tcl_chars::{Dialect, Whole, push_text, read_whole};
 
 /// A value of a script, which contracts see as its text.
 #[derive(Drop)]
@@ -71,6 +71,25 @@ fn canonical(text: &str, whole: Whole) -> Option<i64>
         Whole::Number(n) => if is_decimal(n, text) { Some(n) } else { None },
         Whole::TooLarge | Whole::Not => None,
     }
+}
+
+/// The one text and the other behind it.
+fn joined(alloc: Global, text: &str, more: &str) -> Result<String, AllocError>
+    ensures { IfOk result (λ s. chars (string_bytes s) ≡ chars text.now ++ chars more.now) }
+{
+    let mut joined = String::from_str(alloc, text)?;
+    push_text(&mut joined, more)?;
+    Ok(joined)
+}
+
+/// Writes a text at the end of one, in place where nobody else holds it.
+fn grow(text: &mut Rc<String>, more: &str) -> Result<(), AllocError>
+    ensures done { OnOk result (chars (string_bytes text.new.value)
+        ≡ chars (string_bytes text.old.value) ++ chars more.now) }
+    ensures same { OnErr result (string_bytes text.new.value ≡ string_bytes text.old.value) }
+{
+    let own = Rc::make_mut(text)?;
+    push_text(own, more)
 }
 
 impl Held {
@@ -160,5 +179,40 @@ impl Value {
             Held::Row(row) => Held::Row(row.clone()?),
         };
         Ok(Value { held })
+    }
+
+    /// Its text, where it stands ready: not that of a number, nor that of a list which nobody has asked for its text.
+    pub fn shown(&self) -> Option<&str>
+        ensures { IfSome result (λ t. chars t.now ≡ self.now) }
+    {
+        match &self.held {
+            Held::Number(_) => None,
+            Held::Text(text) => Some(text.as_str()),
+            Held::Grown(text) => Some(text.as_str()),
+            Held::Row(row) => match &row.text {
+                Some(text) => Some(text.as_str()),
+                None => None,
+            },
+        }
+    }
+
+    /// Writes a text at its end: append(n). A text that grows and has no copy grows in place.
+    ///
+    /// # Errors
+    ///
+    /// `AllocError` where a growth was refused; the value is then as it was.
+    pub fn append(&mut self, alloc: Global, more: &str) -> Result<(), AllocError>
+        ensures done { OnOk result (self.new ≡ self.old ++ chars more.now) }
+        ensures same { OnErr result (self.new ≡ self.old) }
+    {
+        match &mut self.held {
+            Held::Grown(text) => grow(text, more),
+            held => {
+                let text = held.text(alloc)?;
+                let grown = joined(alloc, text.as_str(), more)?;
+                *held = Held::Grown(Rc::new(alloc, grown)?);
+                Ok(())
+            }
+        }
     }
 }
