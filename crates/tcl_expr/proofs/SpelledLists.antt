@@ -17,7 +17,8 @@ use Rattle.tcl_expr.specs.Spelling as spelling
 use Rattle.tcl_expr.specs.Token.{Token}
 use Rattle.tcl_expr.specs.Tokens.{next_token, unless_faulty, tokens_at, tokens}
 use Rattle.tcl_expr.proofs.Lexing.{no_token, one_token}
-use Rattle.tcl_expr.proofs.Spelling.{space_gap, gap_skipped, token_here, token_read, token_spelled, no_token_here, nothing_here, next_is}
+use Rattle.tcl_expr.proofs.LongestFronts.{space_gap, gap_skipped}
+use Rattle.tcl_expr.proofs.SpelledTokens.{token_here, token_read, token_spelled, no_token_here, nothing_here, next_is}
 use Rattle.tcl_expr.proofs.Suffix.{shorter_next}
 
 -- white space alone is skipped, and no other text is

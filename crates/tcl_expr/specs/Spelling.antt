@@ -63,11 +63,21 @@ pub record IsCalled (name rest behind : List ℕ) : Type 0 where
   pub letter : begins_letter name ≡ true
   pub gap : IsGap rest (open_paren ∷ behind)
 
--- an operator or a mark that is no run; none that is longer stands there
+abbrev pub IsNotCalled : List ℕ → List ℕ → Type 0
+IsNotCalled name rest = (behind : List ℕ) → IsCalled name rest behind → ⊥
+
+-- no operator or mark of more than n characters stands in front
+abbrev pub NoLonger : List ℕ → ℕ → Type 0
+NoLonger here n = (y : Symbol) (behind : List ℕ) → here ≡ symbol_text y ++ behind → length (symbol_text y) ≤ n
+
+abbrev pub NoSymbol : List ℕ → Type 0
+NoSymbol here = (y : Symbol) (behind : List ℕ) → here ≢ symbol_text y ++ behind
+
+-- an operator or a mark that is no run, the longest that stands there
 pub record IsSymbol (y : Symbol) (here rest : List ℕ) : Type 0 where
   pub joined : here ≡ symbol_text y ++ rest
   pub no_run : begins_run here ≡ false
-  pub longest : (z : Symbol) (behind : List ℕ) → here ≡ symbol_text z ++ behind → length (symbol_text z) ≤ length (symbol_text y)
+  pub longest : NoLonger here (length (symbol_text y))
 
 -- ---- tokens
 
@@ -75,32 +85,61 @@ pub record IsSymbol (y : Symbol) (here rest : List ℕ) : Type 0 where
 -- bytes, and in an operand brackets and indices may stand in one another `levels` deep.
 pub data SpellsOperand (dialect : Dialect) (size levels : ℕ) (here : List ℕ) : Token → List ℕ → Type 0 where
   -- a function of this name, or of none
-  call : (f : Function) (s : Stretch) (rest behind : List ℕ) → IsOperandRun size here s rest → IsCalled s.text rest behind → s.text ≡ function_text f → SpellsOperand dialect size levels here (Call f s) behind
-  unknown_call : (s : Stretch) (rest behind : List ℕ) → IsOperandRun size here s rest → IsCalled s.text rest behind → ((f : Function) → s.text ≢ function_text f) → SpellsOperand dialect size levels here (UnknownCall s) behind
-  -- any other run is a number or a truth word, or else a bareword
-  number : (s : Stretch) (rest : List ℕ) → IsOperandRun size here s rest → ((behind : List ℕ) → IsCalled s.text rest behind → ⊥) → says_something (truth_of dialect s.text) ≡ true → SpellsOperand dialect size levels here (Operand (literal s)) rest
-  other_run : (s : Stretch) (rest : List ℕ) → IsOperandRun size here s rest → ((behind : List ℕ) → IsCalled s.text rest behind → ⊥) → says_something (truth_of dialect s.text) ≡ false → SpellsOperand dialect size levels here (Bareword s) rest
+  call : (f : Function) (s : Stretch) (rest behind : List ℕ)
+      → IsOperandRun size here s rest → IsCalled s.text rest behind → s.text ≡ function_text f
+      → SpellsOperand dialect size levels here (Call f s) behind
+  unknown_call : (s : Stretch) (rest behind : List ℕ)
+      → IsOperandRun size here s rest → IsCalled s.text rest behind → ((f : Function) → s.text ≢ function_text f)
+      → SpellsOperand dialect size levels here (UnknownCall s) behind
+  -- any other run is a number, one too large too, or a truth word, or else a bareword
+  number : (s : Stretch) (rest : List ℕ)
+      → IsOperandRun size here s rest → IsNotCalled s.text rest → says_something (truth_of dialect s.text) ≡ true
+      → SpellsOperand dialect size levels here (Operand (literal s)) rest
+  other_run : (s : Stretch) (rest : List ℕ)
+      → IsOperandRun size here s rest → IsNotCalled s.text rest → says_something (truth_of dialect s.text) ≡ false
+      → SpellsOperand dialect size levels here (Bareword s) rest
   -- a word in quotes or braces, a bracket or a variable, or its fault
-  quoted : (w : Shape) (rest : List ℕ) → begins_operand here ≡ true → operand size levels here ≡ Ok (w, rest) → SpellsOperand dialect size levels here (Operand (word w)) rest
-  malformed : (m : Syntax) → begins_operand here ≡ true → operand size levels here ≡ Err m → SpellsOperand dialect size levels here (Malformed m) []
-  parenthesis : (rest : List ℕ) → here ≡ open_paren ∷ rest → SpellsOperand dialect size levels here Open rest
-  -- a unary operator, where no longer one and no number stands
-  unary : (u : UnaryOp) (rest : List ℕ) → here ≡ unary_text u ++ rest → (minus ∷ rest ≡ here → begins_digit rest ≡ false) → ((z : Symbol) (behind : List ℕ) → here ≡ symbol_text z ++ behind → length (symbol_text z) ≤ 1) → SpellsOperand dialect size levels here (Unary u) rest
-  -- an operator that is no unary one too, or a mark
-  symbol : (y : Symbol) (rest : List ℕ) → IsSymbol y here rest → ((u : UnaryOp) → symbol_text y ≢ unary_text u) → SpellsOperand dialect size levels here (symbol_token y) rest
+  quoted : (w : Shape) (rest : List ℕ)
+      → begins_operand here ≡ true → operand size levels here ≡ Ok (w, rest)
+      → SpellsOperand dialect size levels here (Operand (word w)) rest
+  malformed : (m : Syntax)
+      → begins_operand here ≡ true → operand size levels here ≡ Err m
+      → SpellsOperand dialect size levels here (Malformed m) []
+  parenthesis : (rest : List ℕ)
+      → here ≡ open_paren ∷ rest
+      → SpellsOperand dialect size levels here Open rest
+  -- a unary operator; a `-` directly before a digit and the `!` of `!=` are none
+  unary : (u : UnaryOp) (rest : List ℕ)
+      → here ≡ unary_text u ++ rest → (minus ∷ rest ≡ here → begins_digit rest ≡ false) → NoLonger here 1
+      → SpellsOperand dialect size levels here (Unary u) rest
+  -- an operator that is not also a unary one, or a mark
+  symbol : (y : Symbol) (rest : List ℕ)
+      → IsSymbol y here rest → ((u : UnaryOp) → symbol_text y ≢ unary_text u)
+      → SpellsOperand dialect size levels here (symbol_token y) rest
   -- a character that begins none of these
-  other_character : (c : ℕ) (s : Stretch) (rest : List ℕ) → IsFront size here s rest → s.text ≡ c ∷ [] → begins_run here ≡ false → begins_operand here ≡ false → c ≢ open_paren
-      → ((u : UnaryOp) → s.text ≢ unary_text u) → ((y : Symbol) (behind : List ℕ) → here ≢ symbol_text y ++ behind) → SpellsOperand dialect size levels here (Bareword s) rest
+  other_character : (c : ℕ) (s : Stretch) (rest : List ℕ)
+      → IsFront size here s rest → s.text ≡ c ∷ []
+      → begins_run here ≡ false → begins_operand here ≡ false → c ≢ open_paren → ((u : UnaryOp) → s.text ≢ unary_text u) → NoSymbol here
+      → SpellsOperand dialect size levels here (Bareword s) rest
 
 -- Where an operator is wanted.
 pub data SpellsOperator (here : List ℕ) : Token → List ℕ → Type 0 where
   -- `eq ne in ni` as whole runs
-  word_operator : (op : BinaryOp) (rest : List ℕ) → here ≡ binary_text op ++ rest → IsRun (binary_text op) → begins_run rest ≡ false → SpellsOperator here (Binary op) rest
-  symbol : (y : Symbol) (rest : List ℕ) → IsSymbol y here rest → SpellsOperator here (symbol_token y) rest
+  word_operator : (op : BinaryOp) (rest : List ℕ)
+      → here ≡ binary_text op ++ rest → IsRun (binary_text op) → begins_run rest ≡ false
+      → SpellsOperator here (Binary op) rest
+  symbol : (y : Symbol) (rest : List ℕ)
+      → IsSymbol y here rest
+      → SpellsOperator here (symbol_token y) rest
   -- another run, or another character
-  other_run : (run rest : List ℕ) → here ≡ run ++ rest → IsRun run → begins_run rest ≡ false → ((op : BinaryOp) → run ≢ binary_text op) → SpellsOperator here Stray rest
-  other_character : (c : ℕ) (rest : List ℕ) → here ≡ c ∷ rest → begins_run here ≡ false → ((y : Symbol) (behind : List ℕ) → here ≢ symbol_text y ++ behind) → SpellsOperator here Stray rest
+  other_run : (run rest : List ℕ)
+      → here ≡ run ++ rest → IsRun run → begins_run rest ≡ false → ((op : BinaryOp) → run ≢ binary_text op)
+      → SpellsOperator here Stray rest
+  other_character : (c : ℕ) (rest : List ℕ)
+      → here ≡ c ∷ rest → begins_run here ≡ false → NoSymbol here
+      → SpellsOperator here Stray rest
 
+-- whether an operand is wanted or an operator
 abbrev pub Spells : Bool → Dialect → ℕ → ℕ → List ℕ → Token → List ℕ → Type 0
 Spells true dialect size levels here t rest = SpellsOperand dialect size levels here t rest
 Spells false dialect size levels here t rest = SpellsOperator here t rest
@@ -108,10 +147,16 @@ Spells false dialect size levels here t rest = SpellsOperator here t rest
 -- The tokens of the end cs of a text of `size` bytes, where this is wanted and that is open: white space and one token
 -- after another, up to the end or to the first that has a fault.
 pub data AreTokens (dialect : Dialect) (size : ℕ) : Wanted → List Opened → List ℕ → List Token → Type 0 where
-  none : (p : Wanted) (os : List Opened) (cs : List ℕ) → list_all is_list_space cs ≡ true → AreTokens dialect size p os cs []
-  faulty : (p : Wanted) (os : List Opened) (cs here rest : List ℕ) (t : Token) (m : ExprFault) → IsGap cs here → Spells (wants_operand p) dialect size (most_levels - length os) here t rest → lowest p os (Some t) ≡ Some m → AreTokens dialect size p os cs (t ∷ [])
-  next : (p : Wanted) (os : List Opened) (cs here rest : List ℕ) (t : Token) (ts : List Token) → IsGap cs here → Spells (wants_operand p) dialect size (most_levels - length os) here t rest → lowest p os (Some t) ≡ None
-      → AreTokens dialect size (wanted_after t) (after t (open_at p t os)) rest ts → AreTokens dialect size p os cs (t ∷ ts)
+  none : (p : Wanted) (os : List Opened) (cs : List ℕ)
+      → list_all is_list_space cs ≡ true
+      → AreTokens dialect size p os cs []
+  faulty : (p : Wanted) (os : List Opened) (cs here rest : List ℕ) (t : Token) (m : ExprFault)
+      → IsGap cs here → Spells (wants_operand p) dialect size (most_levels - length os) here t rest → lowest p os (Some t) ≡ Some m
+      → AreTokens dialect size p os cs (t ∷ [])
+  next : (p : Wanted) (os : List Opened) (cs here rest : List ℕ) (t : Token) (ts : List Token)
+      → IsGap cs here → Spells (wants_operand p) dialect size (most_levels - length os) here t rest → lowest p os (Some t) ≡ None
+      → AreTokens dialect size (wanted_after t) (after t (open_at p t os)) rest ts
+      → AreTokens dialect size p os cs (t ∷ ts)
 
 -- the tokens of a text
 abbrev pub IsSpelled : Dialect → List ℕ → List Token → Type 0
