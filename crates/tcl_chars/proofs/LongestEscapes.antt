@@ -32,9 +32,9 @@ is_longest radix limit cs zero n le r = le
 is_longest radix limit cs (suc m) n le r = elim (cases_Bool (is_run radix limit cs (suc m))) [
   | inl here ↦ rw here le
   | inr other ↦ rw other (elim (cases_eq n (suc m)) [
-      | inl e ↦ absurd (let h : is_run radix limit cs (suc m) ≡ true = (Decides-is_run radix limit cs (suc m)).1 (subst (IsRun radix limit cs) e r) in let k = sym h ∙ other in cc)
-      | inr e ↦ is_longest radix limit cs m n (omega (arith, le, e)) r
-    ])
+    | inl e ↦ absurd (let h : is_run radix limit cs (suc m) ≡ true = (Decides-is_run radix limit cs (suc m)).1 (subst (IsRun radix limit cs) e r) in let k = sym h ∙ other in cc)
+    | inr e ↦ is_longest radix limit cs m n (omega (arith, le, e)) r
+  ])
 ]
 
 blanks_are : (cs : List ℕ) → AllBlank (take (blanks cs) cs)

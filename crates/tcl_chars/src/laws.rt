@@ -1,9 +1,15 @@
 //! Laws of the definitions: each function's contract is one, and its body does nothing.
-ghost use Rattle.tcl_chars.specs.Laws.{EscapeIsLongest, DivisionIsExact, DecimalReadsBack, OrderIsKept};
+ghost use Rattle.tcl_chars.specs.Laws.{EscapeIsLongest, IndexIsSpelled, DivisionIsExact, DecimalReadsBack, OrderIsKept};
 
 /// An escape is the longest that the text allows.
 pub fn escape_is_longest()
     ensures { EscapeIsLongest }
+{}
+
+/// What spells a position, as `end`, a number, or one of them and a number added or taken off, is read as that position, and
+/// what is read as a position spells it.
+pub fn index_is_spelled()
+    ensures { IndexIsSpelled }
 {}
 
 /// A number is the divisor times the quotient, and the remainder, which has the divisor's sign.

@@ -1,7 +1,7 @@
 use Rattle.std.proofs.Common.{ap, sym, ◌∙◌}
 use Rattle.std.specs.Str.{chars}
 use Rattle.tcl_chars.specs.Index.{number_or_sum, index_of}
-use Rattle.tcl_chars.proofs.Signs.{alone}
+use Rattle.tcl_chars.proofs.IndicesLemmas.{alone}
 use Rattle.tcl_chars.proofs.indices.read_index.Goals as goal
 
 pub returns-in-Not : goal.returns-in-Not

@@ -2,7 +2,7 @@ use Rattle.std.proofs.Common.{ap, subst, sym, ◌∙◌}
 use Rattle.std.specs.Str.{chars}
 use Rattle.tcl_chars.specs.Index.{to_sign}
 use Rattle.tcl_chars.specs.Place.{EndsWith}
-use Rattle.tcl_chars.proofs.Signs.{sum_ends}
+use Rattle.tcl_chars.proofs.IndicesLemmas.{sum_ends}
 use Rattle.tcl_chars.proofs.indices.read_sum.Goals as goal
 
 pub before-requires : goal.before-requires

@@ -1,5 +1,5 @@
 -- The item is the first character, and what `chars` has left is the text after it.
-use Rattle.tcl_chars.proofs.Text.{first_is, shorter_behind}
+use Rattle.tcl_chars.proofs.Places.{first_is, shorter_behind}
 use Rattle.tcl_chars.proofs.texts.split_first.Goals as goal
 
 pub returns-clause-parts : goal.returns-clause-parts

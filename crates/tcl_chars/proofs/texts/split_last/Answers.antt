@@ -1,6 +1,6 @@
 -- The item is the last character, and what `chars` has left is the text before it.
 use Rattle.std.proofs.Common.{ap, ◌∙◌, length, sym}
-use Rattle.tcl_chars.proofs.Text.{last_is, shorter_before, chars_empty}
+use Rattle.tcl_chars.proofs.Places.{last_is, shorter_before, chars_empty}
 use Rattle.tcl_chars.proofs.texts.split_last.Goals as goal
 
 pub returns-in_err-last-clause-parts : goal.returns-in_err-last-clause-parts
