@@ -1,5 +1,5 @@
 -- The table of faults as an automaton: one row a token, on what the token leaves open.
-use Rattle.std.proofs.Common.{◌≡◌, ℕ, suc, Bool, true, false, List, [], ◌∷◌, length, Option, Some, None, refl, ap, ◌∙◌}
+use Rattle.std.proofs.Common.{◌≡◌, suc, Bool, true, false, List, [], ◌∷◌, length, Option, Some, None, refl, ap, ◌∙◌}
 use Rattle.std.specs.Prelude.{nat_lt, not, ◌||◌, if◌then◌else◌}
 use Rattle.std.specs.Option.{option_or}
 use Rattle.tcl_words.specs.declared.fault.Syntax.{Syntax}
@@ -11,7 +11,7 @@ use Rattle.tcl_expr.specs.ExprFault as fault
 use Rattle.tcl_expr.specs.declared.state.Wanted.{Wanted}
 use Rattle.tcl_expr.specs.declared.state.Wanted.TheVariants as wanted
 use Rattle.tcl_expr.specs.Grammar.{miscount, most_levels}
-use Rattle.tcl_expr.specs.Faults.{Opened, prefixed, powered, second, third, parenthesis, arguments, reach, still_open, open_at, when, wants_operand, lowest}
+use Rattle.tcl_expr.specs.Faults.{Opened, prefixed, powered, second, third, parenthesis, arguments, still_open, open_at, when, wants_operand, lowest}
 
 -- the token that opens a level too many
 abbrev pub opens : List Opened → Option ExprFault

@@ -1,6 +1,6 @@
 -- The first fault of a list of tokens: a table of nine rows. The text is read from the left, and an operand is wanted
 -- first. The first token at which a row applies counts, and there the lowest row (the profile).
-use Rattle.std.specs.Prelude.{ℕ, suc, Bool, true, false, not, ◌||◌, ◌&&◌, nat_lt, List, [], ◌∷◌, length, Option, Some, None, IsSome, if◌then◌else◌}
+use Rattle.std.specs.Prelude.{ℕ, suc, Bool, true, false, not, ◌||◌, ◌&&◌, nat_lt, List, [], ◌∷◌, length, Option, Some, None, if◌then◌else◌}
 use Rattle.std.specs.Option.{option_or, is_some}
 use Rattle.tcl_words.specs.Parts.{Stretch}
 use Rattle.tcl_words.specs.declared.fault.Syntax.TheVariants as syntax
