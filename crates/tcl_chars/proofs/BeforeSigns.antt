@@ -1,9 +1,9 @@
 -- A number without white space ends before a sign: it has none behind its first character, and with a sign behind it it is
 -- no number.
-use Rattle.std.proofs.Common.{◌≡◌, ◌≢◌, ℕ, zero, suc, ◌+◌, ◌<◌, ◌≤◌, Bool, true, false, not, ◌||◌, ◌==◌, cond, List, [], ◌∷◌, ◌++◌, length, length-append, drop, Option, Some, None, ℤ, sym, ◌∙◌, ap, subst, refl, arith, inl, inr}
+use Rattle.std.proofs.Common.{◌≡◌, ℕ, zero, suc, ◌+◌, ◌<◌, ◌≤◌, Bool, true, false, not, ◌||◌, ◌==◌, cond, List, [], ◌∷◌, ◌++◌, length, drop, Option, Some, None, ℤ, sym, ◌∙◌, ap, subst, refl, arith, inl, inr}
 use Rattle.std.specs.Prelude.{nat_lt}
 use Rattle.std.specs.Char.{digit_value, is_ascii_digit}
-use Rattle.std.proofs.lemmas.Bool.{cases_Bool, cond-true, cond-false, cond_both, not-false, or_parts, or_right, eqb-true, eqb-false, eq-eqb, ne_eqb, ltb-true, le-ltb, true≢false}
+use Rattle.std.proofs.lemmas.Bool.{cases_Bool, cond-true, cond-false, cond_both, not-false, or_parts, or_right, eqb-true, ne_eqb, le-ltb}
 use Rattle.std.proofs.lemmas.Bool.Decides.{nat_tests}
 use Rattle.std.proofs.lemmas.List.{length-drop, drop_at}
 use Rattle.std.proofs.lemmas.List.Sums.{prefix_len-le-length}
@@ -13,7 +13,6 @@ use Rattle.tcl_chars.specs.Place.{tail}
 use Rattle.tcl_chars.specs.Whole.{skip_space, is_only_space, sign_of, zero_radix, radix_behind_zero, radix_of, digits_len, numeral, signed, magnitude, whole_of}
 use Rattle.tcl_chars.specs.declared.numbers.Dialect.{Dialect}
 use Rattle.tcl_chars.specs.declared.numbers.Dialect.TheVariants.{Tcl86}
-use Rattle.tcl_chars.specs.declared.numbers.Whole.{Whole}
 use Rattle.tcl_chars.specs.declared.numbers.Whole.TheVariants.{Number, Not}
 use Rattle.tcl_chars.proofs.Ends.{if_cond}
 use Rattle.tcl_chars.proofs.Figures.{whole_is}
@@ -177,7 +176,7 @@ numeral_digits radix n ds p h =
     elim (cases_Bool (k == 0 || not (is_only_space (drop k ds)))) [
       | inl bad ↦ absurd (let e = sym (cond-true _ _ _ bad) ∙ h in cc)
       | inr good ↦
-          let only : is_only_space (drop k ds) ≡ true = not-false _ (or_parts _ _ good).1 in
+          let only : is_only_space (drop k ds) ≡ true = not-false _ (or_parts (k == 0) (not (is_only_space (drop k ds))) good).1 in
           let e : drop k ds ≡ [] = nothing_left (drop k ds) (plain_drop k ds p) only in
           let le : k ≤ length ds = prefix_len-le-length (λ c. nat_lt (digit_value c) radix) ds in
           omega (arith, ap length e, length-drop k ds, le)

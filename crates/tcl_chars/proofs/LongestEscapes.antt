@@ -1,11 +1,10 @@
 -- An escape is the longest that the text allows.
 use Rattle.std.proofs.Common.{◌≡◌, ℕ, zero, suc, ◌+◌, ◌<◌, ◌≤◌, Bool, true, false, cond, ◌==◌, List, [], ◌∷◌, length, take, Option, Some, None, sym, ap, ◌∙◌, subst, refl, arith, inl, inr}
 use Rattle.std.specs.Char.{digit_value}
-use Rattle.std.specs.Str.Parse.{digits_value}
 use Rattle.std.proofs.lemmas.Bool.{cases_Bool, cases_eq, eqb-true, eqb-false}
 use Rattle.std.proofs.lemmas.Bool.Decides.{nat_tests}
 use Rattle.tcl_chars.specs.Classes.{is_blank}
-use Rattle.tcl_chars.specs.Escape.{IsRun, is_run, longest_run, blanks, control_of, code_form, escape, escape_of, by_control, by_code_form, octal_or_self}
+use Rattle.tcl_chars.specs.Escape.{IsRun, is_run, longest_run, blanks, control_of, code_form, escape_of, by_control, by_code_form, octal_or_self}
 use Rattle.tcl_chars.specs.Laws.{AllBlank, IsEscape, EscapeIsLongest}
 use Rattle.tcl_chars.specs.Laws.IsEscape.{itself, coded, octal, line}
 use Rattle.tcl_chars.proofs.EscapesLemmas.{blanks_in}

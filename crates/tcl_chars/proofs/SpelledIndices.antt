@@ -1,11 +1,11 @@
 -- What spells a position is read as it, and what is read as a position spells it.
-use Rattle.std.proofs.Common.{◌≡◌, ◌↔◌, ℕ, ◌<◌, ◌^◌, ◌-◌, Bool, true, false, ◌==◌, ◌||◌, cond, List, [], ◌∷◌, ◌++◌, length, take, Option, Some, None, ℤ, pos, sym, ◌∙◌, ap, subst, refl, arith, inl, inr}
-use Rattle.std.specs.Prelude.{nat_lt, neg_ℤ, codes}
+use Rattle.std.proofs.Common.{◌≡◌, ℕ, ◌<◌, ◌^◌, ◌-◌, Bool, true, false, ◌==◌, ◌||◌, cond, List, [], ◌∷◌, ◌++◌, length, Option, Some, None, ℤ, pos, sym, ◌∙◌, ap, subst, refl, arith, inl, inr}
+use Rattle.std.specs.Prelude.{nat_lt, neg_ℤ}
 use Rattle.std.specs.Str.{chars}
-use Rattle.std.proofs.lemmas.Bool.{cases_Bool, cond-true, cond-false, ltb-true, lt-ltb, true≢false, false_from_ne_true}
+use Rattle.std.proofs.lemmas.Bool.{cases_Bool, cond-true, cond-false, ltb-true, lt-ltb, false_from_ne_true}
 use Rattle.std.proofs.lemmas.List.{append-nil, length-append, take_at}
 use Rattle.std.proofs.lemmas.Slice.Eq.{bytes_eq-Decides}
-use Rattle.tcl_chars.specs.Index.{has_space, to_sign, of_whole, base_of, signed_offset, offset_of, moved, joined, sum_of, number_or_sum, index_of}
+use Rattle.tcl_chars.specs.Index.{has_space, to_sign, of_whole, base_of, signed_offset, offset_of, moved, joined, number_or_sum, index_of}
 use Rattle.tcl_chars.specs.Laws.{IsBase, IsUnsigned, Spells, IndexIsSpelled}
 use Rattle.tcl_chars.specs.Laws.IsBase.{last, number}
 use Rattle.tcl_chars.specs.Laws.Spells.{alone, base, plus, minus}

@@ -1,10 +1,13 @@
 //! Answers from the language's manual.
+use std::cmp::Ordering;
 use std::rc::RcStr;
 use std::test::Fail;
 use tcl_chars::{
-    Arith, Dialect, Fault, Index, Op, Truth, UnOp, Whole, backslash, before, begins, binary,
-    is_blank, is_list_space, is_name_char, is_word_space, place, place_of, push, push_text,
-    read_index, read_truth, read_whole, skip_space, split_first, tail, unary,
+    Arith, Decimal, Dialect, Fault, Index, Op, Position, Truth, UnOp, Whole, about, backslash,
+    before, begins, binary, clamp, compare, expect_number, expect_position, expect_truth, is_blank,
+    is_list_space, is_name_char, is_text, is_word_space, message, number_text, place, place_of,
+    push, push_number, push_text, read_decimal, read_index, read_truth, read_whole, skip_space,
+    split_first, split_last, tail, trim, trim_end, unary,
 };
 
 #[test]
@@ -346,4 +349,150 @@ fn long_texts_are_pushed(rt: HostRuntime) -> Result<(), Fail> {
     assert!(rt; twice.starts_with(text.as_str()));
     assert!(rt; twice.ends_with(text.as_str()));
     Ok(())
+}
+
+#[test]
+fn ends_of_texts(rt: HostRuntime) {
+    assert_eq!(rt; split_last("abé"), Some(("ab", 'é')));
+    assert_eq!(rt; split_last(""), None);
+    assert_eq!(rt; trim_end(" a b\t\n\u{b}"), " a b");
+    assert_eq!(rt; trim_end(" \n"), "");
+    assert_eq!(rt; trim(" \r\n a b\u{c}"), "a b");
+    assert_eq!(rt; trim("\u{a0}x\u{a0}"), "\u{a0}x\u{a0}");
+    assert!(rt; is_text("set", "set"));
+    assert!(rt; !is_text("set", "sett"));
+}
+
+#[test]
+fn order_of_code_points(rt: HostRuntime) {
+    assert_eq!(rt; compare("a", "b"), Ordering::Less);
+    assert_eq!(rt; compare("", "a"), Ordering::Less);
+    assert_eq!(rt; compare("ab", "a"), Ordering::Greater);
+    assert_eq!(rt; compare("\u{ffff}", "\u{10000}"), Ordering::Less);
+    assert_eq!(rt; compare("éa", "éa"), Ordering::Equal);
+}
+
+#[test]
+fn plain_digits(rt: HostRuntime) {
+    assert_eq!(rt; read_decimal("0"), Decimal::Number(0));
+    assert_eq!(rt; read_decimal("0042"), Decimal::Number(42));
+    assert_eq!(rt;
+        read_decimal("9223372036854775807"),
+        Decimal::Number(0x7fff_ffff_ffff_ffff)
+    );
+    assert_eq!(rt; read_decimal("9223372036854775808"), Decimal::TooLarge);
+    assert_eq!(rt; read_decimal("99999999999999999999999"), Decimal::TooLarge);
+    for text in ["", "+1", "-1", " 1", "1 ", "0x1", "1a", "٣"] {
+        assert_eq!(rt; read_decimal(text), Decimal::Not);
+    }
+}
+
+#[test]
+fn numbers_as_texts(rt: HostRuntime) -> Result<(), Fail> {
+    let alloc = rt.alloc();
+    assert_eq!(rt; number_text(alloc, 0)?.as_str(), "0");
+    assert_eq!(rt;
+        number_text(alloc, i64::MAX)?.as_str(),
+        "9223372036854775807"
+    );
+    assert_eq!(rt;
+        number_text(alloc, i64::MIN)?.as_str(),
+        "-9223372036854775808"
+    );
+    let mut text = String::new(alloc);
+    for number in 0..1000i64 {
+        push_number(&mut text, number - 500)?;
+        push_text(&mut text, ",")?;
+    }
+    assert!(rt; text.starts_with("-500,-499,"));
+    assert!(rt; text.ends_with(",498,499,"));
+    Ok(())
+}
+
+#[test]
+fn places_in_reach(rt: HostRuntime) {
+    assert_eq!(rt; clamp(-1, 3), 0);
+    assert_eq!(rt; clamp(2, 3), 2);
+    assert_eq!(rt; clamp(3, 3), 3);
+    assert_eq!(rt; clamp(i128::MAX, 3), 3);
+    assert_eq!(rt; clamp(i128::MIN, 0), 0);
+}
+
+/// Does the fault say this?
+fn says(fault: &Fault, text: &str) -> bool {
+    match fault {
+        Fault::Error(said) => said.as_str() == text,
+        Fault::Memory => false,
+    }
+}
+
+/// Is the answer the script's error that says this?
+fn fails<T>(answer: &Result<T, Fault>, text: &str) -> bool {
+    match answer {
+        Ok(_) => false,
+        Err(fault) => says(fault, text),
+    }
+}
+
+#[test]
+fn sentences(rt: HostRuntime) -> Result<(), Fail> {
+    let alloc = rt.alloc();
+    assert_eq!(rt;
+        message(alloc, "empty expression")?.as_str(),
+        "empty expression"
+    );
+    assert_eq!(rt;
+        about(alloc, "can't read", "é", ": no such variable")?.as_str(),
+        "can't read \"é\": no such variable"
+    );
+    assert_eq!(rt; Arith::Overflow.text(), "integer overflow");
+    assert_eq!(rt; Arith::DivideByZero.text(), "divide by zero");
+    assert_eq!(rt;
+        Arith::ZeroPower.text(),
+        "exponentiation of zero by negative power"
+    );
+    assert_eq!(rt; Arith::NegativeShift.text(), "negative shift argument");
+    Ok(())
+}
+
+#[test]
+fn texts_that_must_say_something(rt: HostRuntime) {
+    let alloc = rt.alloc();
+    let dialect = Dialect::Tcl86;
+    let large = "integer value too large to represent";
+    assert!(rt; matches!(expect_number(alloc, " 0x10", dialect), Ok(16)));
+    assert!(rt;
+        fails(
+            &expect_number(alloc, "08", dialect),
+            "expected integer but got \"08\""
+        )
+    );
+    assert!(rt; fails(&expect_number(alloc, "9223372036854775808", dialect), large));
+    assert!(rt; matches!(expect_truth(alloc, "Off", dialect), Ok(false)));
+    assert!(rt; matches!(expect_truth(alloc, "7", dialect), Ok(true)));
+    assert!(rt;
+        fails(
+            &expect_truth(alloc, "o", dialect),
+            "expected boolean value but got \"o\""
+        )
+    );
+    assert!(rt; fails(&expect_truth(alloc, "9223372036854775808", dialect), large));
+    assert!(rt;
+        matches!(
+            expect_position(alloc, "end-1", dialect),
+            Ok(Position::End(-1))
+        )
+    );
+    assert!(rt;
+        fails(
+            &expect_position(alloc, "end-9223372036854775808", dialect),
+            large
+        )
+    );
+    assert!(rt;
+        fails(
+            &expect_position(alloc, "x", dialect),
+            "bad index \"x\": must be integer?[+-]integer? or end?[+-]integer?"
+        )
+    );
 }

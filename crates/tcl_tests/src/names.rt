@@ -91,3 +91,19 @@ fn a_long_name(rt: HostRuntime) -> Result<(), Fail> {
     assert_eq!(rt; map.names(alloc)?[0].as_str(), name.as_str());
     Ok(())
 }
+
+#[test]
+fn a_walk_by_code_point(rt: HostRuntime) -> Result<(), Fail> {
+    let mut letters = letters(rt.alloc())?;
+    assert_eq!(rt; letters.len(), 3);
+    let mut said = String::new(rt.alloc());
+    for (name, value) in letters.iter() {
+        said.push_str(name.as_str())?;
+        said.push(char::from(b'0' + *value % 10))?;
+    }
+    assert_eq!(rt; said.as_str(), "a1b2ä3");
+    letters.remove("b");
+    assert_eq!(rt; letters.len(), 2);
+    assert_eq!(rt; letters.iter().count(), 2);
+    Ok(())
+}
