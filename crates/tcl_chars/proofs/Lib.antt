@@ -5,11 +5,15 @@ pub mod EscapesLemmas
 pub mod Figures
 pub mod Forms
 pub mod Literals
+pub mod LongestEscapes
 pub mod MessagesLemmas
+pub mod Numerals
+pub mod Order
 pub mod Powers
 pub mod Runs
 pub mod Same
 pub mod Signs
 pub mod Text
+pub mod Trims
 pub mod Turns
 pub mod Writing

@@ -1,5 +1,5 @@
 -- What a text says as an index (lindex(n), string(n)): a number, `end`, or one of them and a number added or taken off.
-use Rattle.std.specs.Prelude.{ℕ, ◌^◌, Bool, false, ◌||◌, ◌==◌, nat_lt, List, [], ◌∷◌, if◌then◌else◌, Option, Some, None, ℤ, pos, neg_ℤ, ◌+ℤ◌, ◌-ℤ◌}
+use Rattle.std.specs.Prelude.{ℕ, ◌^◌, Bool, false, ◌||◌, ◌==◌, nat_lt, List, [], ◌∷◌, if◌then◌else◌, Option, Some, None, min, ℤ, pos, negsuc, neg_ℤ, ◌+ℤ◌, ◌-ℤ◌}
 use Rattle.tcl_chars.specs.Classes.{is_list_space}
 use Rattle.tcl_chars.specs.Place.{before, tail}
 use Rattle.tcl_chars.specs.Texts.{literal, same_text}
@@ -16,6 +16,11 @@ use Rattle.tcl_chars.specs.declared.numbers.Whole.TheVariants as whole
 abbrev pub place_of : Position → ℕ → ℤ
 place_of (Start number offset) length = number +ℤ offset
 place_of (End offset) length = (pos length -ℤ pos 1) +ℤ offset
+
+-- the place among them that is nearest, where what is counted stands between elements too
+abbrev pub clamp : ℤ → ℕ → ℕ
+clamp (pos n) length = min n length
+clamp (negsuc n) length = 0
 
 abbrev pub has_space : List ℕ → Bool
 has_space [] = false

@@ -20,6 +20,12 @@ abbrev pub begins : ℕ → List ℕ → Bool
 begins c [] = false
 begins c (d ∷ cs) = d == c
 
+-- the text bs is the text front and then the character c
+pub record IsLast (bs front : List ℕ) (c : ℕ) : Type 0 where
+  pub in_chars : chars bs ≡ chars front ++ c ∷ []
+  pub in_bytes : bs ≡ front ++ encode_utf8 c
+  pub scalar : IsScalar c
+
 -- what follows the first character
 abbrev pub tail : List ℕ → List ℕ
 tail [] = []

@@ -1,7 +1,9 @@
 -- Texts, as contracts and definitions write them. A text is the list of its characters.
 use Prim.Native.String.{String}
 use Rattle.std.specs.Prelude.{ℕ, Bool, nat_eq, List, codes}
-use Rattle.std.specs.Cmp.Lexicographic.{pointwise}
+use Rattle.std.specs.Cmp.Lexicographic.{pointwise, slice_cmp}
+use Rattle.std.specs.Ordering.{nat_cmp}
+use Rattle.std.specs.declared.cmp.Ordering.{Ordering}
 use Rattle.std.specs.Rc.{rc_str_bytes}
 use Rattle.std.specs.Str.{chars}
 use Rattle.std.specs.declared.rc.RcStr.{RcStr}
@@ -18,3 +20,7 @@ text_of s = chars (rc_str_bytes s)
 -- are the texts the same
 abbrev pub same_text : List ℕ → List ℕ → Bool
 same_text = pointwise nat_eq
+
+-- the order of texts: the first difference decides, by code points, and a beginning comes before what it begins
+abbrev pub by_code_point : List ℕ → List ℕ → Ordering
+by_code_point = slice_cmp nat_cmp

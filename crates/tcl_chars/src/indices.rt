@@ -2,7 +2,7 @@
 
 ghost use Rattle.std.specs.Prelude.{◌≡◌, Some};
 ghost use Rattle.std.specs.Str.{chars};
-ghost use Rattle.tcl_chars.specs.Index.{place_of, has_space, to_sign, of_whole, base_of, signed_offset, offset_of, moved, joined, sum_of, index_of};
+ghost use Rattle.tcl_chars.specs.Index.{place_of, clamp, has_space, to_sign, of_whole, base_of, signed_offset, offset_of, moved, joined, sum_of, index_of};
 ghost use Rattle.tcl_chars.specs.Whole.{magnitude};
 
 use crate::classes::is_list_space;
@@ -35,6 +35,19 @@ pub fn place_of(position: Position, length: usize) -> i128
         Position::Start(number, offset) => i128::from(number) + i128::from(offset),
         Position::End(offset) => i128::from(length as u64) - 1 + i128::from(offset),
     }
+}
+
+/// The place from 0 to `length` that is nearest.
+pub fn clamp(place: i128, length: usize) -> usize
+    ensures { result ≡ clamp place length }
+{
+    if place < 0 {
+        return 0;
+    }
+    if place > i128::from(length as u64) {
+        return length;
+    }
+    place as usize
 }
 
 /// Is there list space in the text?

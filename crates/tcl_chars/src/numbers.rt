@@ -1,11 +1,17 @@
 //! Number texts.
-ghost use Rattle.std.specs.Prelude.{◌≡◌, ◌+◌, ◌-◌, ◌*◌, ◌≤◌, ◌<◌, ◌^◌, [], length, take, drop, min, option_map};
+ghost use Rattle.std.specs.Prelude.{◌≡◌, ◌+◌, ◌-◌, ◌*◌, ◌≤◌, ◌<◌, ◌^◌, ◌++◌, [], length, IfOk, OnOk, OnErr, take, drop, min, option_map};
 ghost use Rattle.std.specs.Str.{chars};
+ghost use Rattle.std.specs.Fmt.{signed_decimal};
 ghost use Rattle.std.specs.Str.Parse.{digits_value};
-ghost use Rattle.tcl_chars.specs.Whole.{skip_space, sign_of, zero_radix, radix_of, digits_len, numeral, signed, magnitude, whole_of};
+ghost use Rattle.std.specs.String.{string_bytes};
+ghost use Rattle.tcl_chars.specs.Texts.{text_of};
+ghost use Rattle.tcl_chars.specs.Whole.{skip_space, trim_end, trim, is_digits, decimal_of, sign_of, zero_radix, radix_of, digits_len, numeral, signed, magnitude, whole_of};
 
 use crate::classes::is_list_space;
-use crate::texts::split_first;
+use crate::texts::{push_text, split_first, split_last};
+use itoa::Buffer;
+use std::alloc::{AllocError, Global};
+use std::rc::RcStr;
 
 /// Which texts are numbers.
 #[derive(Clone, Copy, Debug, PartialEq, Eq)]
@@ -17,6 +23,15 @@ pub enum Dialect {
 #[derive(Clone, Copy, Debug, PartialEq, Eq)]
 pub enum Whole {
     Number(i64),
+    TooLarge,
+    Not,
+}
+
+/// What a text says as plain decimal digits.
+#[derive(Clone, Copy, Debug, PartialEq, Eq)]
+pub enum Decimal {
+    /// At most 2^63 - 1.
+    Number(u64),
     TooLarge,
     Not,
 }
@@ -33,6 +48,28 @@ pub fn skip_space(text: &str) -> &str
         rest = after;
     }
     rest
+}
+
+/// The text without the list space behind it.
+#[tactic(auto, using(crate::proofs::Trims::trims_at, crate::proofs::Trims::keeps_at))]
+pub fn trim_end(text: &str) -> &str
+    ensures { chars result.now ≡ trim_end (chars text.now) }
+{
+    let mut rest = text;
+    while let Some((front, last)) = split_last(rest) {
+        if !is_list_space(last) {
+            return rest;
+        }
+        rest = front;
+    }
+    rest
+}
+
+/// The text without the list space round it.
+pub fn trim(text: &str) -> &str
+    ensures { chars result.now ≡ trim (chars text.now) }
+{
+    trim_end(skip_space(text))
 }
 
 /// Is there a minus in front, and what is left behind the sign?
@@ -126,6 +163,38 @@ pub(crate) fn read_magnitude(text: &str, dialect: Dialect) -> Option<u64>
         return None;
     }
     Some(value)
+}
+
+/// What a text of decimal digits alone says: no sign, no white space, and leading zeros say nothing.
+pub fn read_decimal(text: &str) -> Decimal
+    ensures { result ≡ decimal_of (chars text.now) }
+{
+    let (value, taken, rest) = split_digits(text, 10);
+    if taken == 0 {
+        return Decimal::Not;
+    }
+    if let Some(_) = split_first(rest) {
+        return Decimal::Not;
+    }
+    if value >= 0x8000_0000_0000_0000 {
+        return Decimal::TooLarge;
+    }
+    Decimal::Number(value)
+}
+
+/// The decimal text of a number.
+pub fn number_text(alloc: Global, number: i64) -> Result<RcStr, AllocError>
+    ensures { IfOk result (λ s. text_of s ≡ signed_decimal number) }
+{
+    RcStr::from_str(alloc, Buffer::new().format(number))
+}
+
+/// Writes the decimal text of a number at the end of a text. A refused growth leaves the text as it is.
+pub fn push_number(text: &mut String, number: i64) -> Result<(), AllocError>
+    ensures ok { OnOk result (chars (string_bytes text.new) ≡ chars (string_bytes text.old) ++ signed_decimal number) }
+    ensures same { OnErr result (string_bytes text.new ≡ string_bytes text.old) }
+{
+    push_text(text, Buffer::new().format(number))
 }
 
 /// A number with its sign, where 64 bits hold it.

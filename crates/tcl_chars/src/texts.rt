@@ -3,11 +3,12 @@
 ghost use Rattle.std.specs.Prelude.{◌≡◌, ◌<◌, ◌∷◌, [], ◌++◌, length, MatchOption, IfSome, OnOk, OnErr};
 ghost use Rattle.std.specs.Str.{chars};
 ghost use Rattle.std.specs.String.{string_bytes};
-ghost use Rattle.tcl_chars.specs.Place.{IsFirst, EndsWith};
+ghost use Rattle.tcl_chars.specs.Place.{IsFirst, IsLast, EndsWith};
 ghost use Rattle.tcl_chars.specs.Place as spec;
-ghost use Rattle.tcl_chars.specs.Texts.{same_text};
+ghost use Rattle.tcl_chars.specs.Texts.{same_text, by_code_point};
 
 use std::alloc::AllocError;
+use std::cmp::Ordering;
 
 /// The first character of a text, and the text after it.
 pub fn split_first(text: &str) -> Option<(char, &str)>
@@ -17,6 +18,16 @@ pub fn split_first(text: &str) -> Option<(char, &str)>
     let mut rest = text.chars();
     let first = rest.next()?;
     Some((first, rest.as_str()))
+}
+
+/// The last character of a text, and the text before it.
+pub fn split_last(text: &str) -> Option<(&str, char)>
+    ensures parts { MatchOption result (chars text.now ≡ []) (λ p. IsLast text.now p.0.now p.1) }
+    ensures shorter { IfSome result (λ p. length p.0.now < length text.now) }
+{
+    let mut front = text.chars();
+    let last = front.next_back()?;
+    Some((front.as_str(), last))
 }
 
 /// Is this the first character of the text?
@@ -45,6 +56,14 @@ pub fn is_text(text: &str, other: &str) -> bool
     ensures { result ≡ same_text (chars text.now) (chars other.now) }
 {
     text == other
+}
+
+/// How two texts stand in the order of code points.
+#[tactic(auto, using(crate::proofs::Order::chars_order))]
+pub fn compare(a: &str, b: &str) -> Ordering
+    ensures { result ≡ by_code_point (chars a.now) (chars b.now) }
+{
+    a.cmp(b)
 }
 
 /// What stands in a text before the rest with which it ends.
