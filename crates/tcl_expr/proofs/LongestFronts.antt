@@ -2,7 +2,7 @@
 use Rattle.std.proofs.Common.{◌≡◌, ℕ, ◌-◌, Bool, true, false, List, [], ◌∷◌, ◌++◌, length, take, Option, Some, None, refl, sym, ap, subst, ◌∙◌}
 use Rattle.std.specs.Prelude.{◌==◌, ◌&&◌, if◌then◌else◌}
 use Rattle.std.specs.List.{list_all}
-use Rattle.std.proofs.lemmas.Bool.{eqb-true, ne_eqb}
+use Rattle.std.proofs.lemmas.Bool.{and_parts, eqb-true, ne_eqb}
 use Rattle.std.proofs.lemmas.List.{length-append}
 use Rattle.std.proofs.Math.Seq.{take-append_seam}
 use Rattle.std.proofs.Math.Nat.{add-sub_cancel}
@@ -20,10 +20,6 @@ use Rattle.tcl_expr.specs.Tokens.{is_run_char, after_run, begins_run}
 pub no_clash : (b : Bool) → b ≡ true → b ≡ false → ⊥
 no_clash true e f = absurd cc
 no_clash false e f = absurd cc
-
-pub both_true : (a b : Bool) → (a && b) ≡ true → (a ≡ true) × (b ≡ true)
-both_true true b e = (refl, e)
-both_true false b e = absurd cc
 
 pub and_false : (a b : Bool) → a ≡ false → (a && b) ≡ false
 and_false true b e = absurd cc
@@ -80,7 +76,7 @@ pub past_over : (p : ℕ → Bool) (text rest : List ℕ) → list_all p text �
 unfolding past starts
 past_over p [] [] a e = refl
 past_over p [] (c ∷ cs) a e = rw e refl
-past_over p (c ∷ cs) rest a e = let k = both_true (p c) (list_all p cs) a in rw k.0 (past_over p cs rest k.1 e)
+past_over p (c ∷ cs) rest a e = let k = and_parts (p c) (list_all p cs) a in rw k.0 (past_over p cs rest k.1 e)
 
 pub space_past : (cs : List ℕ) → skip_space cs ≡ past is_list_space cs
 unfolding past

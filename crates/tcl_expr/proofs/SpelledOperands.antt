@@ -2,7 +2,7 @@
 use Rattle.std.proofs.Common.{◌≡◌, ◌≢◌, ℕ, ◌≤◌, Bool, true, false, List, [], ◌∷◌, ◌++◌, length, Option, Some, None, Result, Ok, Err, refl, sym, ap, subst, ◌∙◌, inl, inr, arith}
 use Rattle.std.specs.Prelude.{◌==◌, not, ◌&&◌, ◌||◌, ◌⊎◌, if◌then◌else◌, IfSome}
 use Rattle.std.specs.List.{list_all}
-use Rattle.std.proofs.lemmas.Bool.{eqb-true, eqb-false, ne_eqb}
+use Rattle.std.proofs.lemmas.Bool.{and_parts, eqb-true, eqb-false, ne_eqb}
 use Rattle.tcl_chars.specs.Characters.{open_paren, open_brace, open_bracket, quote, dollar}
 use Rattle.tcl_chars.specs.Place.{begins, tail, before}
 use Rattle.tcl_chars.specs.Truth.{truth_of}
@@ -25,7 +25,7 @@ use Rattle.tcl_expr.specs.Spelling as spelling
 use Rattle.tcl_expr.specs.Texts.{unary_text, binary_text, function_text, symbol_text}
 use Rattle.tcl_expr.specs.Token.{Token, Operand, Bareword, Unary, Open}
 use Rattle.tcl_expr.specs.Tokens.{minus, equals, is_run_char, after_run, begins_run, begins_digit, begins_letter, begins_signed, function_of, says_something, called, run_token, symbol_at, symbol_token, prefix, word_token, or_bareword, or_symbol, operand_token}
-use Rattle.tcl_expr.proofs.LongestFronts.{and_false, before_front, before_is, begins_before, begins_cons, both_true, branch, front_at, front_run, gap_skipped, no_clash, no_option, other_char, run_ends, run_front, run_over, second, space_gap, stretch_is, third}
+use Rattle.tcl_expr.proofs.LongestFronts.{and_false, before_front, before_is, begins_before, begins_cons, branch, front_at, front_run, gap_skipped, no_clash, no_option, other_char, run_ends, run_front, run_over, second, space_gap, stretch_is, third}
 use Rattle.tcl_expr.proofs.SpelledSymbols.{function_found, function_named, kind_of, lone, no_function, none_prefix, none_stands, none_there, prefix_of, symbol_is, symbol_spelled, unary_longest}
 
 -- ---- parts of a token
@@ -78,14 +78,14 @@ call_token dialect s rest behind k =
 plain_token : (dialect : Dialect) (s : Stretch) (rest : List ℕ) → IsNotCalled s.text rest → token_of_run dialect s rest ≡ (if says_something (truth_of dialect s.text) then Operand (literal s) else Bareword s, rest)
 plain_token dialect s rest n =
     branch (λ z. z ≡ (if says_something (truth_of dialect s.text) then Operand (literal s) else Bareword s, rest)) (begins_letter s.text && begins open_paren (skip_space rest)) _ _
-    (λ e. let k = both_true (begins_letter s.text) (begins open_paren (skip_space rest)) e in absurd (n (tail (skip_space rest)) (called_when s.text rest k.0 k.1)))
+    (λ e. let k = and_parts (begins_letter s.text) (begins open_paren (skip_space rest)) e in absurd (n (tail (skip_space rest)) (called_when s.text rest k.0 k.1)))
     (λ e. refl)
 
 prefix_text : (c : ℕ) (cs : List ℕ) → IfSome (prefix c cs) (λ u. c ∷ [] ≡ unary_text u)
 prefix_text c cs =
     let P : Option UnaryOp → Type 0 = λ o. IfSome o (λ u. c ∷ [] ≡ unary_text u) in
     branch P (c == 45) _ _ (lone c 45) (λ _. branch P (c == 43) _ _ (lone c 43) (λ _. branch P (c == 126) _ _ (lone c 126)
-    (λ _. branch P ((c == 33) && not (begins equals cs)) _ _ (λ e. lone c 33 (both_true (c == 33) _ e).0) (λ _. tt))))
+    (λ _. branch P ((c == 33) && not (begins equals cs)) _ _ (λ e. lone c 33 (and_parts (c == 33) _ e).0) (λ _. tt))))
 
 not_equals : (rest : List ℕ) → NoLonger (33 ∷ rest) 1 → begins equals rest ≡ false
 not_equals [] w = refl
@@ -113,7 +113,7 @@ operand_char c b e =
     (λ e. either (NoRun c) (c == open_brace || c == quote) (c == open_bracket) e
     (λ e. either (NoRun c) (c == open_brace) (c == quote) e (λ k. no_run_at c open_brace k (refl, refl)) (λ k. no_run_at c quote k (refl, refl)))
     (λ k. no_run_at c open_bracket k (refl, refl)))
-    (λ e. no_run_at c dollar (both_true (c == dollar) b e).0 (refl, refl))
+    (λ e. no_run_at c dollar (and_parts (c == dollar) b e).0 (refl, refl))
 
 -- a character that begins nothing
 no_prefix : (c : ℕ) (cs : List ℕ) (o : Option UnaryOp) → prefix c cs ≡ o → ((u : UnaryOp) → c ∷ [] ≢ unary_text u) → o ≡ None
@@ -178,7 +178,7 @@ signed_front cs d =
 
 signed_run : (size c : ℕ) (cs : List ℕ) → begins_signed (c ∷ cs) ≡ true → IsOperandRun size (c ∷ cs) (stretch size (c ∷ cs) (after_run cs)) (after_run cs)
 signed_run size c cs e =
-    let k = both_true (c == minus) (begins_digit cs) e in
+    let k = and_parts (c == minus) (begins_digit cs) e in
     let P : ℕ → Type 0 = λ z. IsOperandRun size (z ∷ cs) (stretch size (z ∷ cs) (after_run cs)) (after_run cs) in
     let s = signed_front cs k.1 in
     subst P (sym (eqb-true c minus k.0)) (record { front = front_at size (minus ∷ cs) (before (minus ∷ cs) (after_run cs)) (after_run cs) s.1; run = inr s.0; whole = run_ends cs })
@@ -201,7 +201,7 @@ module _ (dialect : Dialect) (size levels : ℕ) where
   unfolding operand_token
   run_here [] rest r w = absurd (no_clash false r.some refl)
   run_here (c ∷ cs) rest r w =
-      let k = both_true (is_run_char c) (list_all is_run_char cs) r.all in
+      let k = and_parts (is_run_char c) (list_all is_run_char cs) r.all in
       second (begins_signed (c ∷ cs ++ rest)) (begins_run (c ∷ cs ++ rest)) _ _ _ (and_false (c == minus) _ (minus_no_run c k.0)) k.0
       ∙ ap (λ (z : List ℕ). Some (run_token dialect size (c ∷ cs ++ rest) z)) (run_over (c ∷ cs) rest r.all w)
 
@@ -308,7 +308,7 @@ module _ (dialect : Dialect) (size levels : ℕ) where
   run_spelled : (here : List ℕ) (s : Stretch) (rest : List ℕ) → IsOperandRun size here s rest → SpellsOperand dialect size levels here (token_of_run dialect s rest).0 (token_of_run dialect s rest).1
   run_spelled here s rest r =
       branch (λ (x : Token × List ℕ). SpellsOperand dialect size levels here x.0 x.1) (begins_letter s.text && begins open_paren (skip_space rest)) _ _
-      (λ e. let k = both_true (begins_letter s.text) (begins open_paren (skip_space rest)) e in
+      (λ e. let k = and_parts (begins_letter s.text) (begins open_paren (skip_space rest)) e in
       call_spelled here s rest (tail (skip_space rest)) (function_of s.text) r (called_when s.text rest k.0 k.1) refl)
       (λ e. branch (λ t. SpellsOperand dialect size levels here t rest) (says_something (truth_of dialect s.text)) _ _
       (λ f. spelling.number s rest r (not_called s.text rest e) f)

@@ -2,7 +2,7 @@
 use Rattle.std.proofs.Common.{◌≡◌, ◌≢◌, ℕ, ◌≤◌, true, false, List, [], ◌∷◌, ◌++◌, length, Option, Some, None, refl, sym, ap, subst, ◌∙◌, arith}
 use Rattle.std.specs.Prelude.{◌==◌, ◌&&◌, IfSome, codes}
 use Rattle.std.specs.Cmp.Lexicographic.{same_text as equal_by_test}
-use Rattle.std.proofs.lemmas.Bool.{eqb-true}
+use Rattle.std.proofs.lemmas.Bool.{and_parts, eqb-true}
 use Rattle.tcl_chars.specs.Texts.{same_text}
 use Rattle.tcl_expr.specs.declared.token.UnaryOp.{UnaryOp}
 use Rattle.tcl_expr.specs.declared.token.BinaryOp.{BinaryOp}
@@ -14,7 +14,7 @@ use Rattle.tcl_expr.specs.declared.token.Symbol.TheVariants as symbol
 use Rattle.tcl_expr.specs.Spelling.{IsSymbol, NoLonger, NoSymbol}
 use Rattle.tcl_expr.specs.Texts.{binary_text, function_text, symbol_text}
 use Rattle.tcl_expr.specs.Tokens.{equals, is_run_char, begins_run, function_of, word_operator, two, one, with_rest, or_one, symbol_at, prefix}
-use Rattle.tcl_expr.proofs.LongestFronts.{both_true, branch, no_clash}
+use Rattle.tcl_expr.proofs.LongestFronts.{branch, no_clash}
 
 -- ---- functions and the operators that are runs
 
@@ -60,7 +60,7 @@ no_word cs (Some op) e n = let P : Option BinaryOp → Type 0 = λ o. IfSome o (
 -- ---- operators and marks that are no runs
 
 pub pair : (c d a b : ℕ) → ((c == a) && (d == b)) ≡ true → c ∷ d ∷ [] ≡ a ∷ b ∷ []
-pair c d a b e = let k = both_true (c == a) (d == b) e in ap (λ z. z ∷ d ∷ []) (eqb-true c a k.0) ∙ ap (λ z. a ∷ z ∷ []) (eqb-true d b k.1)
+pair c d a b e = let k = and_parts (c == a) (d == b) e in ap (λ z. z ∷ d ∷ []) (eqb-true c a k.0) ∙ ap (λ z. a ∷ z ∷ []) (eqb-true d b k.1)
 
 pub lone : (c a : ℕ) → (c == a) ≡ true → c ∷ [] ≡ a ∷ []
 lone c a e = ap (λ z. z ∷ []) (eqb-true c a e)
