@@ -79,7 +79,7 @@ piece_index size inner m cs name index e h j l i =
     let at : after_name false cs ≡ open_paren ∷ index = name_read cs name (open_paren ∷ index) j l in
     piece_variable size inner m cs e h (paren_variable cs index at).0 (bad_index_at size inner cs index e at i)
 
-piece_found : (size levels : ℕ) (cs : List ℕ) (e : Syntax) → BadPiece size levels cs e → FaultsFound size levels → (m : Mode) → ends_pieces m cs ≡ false → piece_at size (inner_at size levels) m cs ≡ Err e
+pub piece_found : (size levels : ℕ) (cs : List ℕ) (e : Syntax) → BadPiece size levels cs e → FaultsFound size levels → (m : Mode) → ends_pieces m cs ≡ false → piece_at size (inner_at size levels) m cs ≡ Err e
 piece_found size _ _ _ (BadPiece.open_name levels cs l) below m h = piece_variable size (inner_at size levels) m (open_brace ∷ cs) MissingVariableBrace h refl (open_name_at size (inner_at size levels) cs l)
 piece_found size _ _ _ (BadPiece.deep_index levels cs name index z j l) below m h = piece_index size (inner_at size levels) m cs name index TooDeep h j l (no_index size levels index z)
 piece_found size _ _ _ (BadPiece.deep_script levels cs z) below m h = piece_bracket size (inner_at size levels) m cs TooDeep h (bad_script_at size (inner_at size levels) cs TooDeep (no_bracket size levels cs z))
@@ -112,11 +112,11 @@ unended_found size _ _ _ (Unended.piece levels ends cs p after h q u) m is =
 
 -- ---- words
 
-open_braced : (size : ℕ) (cs : List ℕ) → NeverCloses cs → braced_at size (open_brace ∷ cs) ≡ Err MissingBrace
+pub open_braced : (size : ℕ) (cs : List ℕ) → NeverCloses cs → braced_at size (open_brace ∷ cs) ≡ Err MissingBrace
 unfolding braced_at
 open_braced size cs n = rw (brace_never cs n) refl
 
-bad_quoted : (size : ℕ) (inner : Inner) (cs : List ℕ) (e : Syntax) → pieces_at size inner mode.Quoted cs ≡ Err e → quoted_at size inner (quote ∷ cs) ≡ Err e
+pub bad_quoted : (size : ℕ) (inner : Inner) (cs : List ℕ) (e : Syntax) → pieces_at size inner mode.Quoted cs ≡ Err e → quoted_at size inner (quote ∷ cs) ≡ Err e
 unfolding quoted_at
 bad_quoted size inner cs e h = rw h refl
 

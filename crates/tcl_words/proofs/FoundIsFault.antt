@@ -27,11 +27,11 @@ use Rattle.tcl_words.proofs.ScansSpelled.{one_is, blanks_spelled, gaps_spelled, 
 
 -- ---- steps that fail
 
-err_bind : {A B : Type 0} (P : Syntax → Type 0) (r : Result A Syntax) (f : A → Result B Syntax) → IfErr r P → ((x : A) → r ≡ Ok x → IfErr (f x) P) → IfErr (r >>= f) P
+pub err_bind : {A B : Type 0} (P : Syntax → Type 0) (r : Result A Syntax) (f : A → Result B Syntax) → IfErr r P → ((x : A) → r ≡ Ok x → IfErr (f x) P) → IfErr (r >>= f) P
 err_bind P (Ok x) f h k = k x refl
 err_bind P (Err m) f h k = h
 
-err_weak : {A : Type 0} (P Q : Syntax → Type 0) (r : Result A Syntax) → IfErr r P → ((m : Syntax) → P m → Q m) → IfErr r Q
+pub err_weak : {A : Type 0} (P Q : Syntax → Type 0) (r : Result A Syntax) → IfErr r P → ((m : Syntax) → P m → Q m) → IfErr r Q
 err_weak P Q (Ok x) h k = tt
 err_weak P Q (Err m) h k = k m h
 
@@ -98,7 +98,7 @@ verbatim_fine size (c ∷ cs) = elim (cases_Bool (begins_hidden_newline (c ∷ c
   | inr h ↦ rw h tt
 ]
 
-braced_errs : (size : ℕ) (cs : List ℕ) → IfErr (braced_at size cs) (λ m. (m ≡ MissingBrace) × NeverCloses (tail cs))
+pub braced_errs : (size : ℕ) (cs : List ℕ) → IfErr (braced_at size cs) (λ m. (m ≡ MissingBrace) × NeverCloses (tail cs))
 unfolding braced_at
 braced_errs size cs =
     err_bind (λ m. (m ≡ MissingBrace) × NeverCloses (tail cs)) (at_brace false 0 (tail cs)) _ (both (at_brace false 0 (tail cs)) (brace_errs false 0 (tail cs)) (never_closes (tail cs) (at_brace false 0 (tail cs)) refl))
@@ -129,7 +129,7 @@ module _ (size levels : ℕ) (below : NestFound size levels) where
   abbrev inner : Inner
   inner = inner_at size levels
 
-  bracket_bad : (cs : List ℕ) → IfErr (bracket_at size inner (open_bracket ∷ cs)) (BadPiece size levels (open_bracket ∷ cs))
+  pub bracket_bad : (cs : List ℕ) → IfErr (bracket_at size inner (open_bracket ∷ cs)) (BadPiece size levels (open_bracket ∷ cs))
   bracket_bad cs = err_bind (BadPiece size levels (open_bracket ∷ cs)) (inner.bracket cs) _ (below.script cs) (λ close e. tt)
 
   named_bad : (cs rest : List ℕ) → rest ≡ after_name false cs → IfErr (named size inner (dollar ∷ cs) cs rest) (BadPiece size levels (dollar ∷ cs))
@@ -141,7 +141,7 @@ module _ (size levels : ℕ) (below : NestFound size levels) where
     | inr p ↦ rw p tt
   ]
 
-  variable_bad : (cs : List ℕ) → IfErr (variable_at size inner (dollar ∷ cs)) (BadPiece size levels (dollar ∷ cs))
+  pub variable_bad : (cs : List ℕ) → IfErr (variable_at size inner (dollar ∷ cs)) (BadPiece size levels (dollar ∷ cs))
   unfolding variable_at
   variable_bad [] = named_bad [] (after_name false []) refl
   variable_bad (c ∷ cs) = elim (cases_Bool (c == open_brace)) [

@@ -3,6 +3,7 @@ pub mod Bracketed
 pub mod BracketedKinds
 pub mod BracketedTurns
 pub mod Calm
+pub mod CompleteClosed
 pub mod Ends
 pub mod FaultFronts
 pub mod FaultIsFound
@@ -25,6 +26,7 @@ pub mod Names
 pub mod Newlines
 pub mod NewlinesWords
 pub mod OneReading
+pub mod OperandSpelled
 pub mod Placed
 pub mod ReadIsSpelled
 pub mod ScansSpelled

@@ -29,7 +29,7 @@ was_none (Err m) rest e = absurd cc
 was_none (Ok (None, after)) rest e = cc
 was_none (Ok (Some words, after)) rest e = absurd cc
 
-if_err : {A : Type 0} (P : Syntax → Type 0) (r : Result A Syntax) (m : Syntax) → IfErr r P → r ≡ Err m → P m
+pub if_err : {A : Type 0} (P : Syntax → Type 0) (r : Result A Syntax) (m : Syntax) → IfErr r P → r ≡ Err m → P m
 if_err {A = A} P r m h e = let Q : Result A Syntax → Type 0 = λ s. IfErr s P in subst Q e h
 
 read_first : (size levels : ℕ) (nested : Bool) (cs : List ℕ) (x : Option (List Shape)) (rest : List ℕ) → first_at size (inner_at size levels) nested cs ≡ Ok (x, rest) → FirstSpelled size levels nested cs x rest

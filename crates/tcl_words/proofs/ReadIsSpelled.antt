@@ -332,7 +332,7 @@ module _ (size levels : ℕ) (below : NestSpelled size levels) where
       subst (λ t. EndsWith cs t → Piece size levels ends (open_bracket ∷ cs) (bracket (stretch size (open_bracket ∷ cs) (tail t)) (stretch size cs t)) (tail t)) (sym e)
       (λ v. Piece.script levels n ends cs _ _ commands rest l (stands size cs (close_bracket ∷ rest) v) k (stands size (open_bracket ∷ cs) rest (ends_more open_bracket cs rest (ends_trans cs (close_bracket ∷ rest) rest v (ends_tail (close_bracket ∷ rest)))))) w
 
-  bracket_spelled : (ends : List ℕ → Bool) (cs : List ℕ) → IfOk (bracket_at size inner (open_bracket ∷ cs)) (λ x. Piece size levels ends (open_bracket ∷ cs) x.0 x.1)
+  pub bracket_spelled : (ends : List ℕ → Bool) (cs : List ℕ) → IfOk (bracket_at size inner (open_bracket ∷ cs)) (λ x. Piece size levels ends (open_bracket ∷ cs) x.0 x.1)
   bracket_spelled ends cs =
       if_bind (λ close. ScriptSpelled size levels cs close × EndsWith cs close) (λ x. Piece size levels ends (open_bracket ∷ cs) x.0 x.1) (inner.bracket cs) _
       (if_both (ScriptSpelled size levels cs) (EndsWith cs) (λ close. ScriptSpelled size levels cs close × EndsWith cs close) (inner.bracket cs) (below.script cs) ((inner_inside size levels).bracket_end cs) (λ x h k. (h, k)))
@@ -368,7 +368,7 @@ module _ (size levels : ℕ) (below : NestSpelled size levels) where
         Piece.variable levels ends cs _ _ rest (begins_named cs b o (ap (begins open_paren) (sym r) ∙ p)) longest p (stands size cs rest named_end) (stands size (dollar ∷ cs) rest (ends_more dollar cs rest named_end)))
   ]
 
-  variable_spelled : (ends : List ℕ → Bool) (cs : List ℕ) → begins_variable cs ≡ true → IfOk (variable_at size inner (dollar ∷ cs)) (λ x. Piece size levels ends (dollar ∷ cs) x.0 x.1)
+  pub variable_spelled : (ends : List ℕ → Bool) (cs : List ℕ) → begins_variable cs ≡ true → IfOk (variable_at size inner (dollar ∷ cs)) (λ x. Piece size levels ends (dollar ∷ cs) x.0 x.1)
   unfolding variable_at
   variable_spelled ends [] b = absurd (true≢false (sym b))
   variable_spelled ends (c ∷ cs) b = elim (cases_Bool (c == open_brace)) [

@@ -77,7 +77,7 @@ unfolding kind_of
 kind_plain m [] e = absurd (true≢false (sym e))
 kind_plain m (c ∷ cs) e = all_plain (ends_pieces m (c ∷ cs)) (c == backslash) (c == open_bracket) (c == dollar && begins_variable cs) e
 
-run_front : (ends : List ℕ → Bool) (cs rest : List ℕ) → PlainRun ends cs rest → stands_for_itself ends cs ≡ true
+pub run_front : (ends : List ℕ → Bool) (cs rest : List ℕ) → PlainRun ends cs rest → stands_for_itself ends cs ≡ true
 run_front ends _ _ (PlainRun.last c rest h stop) = h
 run_front ends _ _ (PlainRun.more c cs rest h r) = h
 

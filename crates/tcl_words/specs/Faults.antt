@@ -9,7 +9,7 @@ use Rattle.tcl_words.specs.declared.fault.Syntax.TheVariants.{AfterBrace, AfterQ
 use Rattle.tcl_words.specs.declared.word.Form.{Form}
 use Rattle.tcl_words.specs.declared.word.Form.TheVariants.{Bare, Quoted, Braced}
 use Rattle.tcl_words.specs.Parts.{Part, Shape}
-use Rattle.tcl_words.specs.Spelling.{Blanks, Separators, ends_word, marked, IsLongestName, lacks, Balanced, Piece, Body, Word, Command, Commands}
+use Rattle.tcl_words.specs.Spelling.{Blanks, Separators, ends_word, marked, begins_substitution, IsLongestName, lacks, Balanced, Piece, Body, Word, Command, Commands}
 
 -- behind the text's `{` no `}` matches it
 abbrev pub NeverCloses : List ℕ → Type 0
@@ -80,3 +80,10 @@ mutual
     command_here : (levels : ℕ) (nested : Bool) (cs : List ℕ) (m : Syntax) → BadCommand size levels nested cs m → BadCommands size levels nested cs m
     command_later : (levels : ℕ) (nested : Bool) (cs : List ℕ) (ws : List Shape) (after : List ℕ) (m : Syntax) → Command size levels nested cs ws after → BadCommands size levels nested after m
         → BadCommands size levels nested cs m
+
+-- an operand of an expression is faulty
+pub data BadOperand (size : ℕ) : ℕ → List ℕ → Syntax → Type 0 where
+  open_braces : (levels : ℕ) (cs : List ℕ) → NeverCloses cs → BadOperand size levels (open_brace ∷ cs) MissingBrace
+  open_quotes : (levels : ℕ) (cs : List ℕ) → Unended size levels (begins quote) cs → BadOperand size levels (quote ∷ cs) MissingQuote
+  in_quotes : (levels : ℕ) (cs : List ℕ) (m : Syntax) → BadPieces size levels (begins quote) cs m → BadOperand size levels (quote ∷ cs) m
+  in_substitution : (levels : ℕ) (cs : List ℕ) (m : Syntax) → begins_substitution cs ≡ true → BadPiece size levels cs m → BadOperand size levels cs m

@@ -204,3 +204,16 @@ pub record NoCommand (nested : Bool) (cs rest : List ℕ) : Type 0 where
 -- the text begins with a command, or none is left
 abbrev pub IsWellFormed : ℕ → ℕ → Bool → List ℕ → Type 0
 IsWellFormed size levels nested cs = ((ws : List Shape) × (rest : List ℕ) × Command size levels nested cs ws rest) ⊎ ((rest : List ℕ) × NoCommand nested cs rest)
+
+-- a bracket or a variable begins here
+abbrev pub begins_substitution : List ℕ → Bool
+begins_substitution [] = false
+begins_substitution (c ∷ cs) = c == open_bracket || (c == dollar && begins_variable cs)
+
+-- An operand of an expression, whatever follows it: a braced or a quoted word, or a bracket or a variable as the one
+-- piece of a bare word (expr(n), Operands).
+pub data OperandWord (size : ℕ) : ℕ → List ℕ → Shape → List ℕ → Type 0 where
+  delimited : (levels : ℕ) (cs : List ℕ) (f : Form) (ps : List Part) (rest : List ℕ) → (begins open_brace cs || begins quote cs) ≡ true → Body size levels false cs f ps rest
+      → OperandWord size levels cs (record { form = f; expands = false; pieces = ps }) rest
+  substitution : (levels : ℕ) (ends : List ℕ → Bool) (cs : List ℕ) (p : Part) (rest : List ℕ) → begins_substitution cs ≡ true → Piece size levels ends cs p rest
+      → OperandWord size levels cs (record { form = Bare; expands = false; pieces = p ∷ [] }) rest

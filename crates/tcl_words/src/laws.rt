@@ -1,7 +1,7 @@
 //! Laws of the definitions: functions that do nothing, whose contracts speak of the definitions alone.
 
 ghost use Rattle.tcl_words.specs.Fronts.{FaultAtFront, FaultStays, OpenGoesOn};
-ghost use Rattle.tcl_words.specs.Laws.{BracketAlone, CommandIsSpelled, CommandOrNone, FaultIsSpelled, NoneIsSpelled, OneCommand, ReadingOrFault};
+ghost use Rattle.tcl_words.specs.Laws.{BracketAlone, CommandIsSpelled, CommandOrNone, CompleteIsClosed, FaultIsSpelled, NoneIsSpelled, OneCommand, OperandIsSpelled, ReadingOrFault};
 
 /// A text's first command is the one that it spells, and no other.
 pub fn command_is_spelled()
@@ -31,6 +31,17 @@ pub fn fault_is_spelled()
 /// Each text is well formed at its front or has one fault, and none is both.
 pub fn reading_or_fault()
     ensures { ReadingOrFault }
+{}
+
+/// An operand is the one that the text spells there, and has the fault that stands in it, and no other.
+pub fn operand_is_spelled()
+    ensures { OperandIsSpelled }
+{}
+
+/// A text is complete unless it ends in a newline that a backslash hides, or its first faulty command is open at its
+/// end.
+pub fn complete_is_closed()
+    ensures { CompleteIsClosed }
 {}
 
 /// The text in a bracket, read alone, has the same commands as inside, with the same places.
