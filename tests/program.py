@@ -127,6 +127,8 @@ usage_check("budget-very-large", ["-budget", "9" * 1000, "script.tcl"])
 usage_check("budget-other-digits", ["-budget", "\u0663", "script.tcl"])
 usage_check("budget-file-forgotten", ["-budget", "script.tcl"])
 usage_check("before-file", ["-budget", "x", "nosuch.tcl"])
+usage_check("word-not-utf8", [b"\xff"])
+usage_check("word-not-utf8-behind-file", ["script.tcl", b"\xff"])
 
 
 def unreadable_check(name, path, message=None):

@@ -8,8 +8,9 @@ use Rattle.std.proofs.lemmas.Bool.Decides.{nat_tests}
 use Rattle.bstr.specs.Utf8.{or_replacement, lossy_chars, IsLastPiece}
 use Rattle.bstr.proofs.lemmas.PieceLemmas.{lossy_chars-last, lossy_chars-step, lossy_chars-nil}
 use Rattle.memchr.specs.Find.{Passes, Nowhere, is_byte}
-use Rattle.tcl_chan.specs.Characters.{input_chars, joined_newlines, line_taken}
-use Rattle.tcl_chan.specs.Devices.{unread}
+use Rattle.tcl_chan.specs.Characters.{input_chars, line_taken}
+use Rattle.tcl_chan.specs.Newlines.{joined_newlines}
+use Rattle.tcl_chan.specs.Devices.{unread_bytes}
 use Rattle.tcl_chan.specs.Ahead.{OneLine, IsLineOf}
 use Rattle.tcl_chan.specs.Sources.{TakesLine}
 use Rattle.tcl_chan.proofs.Fronts.{lossy_chars-split}
@@ -60,8 +61,8 @@ line-plain bytes text char size last other spells = record {
 
 -- a line feed stands at a place, and none before it
 pub gets-line : (told : Option (List ℕ)) (held : List ℕ) (ended : Bool) (device after : Option (List ℕ)) (place : ℕ) (met : Bool) (text : List ℕ)
-    → IfSome told (λ bytes. unread held ended device ≡ Some bytes) → place < length held → slice_index held place ≡ 10 → OneLine (take place held)
-    → IsLineOf (take place held) text → after ≡ unread (drop (place + 1) held) ended device
+    → IfSome told (λ bytes. unread_bytes held ended device ≡ Some bytes) → place < length held → slice_index held place ≡ 10 → OneLine (take place held)
+    → IsLineOf (take place held) text → after ≡ unread_bytes (drop (place + 1) held) ended device
     → IfSome told (λ bytes. TakesLine bytes met (Some text) after met)
 gets-line None held ended device after place met text is below feed one line gone = tt
 gets-line (Some bytes) held ended device after place met text is below feed one line gone =
@@ -89,8 +90,8 @@ gets-line (Some bytes) held ended device after place met text is below feed one 
 
 -- nothing is left
 pub gets-nothing : (told : Option (List ℕ)) (held : List ℕ) (ended : Bool) (device : Option (List ℕ)) (met : Bool)
-    → IfSome told (λ bytes. unread held ended device ≡ Some bytes) → ended ≡ true → length held ≡ 0
-    → IfSome told (λ bytes. TakesLine bytes met None (unread held ended device) true)
+    → IfSome told (λ bytes. unread_bytes held ended device ≡ Some bytes) → ended ≡ true → length held ≡ 0
+    → IfSome told (λ bytes. TakesLine bytes met None (unread_bytes held ended device) true)
 gets-nothing None held ended device met is end none = tt
 gets-nothing (Some bytes) (x ∷ xs) ended device met is end none = absurd (omega arith)
 gets-nothing (Some bytes) [] ended device met is end none =
@@ -112,8 +113,8 @@ last_taken (c ∷ cs) met some one = taken-last c cs met one
 
 -- the last line
 pub gets-last : (told : Option (List ℕ)) (held : List ℕ) (ended : Bool) (device after : Option (List ℕ)) (met : Bool) (text : List ℕ)
-    → IfSome told (λ bytes. unread held ended device ≡ Some bytes) → ended ≡ true → 0 < length held → OneLine held
-    → text ≡ encode_utf8_all (lossy_chars held) → after ≡ unread (drop (length held) held) ended device
+    → IfSome told (λ bytes. unread_bytes held ended device ≡ Some bytes) → ended ≡ true → 0 < length held → OneLine held
+    → text ≡ encode_utf8_all (lossy_chars held) → after ≡ unread_bytes (drop (length held) held) ended device
     → IfSome told (λ bytes. TakesLine bytes met (Some text) after true)
 gets-last None held ended device after met text is end some one spells gone = tt
 gets-last (Some bytes) held ended device after met text is end some one spells gone =
@@ -168,7 +169,7 @@ feed_at held k is = grind (arith, nat_tests)
 
 -- what is left is the same, by its parts
 pub gone_as : (held left new_held : List ℕ) (ended new_ended : Bool) (device new_device : Option (List ℕ))
-    → new_held ≡ left → new_ended ≡ ended → new_device ≡ device → unread new_held new_ended new_device ≡ unread left ended device
+    → new_held ≡ left → new_ended ≡ ended → new_device ≡ device → unread_bytes new_held new_ended new_device ≡ unread_bytes left ended device
 gone_as held left new_held ended new_ended device new_device a b d = rw (a, b, d) refl
 
 pub no_bytes : (len n : ℕ) → true ≡ (len == 0) → len ≡ n → n ≡ 0

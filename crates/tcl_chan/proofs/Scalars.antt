@@ -8,7 +8,8 @@ use Rattle.std.proofs.lemmas.Str.{chars-encodes}
 use Rattle.bstr.specs.Utf8.{decoded, or_replacement, lossy_chars}
 use Rattle.bstr.proofs.lemmas.PieceLemmas.{piece-bounds, lossy_chars-step, lossy_chars-nil}
 use Rattle.bstr.proofs.lemmas.SoundLemmas.{SpellsChar-decoded}
-use Rattle.tcl_chan.specs.Characters.{begins_line_feed, joined_newlines, input_chars, line_taken, text_before, or_empty, Left, Took}
+use Rattle.tcl_chan.specs.Characters.{input_chars, line_taken, text_before, or_empty, Left, Took}
+use Rattle.tcl_chan.specs.Newlines.{begins_line_feed, joined_newlines}
 
 scalar-piece : (bs : List ℕ) (found : Option ℕ) → (decoded bs).char ≡ found → scalar (or_replacement found) ≡ true
 scalar-piece bs None is = refl

@@ -3,7 +3,7 @@ use Rattle.std.proofs.Common.{◌≡◌, ℕ, ◌+◌, ◌-◌, ◌*◌, ◌^◌
 use Rattle.std.proofs.lemmas.Bool.Decides.{nat_tests}
 use Rattle.std.proofs.lemmas.List.{drop-append-le, take-append-le, take_all, drop_all}
 use Rattle.tcl_chan.specs.Characters.{input_chars}
-use Rattle.tcl_chan.specs.Devices.{unread, StaysLeft}
+use Rattle.tcl_chan.specs.Devices.{unread_bytes, StaysLeft}
 use Rattle.tcl_chan.specs.Ahead.{Grew, IsFront, TakesCount}
 use Rattle.tcl_chan.proofs.Steps.{input_chars-nil}
 
@@ -29,14 +29,14 @@ option_apart : (xs : List ℕ) → None ≡ Some xs → ⊥
 unfolding is_none
 option_apart xs e = true≢false (ap is_none e)
 
-pub behind : (held : List ℕ) (ended : Bool) (device : Option (List ℕ)) (bytes : List ℕ) → unread held ended device ≡ Some bytes → Behind held ended bytes
+pub behind : (held : List ℕ) (ended : Bool) (device : Option (List ℕ)) (bytes : List ℕ) → unread_bytes held ended device ≡ Some bytes → Behind held ended bytes
 behind held true device bytes is = record { more = []; whole = sym (some_same held bytes is) ∙ sym (append-nil held); none = λ _. refl }
 behind held false None bytes is = absurd (option_apart bytes is)
 behind held false (Some rest) bytes is = record { more = rest; whole = sym (some_same (held ++ rest) bytes is); none = λ e. absurd (true≢false (sym e)) }
 
 -- and after some of them were let go of
 pub passed : (held : List ℕ) (ended : Bool) (device : Option (List ℕ)) (bytes : List ℕ) (size : ℕ) → size ≤ length held
-    → unread held ended device ≡ Some bytes → unread (drop size held) ended device ≡ Some (drop size bytes)
+    → unread_bytes held ended device ≡ Some bytes → unread_bytes (drop size held) ended device ≡ Some (drop size bytes)
 passed held true device bytes size within is = ap (λ t. Some (drop size t)) (some_same held bytes is)
 passed held false None bytes size within is = absurd (option_apart bytes is)
 passed held false (Some rest) bytes size within is =
@@ -78,7 +78,7 @@ module _ (held : List ℕ) (ended : Bool) (bytes : List ℕ) (b : Behind held en
 
 -- What a loop keeps of the text: where the input told its bytes.
 abbrev pub Kept : Option (List ℕ) → List ℕ → Bool → Option (List ℕ) → ℕ → ℕ → List ℕ → ℕ → Type 0
-Kept told held ended device count left text size = IfSome told (λ bytes. (unread held ended device ≡ Some bytes) × Taking count left bytes text size)
+Kept told held ended device count left text size = IfSome told (λ bytes. (unread_bytes held ended device ≡ Some bytes) × Taking count left bytes text size)
 
 pub kept-char : (told : Option (List ℕ)) (held : List ℕ) (ended : Bool) (device : Option (List ℕ)) (count left : ℕ) (text : List ℕ) (size c n : ℕ)
     → size ≤ length held → 0 < left → IsFront (drop size held) ended (Some c) n → Kept told held ended device count left text size
@@ -96,17 +96,17 @@ kept-none (Some bytes) held ended device count left text size n within front so 
 
 -- more bytes were read
 pub kept-filled : (told : Option (List ℕ)) (held new_held : List ℕ) (ended new_ended : Bool) (device new_device : Option (List ℕ)) (count left : ℕ) (text : List ℕ) (size : ℕ)
-    → IfSome (unread held ended device) (λ bytes. unread new_held new_ended new_device ≡ Some bytes) → Kept told held ended device count left text size
+    → IfSome (unread_bytes held ended device) (λ bytes. unread_bytes new_held new_ended new_device ≡ Some bytes) → Kept told held ended device count left text size
     → Kept told new_held new_ended new_device count left text size
 kept-filled None held new_held ended new_ended device new_device count left text size fill so = tt
 kept-filled (Some bytes) held new_held ended new_ended device new_device count left text size fill so =
-    (subst (λ o. IfSome o (λ bs. unread new_held new_ended new_device ≡ Some bs)) so.0 fill, so.1)
+    (subst (λ o. IfSome o (λ bs. unread_bytes new_held new_ended new_device ≡ Some bs)) so.0 fill, so.1)
 
 -- nothing is taken yet
-pub kept-first : (held : List ℕ) (ended : Bool) (device : Option (List ℕ)) (count : ℕ) → Kept (unread held ended device) held ended device count count [] 0
-kept-first held ended device count = of (unread held ended device) refl
+pub kept-first : (held : List ℕ) (ended : Bool) (device : Option (List ℕ)) (count : ℕ) → Kept (unread_bytes held ended device) held ended device count count [] 0
+kept-first held ended device count = of (unread_bytes held ended device) refl
   where
-    of : (o : Option (List ℕ)) → unread held ended device ≡ o → IfSome o (λ bytes. (unread held ended device ≡ Some bytes) × Taking count count bytes [] 0)
+    of : (o : Option (List ℕ)) → unread_bytes held ended device ≡ o → IfSome o (λ bytes. (unread_bytes held ended device ≡ Some bytes) × Taking count count bytes [] 0)
     of None is = tt
     of (Some bytes) is = (is, record { taken = []; spells = refl; wanted = omega arith; chars = refl })
 

@@ -1,8 +1,9 @@
 -- What is known of an input whose bytes are read ahead of its characters.
-use Rattle.std.specs.Prelude.{◌≡◌, ◌≢◌, ◌<◌, ◌≤◌, ℕ, Bool, true, false, nat_lt, List, [], ◌∷◌, ◌++◌, length, take, drop, Option, Some, None, option_to_list, slice_index}
+use Rattle.std.specs.Prelude.{◌≡◌, ◌≢◌, ◌<◌, ◌≤◌, ◌⊎◌, ℕ, Bool, true, false, nat_lt, List, [], ◌∷◌, ◌++◌, length, take, drop, Option, Some, None, option_to_list, slice_index}
 use Rattle.std.specs.Str.{encode_utf8_all}
-use Rattle.bstr.specs.Utf8.{lossy_chars}
-use Rattle.tcl_chan.specs.Characters.{input_chars, joined_newlines}
+use Rattle.bstr.specs.Utf8.{bad, decoded, lead_len, lossy_chars}
+use Rattle.tcl_chan.specs.Characters.{input_chars}
+use Rattle.tcl_chan.specs.Newlines.{joined_newlines}
 
 -- more bytes stand behind the old ones, or the input has ended
 pub record Grew (old new : List ℕ) (ended : Bool) : Type 0 where
@@ -20,6 +21,10 @@ pub record IsFront (bs : List ℕ) (whole : Bool) (char : Option ℕ) (size : �
 abbrev pub Decides : List ℕ → Bool → Option (Option ℕ × ℕ) → Type 0
 Decides bs whole None = whole ≡ false
 Decides bs whole (Some p) = IsFront bs whole p.0 p.1
+
+-- What follows some bytes may change their first character: they are a CR, or all of them could begin a character of several bytes.
+abbrev pub MayGoOn : List ℕ → Type 0
+MayGoOn bs = (bs ≡ 13 ∷ []) ⊎ ((decoded bs ≡ bad (length bs)) × (1 < lead_len (slice_index bs 0)))
 
 -- A text of so many characters of the input, or of all where there are fewer, and how many bytes it is.
 pub record TakesCount (count : ℕ) (bytes text : List ℕ) (size : ℕ) (short : Bool) : Type 0 where

@@ -1,4 +1,5 @@
 pub mod Devices
+pub mod Newlines
 pub mod Characters
 pub mod Ahead
 pub mod Sources

@@ -11,8 +11,8 @@ abbrev pub output_stream : {S : Type 0} → StandardOutput S → S
 output_stream device = device.sink
 
 -- how many of its calls have failed
-abbrev pub input_failures : {S : Type 0} → StandardInput S → ℕ
-input_failures device = device.failures
+abbrev pub stream_input_failures : {S : Type 0} → StandardInput S → ℕ
+stream_input_failures device = device.failures
 
-abbrev pub output_failures : {S : Type 0} → StandardOutput S → ℕ
-output_failures device = device.failures
+abbrev pub stream_output_failures : {S : Type 0} → StandardOutput S → ℕ
+stream_output_failures device = device.failures

@@ -33,8 +33,8 @@ abbrev pub own_failures : {D : Type 0} → FaultyOutput D → ℕ
 own_failures device = device.faults
 
 -- how many calls have failed, its own and those of the inner device, up to the greatest number of 64 bits
-abbrev pub input_failures : {D : Type 0} → (D → ℕ) → FaultyInput D → ℕ
-input_failures failed_calls device = min (failed_calls device.inner + device.faults) (2 ^ 64 - 1)
+abbrev pub faulty_input_failures : {D : Type 0} → (D → ℕ) → FaultyInput D → ℕ
+faulty_input_failures failed_calls device = min (failed_calls device.inner + device.faults) (2 ^ 64 - 1)
 
-abbrev pub output_failures : {D : Type 0} → (D → ℕ) → FaultyOutput D → ℕ
-output_failures failed_calls device = min (failed_calls device.inner + device.faults) (2 ^ 64 - 1)
+abbrev pub faulty_output_failures : {D : Type 0} → (D → ℕ) → FaultyOutput D → ℕ
+faulty_output_failures failed_calls device = min (failed_calls device.inner + device.faults) (2 ^ 64 - 1)

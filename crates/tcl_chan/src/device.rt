@@ -1,6 +1,6 @@
 //! What bytes come from, and what they go to.
 ghost use Rattle.std.specs.Prelude.{◌≡◌, ◌≤◌, ◌<◌, ℕ, List, Option, length, IfOk};
-ghost use Rattle.tcl_chan.specs.Devices.{Reads, EndsAt, Writes, failures_after};
+ghost use Rattle.tcl_chan.specs.Devices.{ReadTakes, NoneOnlyAtEnd, WritePuts, failures_after};
 
 use thiserror::Error;
 
@@ -21,8 +21,8 @@ pub trait Input {
     /// the buffer is empty. A failed read takes none.
     fn read(&mut self, buffer: &mut [u8]) -> Result<usize, Broken>
         ensures within { IfOk result (λ n. n ≤ length buffer.old) }
-        ensures bytes { Reads (to_come self.old) (to_come self.new) buffer.new result }
-        ensures end { EndsAt (to_come self.old) (length buffer.old) result }
+        ensures bytes { ReadTakes (to_come self.old) (to_come self.new) buffer.new result }
+        ensures end { NoneOnlyAtEnd (to_come self.old) (length buffer.old) result }
         ensures failures { failed_calls self.new ≡ failures_after (failed_calls self.old) result };
 
     /// How many of its calls have failed.
@@ -43,7 +43,7 @@ pub trait Output {
     fn write(&mut self, bytes: &[u8]) -> Result<usize, Broken>
         ensures within { IfOk result (λ n. n ≤ length bytes.now) }
         ensures some { IfOk result (λ n. 0 < length bytes.now → 1 ≤ n) }
-        ensures bytes { Writes (written self.old) (written self.new) bytes.now result }
+        ensures bytes { WritePuts (written self.old) (written self.new) bytes.now result }
         ensures failures { failed_calls self.new ≡ failures_after (failed_calls self.old) result };
 
     /// Sends on what the device itself holds back.

@@ -1,6 +1,6 @@
 //! Devices of which a chosen call fails.
 ghost use Rattle.std.specs.Prelude.{◌≡◌, ◌≢◌, ◌≤◌, ◌<◌, ◌-◌, ◌↔◌, length, IfOk, IsErr, IsTrue};
-ghost use Rattle.tcl_chan.specs.Devices.{Reads, EndsAt, Writes, failures_after};
+ghost use Rattle.tcl_chan.specs.Devices.{ReadTakes, NoneOnlyAtEnd, WritePuts, failures_after};
 
 use crate::device::{Broken, Input, Output};
 
@@ -57,17 +57,17 @@ impl<D> FaultyInput<D> {
 }
 
 impl<D: Input> Input for FaultyInput<D> {
-    ghost use Rattle.tcl_chan.specs.Wrappers.{faulty_input_inner, read_fault, own_read_failures, input_failures};
+    ghost use Rattle.tcl_chan.specs.Wrappers.{faulty_input_inner, read_fault, own_read_failures, faulty_input_failures};
 
     ghost to_come = { λ device. D.to_come (faulty_input_inner device) };
 
-    ghost failed_calls = { λ device. input_failures D.failed_calls device };
+    ghost failed_calls = { λ device. faulty_input_failures D.failed_calls device };
 
     fn read(&mut self, buffer: &mut [u8]) -> Result<usize, Broken>
         ensures within { IfOk result (λ n. n ≤ length buffer.old) }
-        ensures bytes { Reads (D.to_come (faulty_input_inner self.old)) (D.to_come (faulty_input_inner self.new)) buffer.new result }
-        ensures end { EndsAt (D.to_come (faulty_input_inner self.old)) (length buffer.old) result }
-        ensures failures { input_failures D.failed_calls self.new ≡ failures_after (input_failures D.failed_calls self.old) result }
+        ensures bytes { ReadTakes (D.to_come (faulty_input_inner self.old)) (D.to_come (faulty_input_inner self.new)) buffer.new result }
+        ensures end { NoneOnlyAtEnd (D.to_come (faulty_input_inner self.old)) (length buffer.old) result }
+        ensures failures { faulty_input_failures D.failed_calls self.new ≡ failures_after (faulty_input_failures D.failed_calls self.old) result }
 
         // The call whose turn it is fails and reaches nothing; any other passes on.
         ensures fault { read_fault self.old ≡ 1 → IsErr result }
@@ -124,17 +124,17 @@ impl<D> FaultyOutput<D> {
 }
 
 impl<D: Output> Output for FaultyOutput<D> {
-    ghost use Rattle.tcl_chan.specs.Wrappers.{faulty_output_inner, write_fault, flush_fault, own_failures, output_failures};
+    ghost use Rattle.tcl_chan.specs.Wrappers.{faulty_output_inner, write_fault, flush_fault, own_failures, faulty_output_failures};
 
     ghost written = { λ device. D.written (faulty_output_inner device) };
 
-    ghost failed_calls = { λ device. output_failures D.failed_calls device };
+    ghost failed_calls = { λ device. faulty_output_failures D.failed_calls device };
 
     fn write(&mut self, bytes: &[u8]) -> Result<usize, Broken>
         ensures within { IfOk result (λ n. n ≤ length bytes.now) }
         ensures some { IfOk result (λ n. 0 < length bytes.now → 1 ≤ n) }
-        ensures bytes { Writes (D.written (faulty_output_inner self.old)) (D.written (faulty_output_inner self.new)) bytes.now result }
-        ensures failures { output_failures D.failed_calls self.new ≡ failures_after (output_failures D.failed_calls self.old) result }
+        ensures bytes { WritePuts (D.written (faulty_output_inner self.old)) (D.written (faulty_output_inner self.new)) bytes.now result }
+        ensures failures { faulty_output_failures D.failed_calls self.new ≡ failures_after (faulty_output_failures D.failed_calls self.old) result }
 
         // The call whose turn it is fails and reaches nothing; any other passes on.
         ensures fault { write_fault self.old ≡ 1 → IsErr result }
@@ -152,7 +152,7 @@ impl<D: Output> Output for FaultyOutput<D> {
 
     fn flush(&mut self) -> Result<(), Broken>
         ensures bytes { D.written (faulty_output_inner self.new) ≡ D.written (faulty_output_inner self.old) }
-        ensures failures { output_failures D.failed_calls self.new ≡ failures_after (output_failures D.failed_calls self.old) result }
+        ensures failures { faulty_output_failures D.failed_calls self.new ≡ failures_after (faulty_output_failures D.failed_calls self.old) result }
 
         // The call whose turn it is fails and reaches nothing; any other passes on.
         ensures fault { flush_fault self.old ≡ 1 → IsErr result }

@@ -1,6 +1,6 @@
 //! The bytes that were read ahead of the characters that were taken.
 ghost use Rattle.std.specs.Prelude.{[], ◌≡◌, ◌≤◌, ◌<◌, ◌^◌, ℕ, false, List, Some, drop, length, IfSome, IfOk, IfErr, OnOk, OnErr};
-ghost use Rattle.tcl_chan.specs.Devices.{unread};
+ghost use Rattle.tcl_chan.specs.Devices.{unread_bytes};
 ghost use Rattle.tcl_chan.specs.Faults.{IsInputFault, read_failures};
 ghost use Rattle.tcl_chan.specs.Ahead.{Grew};
 
@@ -71,8 +71,8 @@ impl Held {
     pub fn fill<R: Input>(&mut self, input: &mut R) -> Result<bool, ChanFault>
         ensures fault { IfErr result IsInputFault }
         ensures failures { R.failed_calls input.new ≡ read_failures (R.failed_calls input.old) result }
-        ensures unread { IfOk result (λ ended. IfSome (unread self.old false (R.to_come input.old))
-            (λ bytes. unread self.new ended (R.to_come input.new) ≡ Some bytes)) }
+        ensures unread { IfOk result (λ ended. IfSome (unread_bytes self.old false (R.to_come input.old))
+            (λ bytes. unread_bytes self.new ended (R.to_come input.new) ≡ Some bytes)) }
         ensures grew { IfOk result (λ ended. Grew self.old self.new ended) }
         ensures small { OnOk result (length self.new < 2 ^ 63) }
         ensures kept { OnErr result (self.new ≡ self.old) }

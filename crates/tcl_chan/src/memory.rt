@@ -1,6 +1,6 @@
 //! Devices over memory.
 ghost use Rattle.std.specs.Prelude.{◌≡◌, ◌≤◌, ◌<◌, ◌+◌, ◌↔◌, Ok, Some, [], length, min, IsOk, IfOk, vec_len, vec_capacity};
-ghost use Rattle.tcl_chan.specs.Devices.{Reads, EndsAt, Writes, failures_after};
+ghost use Rattle.tcl_chan.specs.Devices.{ReadTakes, NoneOnlyAtEnd, WritePuts, failures_after};
 
 use crate::device::{Broken, Input, Output};
 use std::alloc::{AllocError, Global};
@@ -31,8 +31,8 @@ impl Input for MemoryInput<'_> {
 
     fn read(&mut self, buffer: &mut [u8]) -> Result<usize, Broken>
         ensures within { IfOk result (λ n. n ≤ length buffer.old) }
-        ensures bytes { Reads (Some (bytes_left self.old)) (Some (bytes_left self.new)) buffer.new result }
-        ensures end { EndsAt (Some (bytes_left self.old)) (length buffer.old) result }
+        ensures bytes { ReadTakes (Some (bytes_left self.old)) (Some (bytes_left self.new)) buffer.new result }
+        ensures end { NoneOnlyAtEnd (Some (bytes_left self.old)) (length buffer.old) result }
         ensures failures { 0 ≡ failures_after 0 result }
 
         // It gives all that the buffer has room for.
@@ -96,7 +96,7 @@ impl Output for MemoryOutput {
     fn write(&mut self, bytes: &[u8]) -> Result<usize, Broken>
         ensures within { IfOk result (λ n. n ≤ length bytes.now) }
         ensures some { IfOk result (λ n. 0 < length bytes.now → 1 ≤ n) }
-        ensures bytes { Writes (Some (bytes_of self.old)) (Some (bytes_of self.new)) bytes.now result }
+        ensures bytes { WritePuts (Some (bytes_of self.old)) (Some (bytes_of self.new)) bytes.now result }
         ensures failures { failures_of self.new ≡ failures_after (failures_of self.old) result }
 
         // It fails exactly where the bytes would go past the capacity.

@@ -1,6 +1,6 @@
 //! Devices that pass on little at a time.
 ghost use Rattle.std.specs.Prelude.{◌≡◌, ◌≤◌, ◌<◌, length, IfOk};
-ghost use Rattle.tcl_chan.specs.Devices.{Reads, EndsAt, Writes, failures_after};
+ghost use Rattle.tcl_chan.specs.Devices.{ReadTakes, NoneOnlyAtEnd, WritePuts, failures_after};
 
 use crate::device::{Broken, Input, Output};
 
@@ -38,8 +38,8 @@ impl<D: Input> Input for OneByte<D> {
     fn read(&mut self, buffer: &mut [u8]) -> Result<usize, Broken>
         ensures within { IfOk result (λ n. n ≤ length buffer.old) }
         ensures one { IfOk result (λ n. n ≤ 1) }
-        ensures bytes { Reads (D.to_come (one_byte_inner self.old)) (D.to_come (one_byte_inner self.new)) buffer.new result }
-        ensures end { EndsAt (D.to_come (one_byte_inner self.old)) (length buffer.old) result }
+        ensures bytes { ReadTakes (D.to_come (one_byte_inner self.old)) (D.to_come (one_byte_inner self.new)) buffer.new result }
+        ensures end { NoneOnlyAtEnd (D.to_come (one_byte_inner self.old)) (length buffer.old) result }
         ensures failures { D.failed_calls (one_byte_inner self.new) ≡ failures_after (D.failed_calls (one_byte_inner self.old)) result }
     {
         let size = buffer.len().min(1);
@@ -62,7 +62,7 @@ impl<D: Output> Output for OneByte<D> {
         ensures within { IfOk result (λ n. n ≤ length bytes.now) }
         ensures one { IfOk result (λ n. n ≤ 1) }
         ensures some { IfOk result (λ n. 0 < length bytes.now → 1 ≤ n) }
-        ensures bytes { Writes (D.written (one_byte_inner self.old)) (D.written (one_byte_inner self.new)) bytes.now result }
+        ensures bytes { WritePuts (D.written (one_byte_inner self.old)) (D.written (one_byte_inner self.new)) bytes.now result }
         ensures failures { D.failed_calls (one_byte_inner self.new) ≡ failures_after (D.failed_calls (one_byte_inner self.old)) result }
     {
         let size = bytes.len().min(1);

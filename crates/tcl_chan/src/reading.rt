@@ -3,7 +3,7 @@ ghost use Rattle.std.specs.Prelude.{[], ◌≡◌, ◌≤◌, ◌<◌, ◌+◌, 
 ghost use Rattle.memchr.specs.Find.{IsFirstByte, is_byte};
 ghost use Rattle.std.specs.Rc.{rc_str_bytes};
 ghost use Rattle.std.specs.String.{string_bytes};
-ghost use Rattle.tcl_chan.specs.Devices.{unread, StaysLeft};
+ghost use Rattle.tcl_chan.specs.Devices.{unread_bytes, StaysLeft};
 ghost use Rattle.tcl_chan.specs.Faults.{IsInputFault, read_failures};
 ghost use Rattle.tcl_chan.specs.declared.fault.ChanFault.TheVariants.{Memory};
 ghost use Rattle.tcl_chan.specs.Ahead.{Grew, Decides, TakesCount};
@@ -119,6 +119,8 @@ impl Reader {
         ensures within { IfOk result (λ taken. taken.1 ≤ length self.new.held) }
         ensures taken { IfSome (left_of R.to_come self.old input.old)
             (λ bytes. IfOk result (λ taken. TakesCount count bytes (string_bytes taken.0) taken.1 taken.2)) }
+        ensures ended { IfOk result (λ taken. taken.2 ≡ true → self.new.ended ≡ true) }
+        ensures all { IfOk result (λ taken. taken.2 ≡ true → taken.1 ≡ length self.new.held) }
     {
         let mut text = String::new(alloc);
         let mut size = 0;
@@ -153,6 +155,9 @@ impl Reader {
             TakesLine bytes self.old.met_end (option_map rc_str_bytes line) (left_of R.to_come self.new input.new) self.new.met_end)) }
         ensures kept { OnErr result (StaysLeft (left_of R.to_come self.old input.old) (left_of R.to_come self.new input.new)) }
         ensures kept_end { OnErr result (self.new.met_end ≡ self.old.met_end) }
+
+        // A call that meets the end leaves nothing, also where the device tells nothing.
+        ensures end { self.old.met_end ≡ false → self.new.met_end ≡ true → left_of R.to_come self.new input.new ≡ Some [] }
     {
         match self.line_end(input)? {
             Some(place) => self.whole_line(alloc, place),
@@ -167,9 +172,10 @@ impl Reader {
         place: usize,
     ) -> Result<Option<RcStr<Global>>, ChanFault>
         requires { IsFirstByte (is_byte 10) self.old.held (Some place) }
-        ensures line { IfOk result (λ line. (device : Option (List ℕ)) → IfSome (unread self.old.held self.old.ended device)
+        ensures line { IfOk result (λ line. (device : Option (List ℕ)) → IfSome (unread_bytes self.old.held self.old.ended device)
             (λ bytes. TakesLine bytes self.old.met_end (option_map rc_str_bytes line)
-            (unread self.new.held self.new.ended device) self.new.met_end)) }
+            (unread_bytes self.new.held self.new.ended device) self.new.met_end)) }
+        ensures met_end { self.new.met_end ≡ self.old.met_end }
         ensures memory { OnErr result (result ≡ Err Memory) }
         ensures kept { OnErr result (self.new ≡ self.old) }
     {
@@ -182,9 +188,11 @@ impl Reader {
     fn last_line(&mut self, alloc: Global) -> Result<Option<RcStr<Global>>, ChanFault>
         requires ended { self.old.ended ≡ true }
         requires one { IsFirstByte (is_byte 10) self.old.held None }
-        ensures line { IfOk result (λ line. (device : Option (List ℕ)) → IfSome (unread self.old.held self.old.ended device)
+        ensures line { IfOk result (λ line. (device : Option (List ℕ)) → IfSome (unread_bytes self.old.held self.old.ended device)
             (λ bytes. TakesLine bytes self.old.met_end (option_map rc_str_bytes line)
-            (unread self.new.held self.new.ended device) self.new.met_end)) }
+            (unread_bytes self.new.held self.new.ended device) self.new.met_end)) }
+        ensures all { OnOk result (self.new.held ≡ []) }
+        ensures ended { self.new.ended ≡ true }
         ensures memory { OnErr result (result ≡ Err Memory) }
         ensures kept { OnErr result (self.new ≡ self.old) }
     {
@@ -212,6 +220,9 @@ impl Reader {
             TakesText count bytes self.old.met_end (rc_str_bytes text) (left_of R.to_come self.new input.new) self.new.met_end)) }
         ensures kept { OnErr result (StaysLeft (left_of R.to_come self.old input.old) (left_of R.to_come self.new input.new)) }
         ensures kept_end { OnErr result (self.new.met_end ≡ self.old.met_end) }
+
+        // A call that meets the end leaves nothing, also where the device tells nothing.
+        ensures end { self.old.met_end ≡ false → self.new.met_end ≡ true → left_of R.to_come self.new input.new ≡ Some [] }
     {
         let (text, size, fewer) = self.chars_ahead(alloc, input, count.unwrap_or(u64::MAX))?;
         let text = RcStr::from_string(text)?;

@@ -14,12 +14,12 @@ pub struct StandardInput<S> {
 }
 
 impl<S: Read> StandardInput<S> {
-    ghost use Rattle.tcl_chan.specs.Streams.{input_stream, input_failures};
+    ghost use Rattle.tcl_chan.specs.Streams.{input_stream, stream_input_failures};
 
     /// An input of which no call has failed.
     pub fn new(source: S) -> StandardInput<S>
         ensures stream { input_stream result ≡ source }
-        ensures failures { input_failures result ≡ 0 }
+        ensures failures { stream_input_failures result ≡ 0 }
     {
         StandardInput {
             source,
@@ -29,15 +29,15 @@ impl<S: Read> StandardInput<S> {
 }
 
 impl<S: Read> Input for StandardInput<S> {
-    ghost use Rattle.tcl_chan.specs.Streams.{input_stream, input_failures};
+    ghost use Rattle.tcl_chan.specs.Streams.{input_stream, stream_input_failures};
 
     ghost to_come = { λ _. None };
 
-    ghost failed_calls = { λ device. input_failures device };
+    ghost failed_calls = { λ device. stream_input_failures device };
 
     fn read(&mut self, buffer: &mut [u8]) -> Result<usize, Broken>
         ensures within { IfOk result (λ n. n ≤ length buffer.old) }
-        ensures failures { input_failures self.new ≡ failures_after (input_failures self.old) result }
+        ensures failures { stream_input_failures self.new ≡ failures_after (stream_input_failures self.old) result }
 
         // What the stream tells of its bytes holds of this read: a failure of the stream is no end.
         ensures stream { ReadConsumes (S.remaining (input_stream self.old)) (S.remaining (input_stream self.new)) result buffer.new }
@@ -64,34 +64,34 @@ pub struct StandardOutput<S> {
 }
 
 impl StandardOutput<Stdout> {
-    ghost use Rattle.tcl_chan.specs.Streams.{output_failures};
+    ghost use Rattle.tcl_chan.specs.Streams.{stream_output_failures};
 
     /// Standard output, of which no call has failed.
     pub fn stdout(stdout: Stdout) -> StandardOutput<Stdout>
-        ensures { output_failures result ≡ 0 }
+        ensures { stream_output_failures result ≡ 0 }
     {
         StandardOutput::over(stdout)
     }
 }
 
 impl StandardOutput<Stderr> {
-    ghost use Rattle.tcl_chan.specs.Streams.{output_failures};
+    ghost use Rattle.tcl_chan.specs.Streams.{stream_output_failures};
 
     /// Standard error, of which no call has failed.
     pub fn stderr(stderr: Stderr) -> StandardOutput<Stderr>
-        ensures { output_failures result ≡ 0 }
+        ensures { stream_output_failures result ≡ 0 }
     {
         StandardOutput::over(stderr)
     }
 }
 
 impl<S: Write> StandardOutput<S> {
-    ghost use Rattle.tcl_chan.specs.Streams.{output_stream, output_failures};
+    ghost use Rattle.tcl_chan.specs.Streams.{output_stream, stream_output_failures};
 
     /// An output of which no call has failed.
     pub fn over(sink: S) -> StandardOutput<S>
         ensures stream { output_stream result ≡ sink }
-        ensures failures { output_failures result ≡ 0 }
+        ensures failures { stream_output_failures result ≡ 0 }
     {
         StandardOutput { sink, failures: 0 }
     }
@@ -99,7 +99,7 @@ impl<S: Write> StandardOutput<S> {
     // Counts a call that failed.
     fn broken(&mut self) -> Broken
         ensures stream { output_stream self.new ≡ output_stream self.old }
-        ensures failures { output_failures self.new ≡ one_more (output_failures self.old) }
+        ensures failures { stream_output_failures self.new ≡ one_more (stream_output_failures self.old) }
     {
         self.failures = self.failures.saturating_add(1);
         Broken
@@ -107,16 +107,16 @@ impl<S: Write> StandardOutput<S> {
 }
 
 impl<S: Write> Output for StandardOutput<S> {
-    ghost use Rattle.tcl_chan.specs.Streams.{output_stream, output_failures};
+    ghost use Rattle.tcl_chan.specs.Streams.{output_stream, stream_output_failures};
 
     ghost written = { λ _. None };
 
-    ghost failed_calls = { λ device. output_failures device };
+    ghost failed_calls = { λ device. stream_output_failures device };
 
     fn write(&mut self, bytes: &[u8]) -> Result<usize, Broken>
         ensures within { IfOk result (λ n. n ≤ length bytes.now) }
         ensures some { IfOk result (λ n. 0 < length bytes.now → 1 ≤ n) }
-        ensures failures { output_failures self.new ≡ failures_after (output_failures self.old) result }
+        ensures failures { stream_output_failures self.new ≡ failures_after (stream_output_failures self.old) result }
 
         // What the stream tells of its bytes holds of this write.
         ensures stream { WriteAppends (S.contents (output_stream self.old)) (S.contents (output_stream self.new)) result bytes.now }
@@ -128,7 +128,7 @@ impl<S: Write> Output for StandardOutput<S> {
     }
 
     fn flush(&mut self) -> Result<(), Broken>
-        ensures failures { output_failures self.new ≡ failures_after (output_failures self.old) result }
+        ensures failures { stream_output_failures self.new ≡ failures_after (stream_output_failures self.old) result }
 
         // What the stream tells of its bytes stays.
         ensures stream { Keeps (S.contents (output_stream self.old)) (S.contents (output_stream self.new)) }

@@ -1,7 +1,7 @@
 //! What a script reads and writes.
-ghost use Rattle.std.specs.Prelude.{◌≡◌, ◌≤◌, ◌++◌, false, ℕ, List, Err, take, drop, length, OnOk, OnErr, IfSome, IfOk, IfErr, Some, None, option_map};
+ghost use Rattle.std.specs.Prelude.{◌≡◌, ◌≤◌, ◌++◌, [], true, false, ℕ, List, Err, take, drop, length, OnOk, OnErr, IfSome, IfOk, IfErr, Some, None, option_map};
 ghost use Rattle.std.specs.Rc.{rc_str_bytes};
-ghost use Rattle.tcl_chan.specs.Devices.{put, StaysLeft};
+ghost use Rattle.tcl_chan.specs.Devices.{put_behind, StaysLeft};
 ghost use Rattle.tcl_chan.specs.Faults.{IsInputFault, write_failures, read_failures};
 ghost use Rattle.tcl_chan.specs.Outputs.{picked};
 ghost use Rattle.tcl_chan.specs.Sources.{TakesLine, TakesText};
@@ -17,7 +17,7 @@ use std::rc::RcStr;
 // Writes all the bytes, or a beginning of them where the device fails.
 #[tactic(auto, using(crate::proofs::Puts::writing))]
 fn write_all<W: Output>(output: &mut W, bytes: &[u8]) -> Result<(), ChanFault>
-    ensures whole { OnOk result (W.written output.new ≡ put (W.written output.old) bytes.now) }
+    ensures whole { OnOk result (W.written output.new ≡ put_behind (W.written output.old) bytes.now) }
     ensures front { OnErr result (WroteFront (W.written output.old) (W.written output.new) bytes.now) }
     ensures failures { W.failed_calls output.new ≡ write_failures (W.failed_calls output.old) result }
     ensures fault { OnErr result (result ≡ Err Write) }
@@ -112,7 +112,7 @@ impl<'input, 'out, 'err, R: Input, W: Output, E: Output> World<
     /// Writes the text to an output, as UTF-8 (puts(n)).
     pub fn puts(&mut self, to: Out, text: &str) -> Result<(), ChanFault>
         ensures whole { OnOk result (picked to (W.written (stdout self.new)) (E.written (stderr self.new))
-            ≡ put (picked to (W.written (stdout self.old)) (E.written (stderr self.old))) text.now) }
+            ≡ put_behind (picked to (W.written (stdout self.old)) (E.written (stderr self.old))) text.now) }
         ensures front { OnErr result (WroteFront (picked to (W.written (stdout self.old)) (E.written (stderr self.old)))
             (picked to (W.written (stdout self.new)) (E.written (stderr self.new))) text.now) }
         ensures fault { OnErr result (result ≡ Err Write) }
@@ -156,6 +156,9 @@ impl<'input, 'out, 'err, R: Input, W: Output, E: Output> World<
         ensures fault { IfErr result IsInputFault }
         ensures failures { R.failed_calls (stdin self.new) ≡ read_failures (R.failed_calls (stdin self.old)) result }
 
+        // A call that meets the end leaves nothing, also where the device tells nothing: the input stays ended.
+        ensures end { met_end self.old ≡ false → met_end self.new ≡ true → unread_of R.to_come self.new ≡ Some [] }
+
         // After a fault the input left is as it was.
         ensures kept { OnErr result (StaysLeft (unread_of R.to_come self.old) (unread_of R.to_come self.new)) }
         ensures kept_end { OnErr result (met_end self.new ≡ met_end self.old) }
@@ -171,6 +174,9 @@ impl<'input, 'out, 'err, R: Input, W: Output, E: Output> World<
             TakesText count bytes (met_end self.old) (rc_str_bytes text) (unread_of R.to_come self.new) (met_end self.new))) }
         ensures fault { IfErr result IsInputFault }
         ensures failures { R.failed_calls (stdin self.new) ≡ read_failures (R.failed_calls (stdin self.old)) result }
+
+        // A call that meets the end leaves nothing, also where the device tells nothing: the input stays ended.
+        ensures end { met_end self.old ≡ false → met_end self.new ≡ true → unread_of R.to_come self.new ≡ Some [] }
 
         // After a fault the input left is as it was.
         ensures kept { OnErr result (StaysLeft (unread_of R.to_come self.old) (unread_of R.to_come self.new)) }

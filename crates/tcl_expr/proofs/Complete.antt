@@ -7,7 +7,7 @@ use Rattle.tcl_expr.specs.declared.token.BinaryOp.{BinaryOp}
 use Rattle.tcl_expr.specs.declared.token.BinaryOp.TheVariants as op
 use Rattle.tcl_expr.specs.declared.token.Function.{Function}
 use Rattle.tcl_expr.specs.Token.{Token}
-use Rattle.tcl_expr.specs.Token.{Operand, Malformed, Bareword, Call, UnknownCall, Unary, Binary, Power, Open, Close, Comma, Question, Colon, Stray}
+use Rattle.tcl_expr.specs.Token.{Binary, Power, Close, Comma, Question, Colon}
 use Rattle.tcl_expr.specs.declared.state.Wanted.{Wanted}
 use Rattle.tcl_expr.specs.declared.state.Wanted.TheVariants as wanted
 use Rattle.tcl_expr.specs.Expr.{Expr, operand, group, call, unary, power, chain, choice, Rest, last, next, Args, no_args, arg, level_of, argument_count}
@@ -33,46 +33,16 @@ abbrev pub admits : List Held → ℕ
 admits [] = 15
 admits (h ∷ s) = limit h
 
-pub level_pos : (op : BinaryOp) → 0 < level_of op
-level_pos op.Times = omega arith
-level_pos op.Divide = omega arith
-level_pos op.Remainder = omega arith
-level_pos op.Add = omega arith
-level_pos op.Subtract = omega arith
-level_pos op.ShiftLeft = omega arith
-level_pos op.ShiftRight = omega arith
-level_pos op.Less = omega arith
-level_pos op.Greater = omega arith
-level_pos op.LessEqual = omega arith
-level_pos op.GreaterEqual = omega arith
-level_pos op.Equal = omega arith
-level_pos op.NotEqual = omega arith
-level_pos op.TextEqual = omega arith
-level_pos op.TextNotEqual = omega arith
-level_pos op.In = omega arith
-level_pos op.NotIn = omega arith
-level_pos op.BitAnd = omega arith
-level_pos op.BitXor = omega arith
-level_pos op.BitOr = omega arith
-level_pos op.And = omega arith
-level_pos op.Or = omega arith
+pub level_two : (op : BinaryOp) → (1 < level_of op) × (level_of op < 14)
+level_two op.Times = (omega arith, omega arith)
+level_two _ = (omega arith, omega arith)
 
 reach_pos : (k : List Token) → 0 < reach_of k
 reach_pos [] = omega arith
-reach_pos (Binary op ∷ ts) = level_pos op
+reach_pos (Binary op ∷ ts) = omega (arith, level_two op)
 reach_pos (Power ∷ ts) = omega arith
 reach_pos (Question ∷ ts) = omega arith
-reach_pos (Operand n ∷ ts) = omega arith
-reach_pos (Malformed m ∷ ts) = omega arith
-reach_pos (Stray ∷ ts) = omega arith
-reach_pos (Bareword n ∷ ts) = omega arith
-reach_pos (Call f n ∷ ts) = omega arith
-reach_pos (UnknownCall n ∷ ts) = omega arith
-reach_pos (Unary u ∷ ts) = omega arith
-reach_pos (Open ∷ ts) = omega arith
-reach_pos (Close ∷ ts) = omega arith
-reach_pos (Comma ∷ ts) = omega arith
-reach_pos (Colon ∷ ts) = omega arith
+reach_pos (_ ∷ ts) = omega arith
 
 pub reduce_on : (r : ℕ) (x : Expr) (h : Held) (s : List Held) → held_level h < r → reduce r x (h ∷ s) ≡ reduce r (finished h x) s
 unfolding reduce

@@ -15,8 +15,8 @@ use Rattle.tcl_expr.specs.Expr.{Expr, call, unary, power, choice, level_of}
 use Rattle.tcl_expr.specs.Grammar.{miscount, most_levels, IsTree}
 use Rattle.tcl_expr.specs.Faults.{reach}
 use Rattle.tcl_expr.specs.Machine.{Step, args_of, Held, in_unary, in_power, in_chain, in_second, in_third, in_group, in_call, open_levels, top, finished, State, wants, has, reduce, open_with, at_operand, at_operator, at_close, at_end, at_comma, at_colon, close_early, early_end, checked, add, step, run, and_then, parsed}
-use Rattle.tcl_expr.proofs.Complete.{admits, length_snoc}
-use Rattle.tcl_expr.proofs.Sound.{Sensible, IsWanted, IsState, level_two}
+use Rattle.tcl_expr.proofs.Complete.{admits, level_two, length_snoc}
+use Rattle.tcl_expr.proofs.Sound.{Sensible, IsWanted, IsState}
 use Rattle.tcl_expr.specs.Faults.{Opened, prefixed, powered, second, third, parenthesis, arguments, opened_level, still_open, after, wanted_after, open_at, lowest, first_fault, expr_fault}
 use Rattle.tcl_expr.proofs.Table.{opens, operand_row, close_row, comma_row, colon_row, operator_row, end_row, open_at_end, row, row_is, end_is}
 use Rattle.std.specs.Option.{option_or}
@@ -121,47 +121,33 @@ agrees_count : (m : Option ExprFault) (f : Function) (n : Stretch) (k : ℕ) (x 
 agrees_count None f n k x s = (refl, refl, refl)
 agrees_count (Some e) f n k x s = refl
 
-colon_agrees : (x : Expr) (s : List Held) → Sensible s → 15 ≤ top s → Agrees (colon_row (shape s)) Colon (shape s) (at_colon x s)
+-- `:`, `,`, `)` and the end, where they have ended what they end
+marks_agree : (x : Expr) (s : List Held) → Sensible s → 15 ≤ top s
+    → Agrees (colon_row (shape s)) Colon (shape s) (at_colon x s) × Agrees (comma_row (shape s)) Comma (shape s) (at_comma x s)
+    × Agrees (close_row (shape s)) Close (shape s) (at_close x s) × (end_row wanted.Operator (shape s) ≡ fault_in (at_end x s))
 unfolding shape
-colon_agrees x [] h le = refl
-colon_agrees x (in_unary u ∷ s) h le = absurd (omega arith)
-colon_agrees x (in_power e ∷ s) h le = absurd (omega arith)
-colon_agrees x (in_chain q e xs o ∷ s) h le = absurd (omega (arith, chain_short q e xs o s h))
-colon_agrees x (in_second c ∷ s) h le = (refl, refl, refl)
-colon_agrees x (in_third c e ∷ s) h le = absurd (omega arith)
-colon_agrees x (in_group ∷ s) h le = refl
-colon_agrees x (in_call f n es ∷ s) h le = refl
-
-comma_agrees : (x : Expr) (s : List Held) → Sensible s → 15 ≤ top s → Agrees (comma_row (shape s)) Comma (shape s) (at_comma x s)
-unfolding shape
-comma_agrees x [] h le = refl
-comma_agrees x (in_unary u ∷ s) h le = absurd (omega arith)
-comma_agrees x (in_power e ∷ s) h le = absurd (omega arith)
-comma_agrees x (in_chain q e xs o ∷ s) h le = absurd (omega (arith, chain_short q e xs o s h))
-comma_agrees x (in_second c ∷ s) h le = refl
-comma_agrees x (in_third c e ∷ s) h le = absurd (omega arith)
-comma_agrees x (in_group ∷ s) h le = refl
-comma_agrees x (in_call f n es ∷ s) h le = (refl, refl, ap (λ (z : ℕ). arguments f n z ∷ shape s) (sym (length_snoc es x)))
-
-close_agrees : (x : Expr) (s : List Held) → Sensible s → 15 ≤ top s → Agrees (close_row (shape s)) Close (shape s) (at_close x s)
-unfolding shape
-close_agrees x [] h le = refl
-close_agrees x (in_unary u ∷ s) h le = absurd (omega arith)
-close_agrees x (in_power e ∷ s) h le = absurd (omega arith)
-close_agrees x (in_chain q e xs o ∷ s) h le = absurd (omega (arith, chain_short q e xs o s h))
-close_agrees x (in_second c ∷ s) h le = refl
-close_agrees x (in_third c e ∷ s) h le = absurd (omega arith)
-close_agrees x (in_group ∷ s) h le = (refl, refl, refl)
-close_agrees x (in_call f n es ∷ s) h le = agrees_count (miscount f n (suc (length es))) f n (length es) (call f n (args_of (es ++ x ∷ []))) s
+marks_agree x [] h le = (refl, refl, refl, refl)
+marks_agree x (in_unary u ∷ s) h le = absurd (omega arith)
+marks_agree x (in_power e ∷ s) h le = absurd (omega arith)
+marks_agree x (in_chain q e xs o ∷ s) h le = absurd (omega (arith, chain_short q e xs o s h))
+marks_agree x (in_second c ∷ s) h le = ((refl, refl, refl), refl, refl, refl)
+marks_agree x (in_third c e ∷ s) h le = absurd (omega arith)
+marks_agree x (in_group ∷ s) h le = (refl, refl, (refl, refl, refl), refl)
+marks_agree x (in_call f n es ∷ s) h le = (
+  refl,
+  (refl, refl, ap (λ (z : ℕ). arguments f n z ∷ shape s) (sym (length_snoc es x))),
+  agrees_count (miscount f n (suc (length es))) f n (length es) (call f n (args_of (es ++ x ∷ []))) s,
+  refl,
+)
 
 operator_agrees : (x : Expr) (s : List Held) (t : Token) → Sensible s → reach t ≤ top s → Agrees (operator_row (shape s) t) t (shape s) (at_operator x s t)
 unfolding shape
 operator_agrees x s (Binary op) h le = (refl, refl, shape_add op x s)
 operator_agrees x s Power h le = agrees_open Power (in_power x) s refl refl
 operator_agrees x s Question h le = agrees_open Question (in_second x) s refl refl
-operator_agrees x s Colon h le = colon_agrees x s h le
-operator_agrees x s Comma h le = comma_agrees x s h le
-operator_agrees x s Close h le = close_agrees x s h le
+operator_agrees x s Colon h le = (marks_agree x s h le).0
+operator_agrees x s Comma h le = (marks_agree x s h le).1
+operator_agrees x s Close h le = (marks_agree x s h le).2
 operator_agrees x s _ h le = refl
 
 remains : (h : Opened) (os : List Opened) (r : ℕ) → r ≤ opened_level h → still_open r (h ∷ os) ≡ h ∷ os
@@ -200,17 +186,6 @@ still r x (in_third c e ∷ s) h = both (nat_lt 14 r) (still_open r (shape s)) (
 still r x (in_group ∷ s) h = both (nat_lt 15 r) (still_open r (shape s)) in_group parenthesis x s (reduce r x s) refl (still r x s h.1)
 still r x (in_call f n es ∷ s) h = both (nat_lt 15 r) (still_open r (shape s)) (in_call f n es) (arguments f n (length es)) x s (reduce r x s) refl (still r x s h.2)
 
-end_agrees : (x : Expr) (s : List Held) → Sensible s → 15 ≤ top s → end_row wanted.Operator (shape s) ≡ fault_in (at_end x s)
-unfolding shape
-end_agrees x [] h le = refl
-end_agrees x (in_unary u ∷ s) h le = absurd (omega arith)
-end_agrees x (in_power e ∷ s) h le = absurd (omega arith)
-end_agrees x (in_chain q e xs o ∷ s) h le = absurd (omega (arith, chain_short q e xs o s h))
-end_agrees x (in_second c ∷ s) h le = refl
-end_agrees x (in_third c e ∷ s) h le = absurd (omega arith)
-end_agrees x (in_group ∷ s) h le = refl
-end_agrees x (in_call f n es ∷ s) h le = refl
-
 early_agrees : (p : Wanted) (s : List Held) → IsWanted p s → end_row p (open_at_end p (shape s)) ≡ Some (early_end p)
 early_agrees wanted.Start s h = refl
 early_agrees wanted.First s h = refl
@@ -248,7 +223,7 @@ faulty [] (wants p s) h = end_is p (shape s) ∙ early_agrees p s h.1
 faulty [] (has x s) h =
     let g = end_reduced x s h in
     let p = reduce 15 x s in
-    end_is wanted.Operator (shape s) ∙ ap (end_row wanted.Operator) (still 15 x s h.0) ∙ end_agrees p.0 p.1 g.sensible g.above
+    end_is wanted.Operator (shape s) ∙ ap (end_row wanted.Operator) (still 15 x s h.0) ∙ (marks_agree p.0 p.1 g.sensible g.above).3
 faulty (t ∷ ts) st h = goes_on (lowest (wanted_in st) (shape (held st)) (Some t)) t ts (open_at (wanted_in st) t (shape (held st))) st (step st t) (agrees st t h) (stepped st t h) (λ now. faulty ts now)
 
 pub fault_is : (ts : List Token) → expr_fault ts ≡ fault_in (parsed ts)

@@ -88,11 +88,11 @@ module _ (dialect : Dialect) where
       let less = shorter_next dialect size (wants_operand p) (most_levels - length os) cs t rest e in
       ap (λ (ts : List Token). t ∷ unless_faulty (lowest p os (Some t)) ts) (enough m n size (wanted_after t) (after t (open_at p t os)) rest (omega arith) (omega arith)))
 
-  no_token : (size : ℕ) (p : Wanted) (os : List Opened) (cs : List ℕ) → next_token dialect size (wants_operand p) (most_levels - length os) cs ≡ None → tokens_at dialect size p os cs ≡ []
+  pub no_token : (size : ℕ) (p : Wanted) (os : List Opened) (cs : List ℕ) → next_token dialect size (wants_operand p) (most_levels - length os) cs ≡ None → tokens_at dialect size p os cs ≡ []
   unfolding tokens_from tokens_at
   no_token size p os cs e = rw e refl
 
-  one_token : (size : ℕ) (p : Wanted) (os : List Opened) (cs : List ℕ) (t : Token) (rest : List ℕ) → next_token dialect size (wants_operand p) (most_levels - length os) cs ≡ Some (t, rest)
+  pub one_token : (size : ℕ) (p : Wanted) (os : List Opened) (cs : List ℕ) (t : Token) (rest : List ℕ) → next_token dialect size (wants_operand p) (most_levels - length os) cs ≡ Some (t, rest)
       → tokens_at dialect size p os cs ≡ t ∷ unless_faulty (lowest p os (Some t)) (tokens_at dialect size (wanted_after t) (after t (open_at p t os)) rest)
   unfolding tokens_from tokens_at
   one_token size p os cs t rest e =

@@ -4,7 +4,6 @@ use Rattle.std.specs.Prelude.{nat_lt, if◌then◌else◌}
 use Rattle.std.proofs.lemmas.Bool.Decides.{nat_tests}
 use Rattle.tcl_expr.specs.declared.token.UnaryOp.{UnaryOp}
 use Rattle.tcl_expr.specs.declared.token.BinaryOp.{BinaryOp}
-use Rattle.tcl_expr.specs.declared.token.BinaryOp.TheVariants as op
 use Rattle.tcl_expr.specs.Token.{Token}
 use Rattle.tcl_expr.specs.Token.{Call, Unary, Binary, Power, Open, Comma, Question, Colon}
 use Rattle.tcl_expr.specs.declared.state.Wanted.{Wanted}
@@ -12,7 +11,7 @@ use Rattle.tcl_expr.specs.declared.state.Wanted.TheVariants as wanted
 use Rattle.tcl_expr.specs.Expr.{Expr, operand, group, call, unary, power, chain, choice, level_of, argument_count}
 use Rattle.tcl_expr.specs.Grammar.{spelled, spelled_rest, spelled_args, spelled_more, IsExpr, AreParts, AreExprs, most_levels, IsSome_rest}
 use Rattle.tcl_expr.specs.Machine.{Step, rest_of, args_of, Held, in_unary, in_power, in_chain, in_second, in_third, in_group, in_call, held_level, open_levels, top, State, wants, has, reduce}
-use Rattle.tcl_expr.proofs.Complete.{admits}
+use Rattle.tcl_expr.proofs.Complete.{admits, level_two}
 
 -- the tokens that a stack has taken, in front of k
 unfoldable pub spelled_done : List Expr → List Token → List Token
@@ -53,30 +52,6 @@ IsWanted p s = Unit {0}
 abbrev pub IsState : State → Type 0
 IsState (wants p s) = Sensible s × IsWanted p s
 IsState (has x s) = Sensible s × IsExpr 1 (open_levels s) x
-
-pub level_two : (op : BinaryOp) → (1 < level_of op) × (level_of op < 14)
-level_two op.Times = (omega arith, omega arith)
-level_two op.Divide = (omega arith, omega arith)
-level_two op.Remainder = (omega arith, omega arith)
-level_two op.Add = (omega arith, omega arith)
-level_two op.Subtract = (omega arith, omega arith)
-level_two op.ShiftLeft = (omega arith, omega arith)
-level_two op.ShiftRight = (omega arith, omega arith)
-level_two op.Less = (omega arith, omega arith)
-level_two op.Greater = (omega arith, omega arith)
-level_two op.LessEqual = (omega arith, omega arith)
-level_two op.GreaterEqual = (omega arith, omega arith)
-level_two op.Equal = (omega arith, omega arith)
-level_two op.NotEqual = (omega arith, omega arith)
-level_two op.TextEqual = (omega arith, omega arith)
-level_two op.TextNotEqual = (omega arith, omega arith)
-level_two op.In = (omega arith, omega arith)
-level_two op.NotIn = (omega arith, omega arith)
-level_two op.BitAnd = (omega arith, omega arith)
-level_two op.BitXor = (omega arith, omega arith)
-level_two op.BitOr = (omega arith, omega arith)
-level_two op.And = (omega arith, omega arith)
-level_two op.Or = (omega arith, omega arith)
 
 pub looser : (e : Expr) (b c d : ℕ) → IsExpr b d e → b ≤ c → IsExpr c d e
 unfolding IsExpr

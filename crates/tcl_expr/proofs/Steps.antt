@@ -15,8 +15,8 @@ use Rattle.tcl_expr.specs.Expr.{Expr, call, level_of}
 use Rattle.tcl_expr.specs.Grammar.{spelled, IsExpr, miscount, most_levels, IsTree}
 use Rattle.tcl_expr.specs.Faults.{reach}
 use Rattle.tcl_expr.specs.Machine.{Step, args_of, Held, in_unary, in_power, in_chain, in_second, in_third, in_group, in_call, open_levels, top, State, wants, has, reduce, at_operand, at_operator, at_close, at_end, at_comma, at_colon, checked, add, step, run, and_then, parsed}
-use Rattle.tcl_expr.proofs.Complete.{admits}
-use Rattle.tcl_expr.proofs.Sound.{spelled_done, before, before_state, Sensible, IsState, level_two, looser, parts_snoc, spelled_rest_snoc, exprs_snoc, done_snoc, args_done, count_snoc, admits_pos, Reduced, reduced}
+use Rattle.tcl_expr.proofs.Complete.{admits, level_two}
+use Rattle.tcl_expr.proofs.Sound.{spelled_done, before, before_state, Sensible, IsState, looser, parts_snoc, spelled_rest_snoc, exprs_snoc, done_snoc, args_done, count_snoc, admits_pos, Reduced, reduced}
 
 pub record Stepped (st : State) (t : Token) (now : State) : Type 0 where
   pub state : IsState now
@@ -66,27 +66,17 @@ add_step op x (in_second c ∷ s) h k le = fresh_step op x (in_second c ∷ s) h
 add_step op x (in_group ∷ s) h k le = fresh_step op x (in_group ∷ s) h k (omega (arith, level_two op))
 add_step op x (in_call f n es ∷ s) h k le = fresh_step op x (in_call f n es ∷ s) h k (omega (arith, level_two op))
 
-power_room : (s : List Held) → Sensible s → 1 ≤ top s → 1 < admits s
+-- an operator that groups right opens no level inside one of its own
+rooms : (s : List Held) → Sensible s → (1 ≤ top s → 1 < admits s) × (14 ≤ top s → 14 < admits s)
 unfolding Sensible
-power_room [] h le = omega arith
-power_room (in_unary u ∷ s) h le = omega arith
-power_room (in_power e ∷ s) h le = omega arith
-power_room (in_chain q e xs o ∷ s) h le = omega (arith, h.1, level_two o)
-power_room (in_third c e ∷ s) h le = omega arith
-power_room (in_second c ∷ s) h le = omega arith
-power_room (in_group ∷ s) h le = omega arith
-power_room (in_call f n es ∷ s) h le = omega arith
-
-choice_room : (s : List Held) → Sensible s → 14 ≤ top s → 14 < admits s
-unfolding Sensible
-choice_room [] h le = omega arith
-choice_room (in_unary u ∷ s) h le = omega arith
-choice_room (in_power e ∷ s) h le = omega arith
-choice_room (in_chain q e xs o ∷ s) h le = omega (arith, h.1, level_two o)
-choice_room (in_third c e ∷ s) h le = omega arith
-choice_room (in_second c ∷ s) h le = omega arith
-choice_room (in_group ∷ s) h le = omega arith
-choice_room (in_call f n es ∷ s) h le = omega arith
+rooms [] h = (λ le. omega arith, λ le. omega arith)
+rooms (in_unary u ∷ s) h = (λ le. omega arith, λ le. omega arith)
+rooms (in_power e ∷ s) h = (λ le. omega arith, λ le. omega arith)
+rooms (in_chain q e xs o ∷ s) h = (λ le. omega (arith, h.1, level_two o), λ le. omega (arith, h.1, level_two o))
+rooms (in_third c e ∷ s) h = (λ le. omega arith, λ le. omega arith)
+rooms (in_second c ∷ s) h = (λ le. omega arith, λ le. omega arith)
+rooms (in_group ∷ s) h = (λ le. omega arith, λ le. omega arith)
+rooms (in_call f n es ∷ s) h = (λ le. omega arith, λ le. omega arith)
 
 colon_step : (x : Expr) (s : List Held) → Sensible s → IsExpr 15 (open_levels s) x → After (has x s) Colon (at_colon x s)
 unfolding before spelled Sensible open_levels
@@ -119,8 +109,8 @@ close_step x s h k = tt
 operator_step : (x : Expr) (s : List Held) (t : Token) → Sensible s → IsExpr (reach t) (open_levels s) x → reach t ≤ top s → After (has x s) t (at_operator x s t)
 unfolding before spelled Sensible
 operator_step x s (Binary op) h k le = add_step op x s h k le
-operator_step x s Power h k le = room (nat_lt (open_levels s) most_levels) (has x s) Power wanted.Operand (in_power x) s refl (λ lt. record { state = ((power_room s h le, lt, k, h), tt); same = λ k. refl })
-operator_step x s Question h k le = room (nat_lt (open_levels s) most_levels) (has x s) Question wanted.Operand (in_second x) s refl (λ lt. record { state = ((choice_room s h le, lt, k, h), tt); same = λ k. refl })
+operator_step x s Power h k le = room (nat_lt (open_levels s) most_levels) (has x s) Power wanted.Operand (in_power x) s refl (λ lt. record { state = (((rooms s h).0 le, lt, k, h), tt); same = λ k. refl })
+operator_step x s Question h k le = room (nat_lt (open_levels s) most_levels) (has x s) Question wanted.Operand (in_second x) s refl (λ lt. record { state = (((rooms s h).1 le, lt, k, h), tt); same = λ k. refl })
 operator_step x s Colon h k le = colon_step x s h k
 operator_step x s Comma h k le = comma_step x s h k
 operator_step x s Close h k le = close_step x s h k

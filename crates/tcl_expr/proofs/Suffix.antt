@@ -1,9 +1,8 @@
 -- What a reader leaves ends the text that it was given, and is shorter where a token was read.
-use Rattle.std.proofs.Common.{◌≡◌, ℕ, ◌<◌, Bool, true, false, List, [], ◌∷◌, length, Option, Some, None, Result, Ok, Err, refl, sym, subst}
+use Rattle.std.proofs.Common.{◌≡◌, ℕ, ◌<◌, Bool, true, false, List, [], ◌∷◌, length, Option, Some, None, Result, Ok, Err, sym, subst}
 use Rattle.std.proofs.lemmas.List.{append-nil}
-use Rattle.std.specs.Prelude.{cond, IfSome, IfOk, if◌then◌else◌, ◌&&◌, ◌==◌}
+use Rattle.std.specs.Prelude.{cond, IfSome, IfOk, ◌&&◌, ◌==◌}
 use Rattle.tcl_chars.specs.Characters.{open_paren, open_brace, open_bracket, quote}
-use Rattle.tcl_chars.specs.Classes.{is_list_space}
 use Rattle.tcl_chars.specs.declared.numbers.Dialect.{Dialect}
 use Rattle.tcl_chars.specs.Place.{EndsWith, begins, tail}
 use Rattle.tcl_chars.specs.Whole.{skip_space}
@@ -13,6 +12,7 @@ use Rattle.tcl_words.specs.Parts.{Shape, Stretch}
 use Rattle.tcl_words.specs.Words.{stretch, Inner, inner_at, at_variable_brace, after_name, named, variable_at, bracket_at, braced_at, quoted_at, operand_at}
 use Rattle.tcl_words.proofs.Ends.{IsPast, ends_self, ends_more, ends_trans, ends_tail, past_more, past_then, then_past, if_cond, if_bind, if_weak, Ends, Past}
 use Rattle.tcl_words.proofs.Forward.{Inside, inner_inside, variable_brace_end, name_end, named_end, braced_end, quoted_end}
+use Rattle.tcl_expr.proofs.LongestFronts.{branch, space_gap, run_front}
 use Rattle.tcl_expr.specs.declared.token.Symbol.{Symbol}
 use Rattle.tcl_expr.specs.declared.token.UnaryOp.{UnaryOp}
 use Rattle.tcl_expr.specs.Token.{Token}
@@ -20,18 +20,11 @@ use Rattle.tcl_expr.specs.Tokens.{is_run_char, begins_run, begins_signed, begins
 
 -- ---- runs and white space
 
-if_both : {A : Type 0} (P : A → Type 0) (b : Bool) (x y : A) → (b ≡ true → P x) → (b ≡ false → P y) → P (if b then x else y)
-if_both P true x y f g = f refl
-if_both P false x y f g = g refl
-
 pub ends_space : (cs : List ℕ) → EndsWith cs (skip_space cs)
-ends_space [] = ends_self []
-ends_space (c ∷ cs) = if_both (λ (z : List ℕ). EndsWith (c ∷ cs) z) (is_list_space c) (skip_space cs) (c ∷ cs) (λ e. ends_more c cs (skip_space cs) (ends_space cs)) (λ e. ends_self (c ∷ cs))
+ends_space cs = let g = space_gap cs in record { front = g.space; joined = g.joined }
 
 pub ends_run : (cs : List ℕ) → EndsWith cs (after_run cs)
-unfolding after_run
-ends_run [] = ends_self []
-ends_run (c ∷ cs) = if_both (λ (z : List ℕ). EndsWith (c ∷ cs) z) (is_run_char c) (after_run cs) (c ∷ cs) (λ e. ends_more c cs (after_run cs) (ends_run cs)) (λ e. ends_self (c ∷ cs))
+ends_run cs = let f = run_front cs in record { front = f.text; joined = f.joined }
 
 -- the same, of texts that are named
 pub ends_behind_space : (text cs rest : List ℕ) → EndsWith text cs → rest ≡ skip_space cs → EndsWith text rest
@@ -54,7 +47,7 @@ run_past c cs e = rw e (past_more c cs (after_run cs) (ends_run cs))
 
 run_token_past : (dialect : Dialect) (size : ℕ) (cs rest : List ℕ) → IsPast cs rest → IsPast cs (run_token dialect size cs rest).1
 run_token_past dialect size cs rest p =
-    if_both (λ (x : Token × List ℕ). IsPast cs x.1) (begins_letter cs && begins open_paren (skip_space rest)) _ _
+    branch (λ (x : Token × List ℕ). IsPast cs x.1) (begins_letter cs && begins open_paren (skip_space rest)) _ _
     (λ e. past_then cs rest (tail (skip_space rest)) p (ends_trans rest (skip_space rest) (tail (skip_space rest)) (ends_space rest) (ends_tail (skip_space rest))))
     (λ e. p)
 
@@ -123,16 +116,16 @@ operand_goes : (dialect : Dialect) (size levels : ℕ) (cs : List ℕ) → Goes 
 unfolding operand_token
 operand_goes dialect size levels [] = tt
 operand_goes dialect size levels (c ∷ cs) =
-    if_both (Goes (c ∷ cs)) (begins_signed (c ∷ cs)) _ _ (λ e. run_token_past dialect size (c ∷ cs) (after_run cs) (past_more c cs (after_run cs) (ends_run cs)))
-    (λ e. if_both (Goes (c ∷ cs)) (begins_run (c ∷ cs)) _ _ (λ f. run_token_past dialect size (c ∷ cs) (after_run (c ∷ cs)) (run_past c cs f))
-    (λ f. if_both (Goes (c ∷ cs)) (begins_operand (c ∷ cs)) _ _ (λ g. word_past c cs (operand size levels (c ∷ cs)) (operand_past size levels c cs))
-    (λ g. if_both (Goes (c ∷ cs)) (c == open_paren) _ _ (λ h. past_more c cs cs (ends_self cs)) (λ h. or_symbol_past (prefix c cs) size c cs))))
+    branch (Goes (c ∷ cs)) (begins_signed (c ∷ cs)) _ _ (λ e. run_token_past dialect size (c ∷ cs) (after_run cs) (past_more c cs (after_run cs) (ends_run cs)))
+    (λ e. branch (Goes (c ∷ cs)) (begins_run (c ∷ cs)) _ _ (λ f. run_token_past dialect size (c ∷ cs) (after_run (c ∷ cs)) (run_past c cs f))
+    (λ f. branch (Goes (c ∷ cs)) (begins_operand (c ∷ cs)) _ _ (λ g. word_past c cs (operand size levels (c ∷ cs)) (operand_past size levels c cs))
+    (λ g. branch (Goes (c ∷ cs)) (c == open_paren) _ _ (λ h. past_more c cs cs (ends_self cs)) (λ h. or_symbol_past (prefix c cs) size c cs))))
 
 operator_goes : (cs : List ℕ) → Goes cs (operator_token cs)
 unfolding operator_token
 operator_goes [] = tt
 operator_goes (c ∷ cs) =
-    if_both (Goes (c ∷ cs)) (begins_run (c ∷ cs)) _ _ (λ e. run_past c cs e)
+    branch (Goes (c ∷ cs)) (begins_run (c ∷ cs)) _ _ (λ e. run_past c cs e)
     (λ e. or_stray_past (IsPast (c ∷ cs)) (symbol_at (c ∷ cs)) cs (symbol_past c cs) (past_more c cs cs (ends_self cs)))
 
 goes_behind : (cs ds : List ℕ) (found : Option (Token × List ℕ)) → EndsWith cs ds → Goes ds found → Goes cs found
@@ -142,7 +135,7 @@ goes_behind cs ds (Some x) e h = then_past cs ds x.1 e h
 next_goes : (dialect : Dialect) (size : ℕ) (wants : Bool) (levels : ℕ) (cs : List ℕ) → Goes cs (next_token dialect size wants levels cs)
 unfolding next_token
 next_goes dialect size wants levels cs =
-    if_both (Goes cs) wants _ _
+    branch (Goes cs) wants _ _
     (λ e. goes_behind cs (skip_space cs) _ (ends_space cs) (operand_goes dialect size levels (skip_space cs)))
     (λ e. goes_behind cs (skip_space cs) _ (ends_space cs) (operator_goes (skip_space cs)))
 

@@ -1,7 +1,8 @@
 -- The table of faults as an automaton: one row a token, on what the token leaves open.
-use Rattle.std.proofs.Common.{◌≡◌, ℕ, suc, Bool, true, false, List, [], ◌∷◌, length, Option, Some, None, refl, ap, ◌∙◌}
-use Rattle.std.specs.Prelude.{nat_lt, not, ◌||◌, if◌then◌else◌}
+use Rattle.std.proofs.Common.{◌≡◌, suc, Bool, true, false, List, [], ◌∷◌, length, Option, Some, None, refl, ap, ◌∙◌}
+use Rattle.std.specs.Prelude.{nat_lt, not, if◌then◌else◌}
 use Rattle.std.specs.Option.{option_or}
+use Rattle.std.proofs.Math.Bool.{or-true}
 use Rattle.tcl_words.specs.declared.fault.Syntax.{Syntax}
 use Rattle.tcl_words.specs.declared.fault.Syntax.TheVariants as syntax
 use Rattle.tcl_expr.specs.Token.{Token}
@@ -11,7 +12,7 @@ use Rattle.tcl_expr.specs.ExprFault as fault
 use Rattle.tcl_expr.specs.declared.state.Wanted.{Wanted}
 use Rattle.tcl_expr.specs.declared.state.Wanted.TheVariants as wanted
 use Rattle.tcl_expr.specs.Grammar.{miscount, most_levels}
-use Rattle.tcl_expr.specs.Faults.{Opened, prefixed, powered, second, third, parenthesis, arguments, reach, still_open, open_at, when, wants_operand, lowest}
+use Rattle.tcl_expr.specs.Faults.{Opened, prefixed, powered, second, third, parenthesis, arguments, still_open, open_at, when, wants_operand, lowest}
 
 -- the token that opens a level too many
 abbrev pub opens : List Opened → Option ExprFault
@@ -112,54 +113,31 @@ operand_lowest p os Colon w = rw w refl
 operand_lowest p os Comma w = rw w refl
 operand_lowest p os Stray w = rw w refl
 
--- what a token that reaches all ends leaves on top is the innermost that lacks a colon or its parenthesis
--- a `,` where a `?` lacks its `:`, in a call or not
-or_true : (b : Bool) → (b || true) ≡ true
-or_true true = refl
-or_true false = refl
-
 lacking : (os : List Opened) → lowest wanted.Operator (second ∷ os) (Some Comma) ≡ Some fault.MissingOperator
 unfolding lowest
-lacking os = rw or_true refl
+lacking os = rw or-true refl
 
-colon_lowest : (os : List Opened) → lowest wanted.Operator os (Some Colon) ≡ colon_row (still_open 15 os)
+-- what `:`, `,`, `)` and the end leave on top is the innermost that lacks its `:` or its `)`
+marks_lowest : (os : List Opened)
+    → (lowest wanted.Operator os (Some Colon) ≡ colon_row (still_open 15 os)) × (lowest wanted.Operator os (Some Comma) ≡ comma_row (still_open 15 os))
+    × (lowest wanted.Operator os (Some Close) ≡ close_row (still_open 15 os)) × (lowest wanted.Operator os None ≡ end_row wanted.Operator (still_open 15 os))
 unfolding lowest still_open
-colon_lowest [] = refl
-colon_lowest (prefixed ∷ os) = colon_lowest os
-colon_lowest (powered ∷ os) = colon_lowest os
-colon_lowest (second ∷ os) = refl
-colon_lowest (third ∷ os) = colon_lowest os
-colon_lowest (parenthesis ∷ os) = refl
-colon_lowest (arguments f s n ∷ os) = refl
-
-comma_lowest : (os : List Opened) → lowest wanted.Operator os (Some Comma) ≡ comma_row (still_open 15 os)
-unfolding lowest still_open
-comma_lowest [] = refl
-comma_lowest (prefixed ∷ os) = comma_lowest os
-comma_lowest (powered ∷ os) = comma_lowest os
-comma_lowest (second ∷ os) = lacking os
-comma_lowest (third ∷ os) = comma_lowest os
-comma_lowest (parenthesis ∷ os) = refl
-comma_lowest (arguments f s n ∷ os) = refl
-
-close_lowest : (os : List Opened) → lowest wanted.Operator os (Some Close) ≡ close_row (still_open 15 os)
-unfolding lowest still_open
-close_lowest [] = refl
-close_lowest (prefixed ∷ os) = close_lowest os
-close_lowest (powered ∷ os) = close_lowest os
-close_lowest (second ∷ os) = refl
-close_lowest (third ∷ os) = close_lowest os
-close_lowest (parenthesis ∷ os) = refl
-close_lowest (arguments f s n ∷ os) = no_row (miscount f s (suc n))
+marks_lowest [] = (refl, refl, refl, refl)
+marks_lowest (prefixed ∷ os) = marks_lowest os
+marks_lowest (powered ∷ os) = marks_lowest os
+marks_lowest (second ∷ os) = (refl, lacking os, refl, refl)
+marks_lowest (third ∷ os) = marks_lowest os
+marks_lowest (parenthesis ∷ os) = (refl, refl, refl, refl)
+marks_lowest (arguments f s n ∷ os) = (refl, refl, no_row (miscount f s (suc n)), refl)
 
 operator_lowest : (os : List Opened) (t : Token) → lowest wanted.Operator os (Some t) ≡ operator_row (open_at wanted.Operator t os) t
 unfolding lowest
 operator_lowest os (Binary op) = refl
 operator_lowest os Power = opener_lowest (still_open 1 os) _ refl
 operator_lowest os Question = opener_lowest (still_open 14 os) _ refl
-operator_lowest os Colon = colon_lowest os
-operator_lowest os Comma = comma_lowest os
-operator_lowest os Close = close_lowest os
+operator_lowest os Colon = (marks_lowest os).0
+operator_lowest os Comma = (marks_lowest os).1
+operator_lowest os Close = (marks_lowest os).2
 operator_lowest os _ = refl
 
 pub row_is : (p : Wanted) (os : List Opened) (t : Token) → lowest p os (Some t) ≡ row p (open_at p t os) t
@@ -168,19 +146,9 @@ row_is wanted.First os t = operand_lowest wanted.First os t refl
 row_is wanted.Operand os t = operand_lowest wanted.Operand os t refl
 row_is wanted.Operator os t = operator_lowest os t
 
-operator_end : (os : List Opened) → lowest wanted.Operator os None ≡ end_row wanted.Operator (still_open 15 os)
-unfolding lowest still_open
-operator_end [] = refl
-operator_end (prefixed ∷ os) = operator_end os
-operator_end (powered ∷ os) = operator_end os
-operator_end (second ∷ os) = refl
-operator_end (third ∷ os) = operator_end os
-operator_end (parenthesis ∷ os) = refl
-operator_end (arguments f s n ∷ os) = refl
-
 pub end_is : (p : Wanted) (os : List Opened) → lowest p os None ≡ end_row p (open_at_end p os)
 unfolding lowest
 end_is wanted.Start os = refl
 end_is wanted.First os = refl
 end_is wanted.Operand os = refl
-end_is wanted.Operator os = operator_end os
+end_is wanted.Operator os = (marks_lowest os).3

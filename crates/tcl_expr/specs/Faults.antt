@@ -1,6 +1,6 @@
 -- The first fault of a list of tokens: a table of nine rows. The text is read from the left, and an operand is wanted
 -- first. The first token at which a row applies counts, and there the lowest row (the profile).
-use Rattle.std.specs.Prelude.{ℕ, suc, Bool, true, false, not, ◌||◌, ◌&&◌, nat_lt, List, [], ◌∷◌, length, Option, Some, None, IsSome, if◌then◌else◌}
+use Rattle.std.specs.Prelude.{ℕ, suc, Bool, true, false, not, ◌||◌, ◌&&◌, nat_lt, List, [], ◌∷◌, length, Option, Some, None, if◌then◌else◌}
 use Rattle.std.specs.Option.{option_or, is_some}
 use Rattle.tcl_words.specs.Parts.{Stretch}
 use Rattle.tcl_words.specs.declared.fault.Syntax.TheVariants as syntax
@@ -184,10 +184,10 @@ opens_level Power = true
 opens_level Question = true
 opens_level t = false
 
-abbrev pub too_deep : Row
-too_deep p os (Some (Malformed syntax.TooDeep)) = Some fault.Nesting
-too_deep p os (Some t) = when (opens_level t && not (nat_lt (length (open_at p t os)) most_levels)) fault.Nesting
-too_deep p os None = None
+abbrev pub nested_too_deep : Row
+nested_too_deep p os (Some (Malformed syntax.TooDeep)) = Some fault.Nesting
+nested_too_deep p os (Some t) = when (opens_level t && not (nat_lt (length (open_at p t os)) most_levels)) fault.Nesting
+nested_too_deep p os None = None
 
 -- 9: a fault inside an operand
 abbrev pub inside_operand : Row
@@ -195,7 +195,7 @@ inside_operand p os (Some (Malformed m)) = Some (fault.Words m)
 inside_operand p os t = None
 
 abbrev pub rows : List Row
-rows = no_token ∷ bareword ∷ missing_operand ∷ missing_operator ∷ unbalanced ∷ unknown_function ∷ wrong_count ∷ too_deep ∷ inside_operand ∷ []
+rows = no_token ∷ bareword ∷ missing_operand ∷ missing_operator ∷ unbalanced ∷ unknown_function ∷ wrong_count ∷ nested_too_deep ∷ inside_operand ∷ []
 
 -- the lowest of the rows that apply
 abbrev pub lowest_of : List Row → Row

@@ -5,6 +5,7 @@ pub mod Gives
 pub mod Grammar
 pub mod Laws
 pub mod Machine
+pub mod Spelling
 pub mod Texts
 pub mod Token
 pub mod Tokens

@@ -1,10 +1,10 @@
 -- The tokens of a text, read from the left: expr(n), Operands and Operators.
-use Rattle.std.specs.Prelude.{ℕ, zero, suc, ◌-◌, Bool, true, false, not, ◌||◌, ◌&&◌, ◌==◌, nat_eq, nat_le, List, [], ◌∷◌, length, Option, Some, None, Result, Ok, Err, if◌then◌else◌, codes}
-use Rattle.std.specs.Cmp.Lexicographic.{pointwise}
+use Rattle.std.specs.Prelude.{ℕ, zero, suc, ◌-◌, Bool, true, false, not, ◌||◌, ◌&&◌, ◌==◌, nat_le, List, [], ◌∷◌, length, Option, Some, None, Result, Ok, Err, if◌then◌else◌, codes}
 use Rattle.std.specs.Char.{is_ascii_digit}
 use Rattle.tcl_chars.specs.Characters.{star, colon, open_paren, close_paren}
 use Rattle.tcl_chars.specs.Classes.{is_name_char}
 use Rattle.tcl_chars.specs.Place.{begins, tail, before, bytes}
+use Rattle.tcl_chars.specs.Texts.{same_text}
 use Rattle.tcl_chars.specs.Truth.{truth_of}
 use Rattle.tcl_chars.specs.declared.numbers.Dialect.{Dialect}
 use Rattle.tcl_chars.specs.Whole.{skip_space}
@@ -68,26 +68,23 @@ begins_letter (c ∷ cs) = (nat_le 65 c && nat_le c 90) || (nat_le 97 c && nat_l
 abbrev pub begins_signed : List ℕ → Bool
 begins_signed cs = begins minus cs && begins_digit (tail cs)
 
-abbrev pub is_text : List ℕ → List ℕ → Bool
-is_text cs ds = pointwise nat_eq cs ds
-
 abbrev pub function_of : List ℕ → Option Function
 function_of cs =
-    if is_text cs (codes "abs") then Some function.Abs
-    else if is_text cs (codes "bool") then Some function.Bool
-    else if is_text cs (codes "int") then Some function.Int
-    else if is_text cs (codes "wide") then Some function.Wide
-    else if is_text cs (codes "max") then Some function.Max
-    else if is_text cs (codes "min") then Some function.Min
+    if same_text cs (codes "abs") then Some function.Abs
+    else if same_text cs (codes "bool") then Some function.Bool
+    else if same_text cs (codes "int") then Some function.Int
+    else if same_text cs (codes "wide") then Some function.Wide
+    else if same_text cs (codes "max") then Some function.Max
+    else if same_text cs (codes "min") then Some function.Min
     else None
 
 -- the operators that are runs
 abbrev pub word_operator : List ℕ → Option BinaryOp
 word_operator cs =
-    if is_text cs (codes "eq") then Some binary.TextEqual
-    else if is_text cs (codes "ne") then Some binary.TextNotEqual
-    else if is_text cs (codes "in") then Some binary.In
-    else if is_text cs (codes "ni") then Some binary.NotIn
+    if same_text cs (codes "eq") then Some binary.TextEqual
+    else if same_text cs (codes "ne") then Some binary.TextNotEqual
+    else if same_text cs (codes "in") then Some binary.In
+    else if same_text cs (codes "ni") then Some binary.NotIn
     else None
 
 -- a run is an operand if it is a number text, one too large too, or a truth word

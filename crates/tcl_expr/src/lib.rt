@@ -1,7 +1,8 @@
 //! Expressions: their tokens, their trees and their faults. expr(n).
 //!
 //! `parse_expr` reads a text as a tree, or finds its first fault. What a tree is stands in `specs/Grammar.antt`, the
-//! table of faults in `specs/Faults.antt`, and how a text is cut into tokens in `specs/Tokens.antt`.
+//! table of faults in `specs/Faults.antt`, how a text is spelled by tokens in `specs/Spelling.antt`, and how they are read
+//! from it in `specs/Tokens.antt`.
 #![tactic(auto)]
 
 mod fault;

@@ -10,7 +10,7 @@ ghost use Rattle.tcl_words.specs.Words.{stretch};
 
 use crate::token::{BinaryOp, Function};
 use tcl_chars::{
-    Dialect, Truth, before, begins, is_name_char, place, read_truth, split_first, tail,
+    Dialect, Truth, before, begins, is_name_char, is_text, place, read_truth, split_first, tail,
 };
 use tcl_words::Span;
 
@@ -92,29 +92,22 @@ pub(crate) fn says_something(run: &str, dialect: Dialect) -> bool
     }
 }
 
-#[tactic(auto, using(crate::proofs::Words::is_word))]
-fn is_word(text: &str, word: &str) -> bool
-    ensures { result ≡ spec.is_text (chars text.now) (chars word.now) }
-{
-    text == word
-}
-
 /// The function of a name.
-#[tactic(auto, using(crate::proofs::Words::words))]
+#[tactic(auto, using(tcl_chars::proofs::Literals::literal_chars))]
 pub(crate) fn function_of(name: &str) -> Option<Function>
     ensures { result ≡ spec.function_of (chars name.now) }
 {
-    if is_word(name, "abs") {
+    if is_text(name, "abs") {
         Some(Function::Abs)
-    } else if is_word(name, "bool") {
+    } else if is_text(name, "bool") {
         Some(Function::Bool)
-    } else if is_word(name, "int") {
+    } else if is_text(name, "int") {
         Some(Function::Int)
-    } else if is_word(name, "wide") {
+    } else if is_text(name, "wide") {
         Some(Function::Wide)
-    } else if is_word(name, "max") {
+    } else if is_text(name, "max") {
         Some(Function::Max)
-    } else if is_word(name, "min") {
+    } else if is_text(name, "min") {
         Some(Function::Min)
     } else {
         None
@@ -122,17 +115,17 @@ pub(crate) fn function_of(name: &str) -> Option<Function>
 }
 
 /// The operator that a run is.
-#[tactic(auto, using(crate::proofs::Words::words))]
+#[tactic(auto, using(tcl_chars::proofs::Literals::literal_chars))]
 pub(crate) fn word_operator(run: &str) -> Option<BinaryOp>
     ensures { result ≡ spec.word_operator (chars run.now) }
 {
-    if is_word(run, "eq") {
+    if is_text(run, "eq") {
         Some(BinaryOp::TextEqual)
-    } else if is_word(run, "ne") {
+    } else if is_text(run, "ne") {
         Some(BinaryOp::TextNotEqual)
-    } else if is_word(run, "in") {
+    } else if is_text(run, "in") {
         Some(BinaryOp::In)
-    } else if is_word(run, "ni") {
+    } else if is_text(run, "ni") {
         Some(BinaryOp::NotIn)
     } else {
         None

@@ -23,14 +23,14 @@ use Rattle.tcl_interp.specs.Pages.{output_at}
 pub err_same : {A : Type 0} (a b : ChanFault) → ◌≡◌ {A = Result A ChanFault} (Err a) (Err b) → a ≡ b
 err_same a b h = cc
 
-put_same : (o : Option (List ℕ)) (t : List ℕ) → device.put o t ≡ put_bytes o t
+put_same : (o : Option (List ℕ)) (t : List ℕ) → device.put_behind o t ≡ put_bytes o t
 put_same None t = refl
 put_same (Some o) t = refl
 
 abbrev at : {W E : Type 0} → (W → Option (List ℕ)) → (E → Option (List ℕ)) → Store → W → E → ℕ → State
 at outs errs store o e units = record { store = store; out = outs o; err = errs e; units = units }
 
-bytes_put : {D : Type 0} (told : D → Option (List ℕ)) (text : List ℕ) (x y : D) → IsUtf8 text → told y ≡ device.put (told x) text → put_bytes (told x) (encode_utf8_all (chars text)) ≡ told y
+bytes_put : {D : Type 0} (told : D → Option (List ℕ)) (text : List ℕ) (x y : D) → IsUtf8 text → told y ≡ device.put_behind (told x) text → put_bytes (told x) (encode_utf8_all (chars text)) ≡ told y
 bytes_put told text x y u h = ap (put_bytes (told x)) (encodes-chars text u) ∙ sym (put_same (told x) text) ∙ sym h
 
 front_begins : {D : Type 0} (told : D → Option (List ℕ)) (text : List ℕ) (x y : D) → IsUtf8 text → WroteFront (told x) (told y) text → OutBegins (told y) (put_bytes (told x) (encode_utf8_all (chars text)))
@@ -44,7 +44,7 @@ begins_same told x y k = subst (λ z. OutBegins (told z) (told x)) (sym k) (out_
 
 module _ {R W E : Type 0} (outs : W → Option (List ℕ)) (errs : E → Option (List ℕ)) (store : Store) (units : ℕ) (old new : World R W E Reader) (text : List ℕ) where
   -- the whole text was written
-  pub wrote_whole : (to : Out) → IsUtf8 text → picked to (outs (stdout new)) (errs (stderr new)) ≡ device.put (picked to (outs (stdout old)) (errs (stderr old))) text → SameOther to old new
+  pub wrote_whole : (to : Out) → IsUtf8 text → picked to (outs (stdout new)) (errs (stderr new)) ≡ device.put_behind (picked to (outs (stdout old)) (errs (stderr old))) text → SameOther to old new
       → wrote (output_at to) (encode_utf8_all (chars text)) (at outs errs store (stdout old) (stderr old) units) ≡ at outs errs store (stdout new) (stderr new) units
   wrote_whole out.Stdout u h k = let b = bytes_put outs text (stdout old) (stdout new) u h in λ i. record { store = store; out = b i; err = errs (sym k i); units = units }
   wrote_whole out.Stderr u h k = let b = bytes_put errs text (stderr old) (stderr new) u h in λ i. record { store = store; out = outs (sym k i); err = b i; units = units }

@@ -11,5 +11,5 @@ abbrev pub world_state : {R W E : Type 0} → (W → Option (List ℕ)) → (E �
 world_state out err store w units = record { store = store; out = out (stdout w); err = err (stderr w); units = units }
 
 -- the state of the definition
-abbrev pub shown : {R W E : Type 0} → (W → Option (List ℕ)) → (E → Option (List ℕ)) → Evaluation → World R W E Reader → State
-shown out err e w = world_state out err (record { globals = e.variables }) w e.units
+abbrev pub shown_state : {R W E : Type 0} → (W → Option (List ℕ)) → (E → Option (List ℕ)) → Evaluation → World R W E Reader → State
+shown_state out err e w = world_state out err (record { globals = e.variables }) w e.units

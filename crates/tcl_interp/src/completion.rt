@@ -1,17 +1,17 @@
 //! How a command ended.
-ghost use Rattle.std.specs.Prelude.{◌≡◌, ◌++◌, IfOk, List, ℕ};
+ghost use Rattle.std.specs.Prelude.{◌≡◌, IfOk};
 ghost use Rattle.std.specs.Str.{chars};
+ghost use Rattle.tcl_chars.specs.Messages.{about};
 ghost use Rattle.tcl_meaning.specs.Completions.{normal, failure, wrong_words, too_deep};
 ghost use Rattle.tcl_meaning.specs.Substitution.{no_expansion};
-ghost use Rattle.tcl_meaning.specs.Variables.{cant_read, cant_set, reason};
+ghost use Rattle.tcl_meaning.specs.Variables.{because, cant_read, cant_set};
 ghost use Rattle.tcl_meaning.specs.Pages.{unknown_channel};
 ghost use Rattle.tcl_meaning.specs.Script.{unknown_command};
 ghost use Rattle.tcl_interp.specs.Completion.{completion_of};
 
 use crate::value::Value;
 use std::alloc::{AllocError, Global};
-use std::rc::RcStr;
-use tcl_chars::push_text;
+use tcl_chars::about;
 use tcl_meaning::{Code, Refusal};
 
 /// How a command ended: a code, and a result or a message. return(n), RETURN CODES.
@@ -57,22 +57,16 @@ impl Completion {
         Completion::failure(alloc, "word expansion comes with lists")
     }
 
-    // The error of a message that quotes a word.
-    fn quoting(
+    /// The error that is said of a word: `before "word"after`.
+    pub(crate) fn about(
         alloc: Global,
         before: &str,
         word: &str,
         after: &str,
-        more: &str,
     ) -> Result<Completion, AllocError>
-        ensures { IfOk result (λ c. completion_of c ≡ failure (chars before.now ++ chars word.now ++ chars after.now ++ chars more.now)) }
+        ensures { IfOk result (λ c. completion_of c ≡ failure (about (chars before.now) (chars word.now) (chars after.now))) }
     {
-        let mut message = String::new(alloc);
-        push_text(&mut message, before)?;
-        push_text(&mut message, word)?;
-        push_text(&mut message, after)?;
-        push_text(&mut message, more)?;
-        let result = Value::of_text(RcStr::from_string(message)?);
+        let result = Value::of_text(about(alloc, before, word, after)?);
         Ok(Completion {
             code: Code::Error,
             result,
@@ -87,7 +81,7 @@ impl Completion {
     ) -> Result<Completion, AllocError>
         ensures { IfOk result (λ c. completion_of c ≡ cant_read (chars name.now) refusal) }
     {
-        Completion::quoting(alloc, "can't read \"", name, "\": ", reason(refusal))
+        Completion::about(alloc, "can't read", name, because(refusal))
     }
 
     /// The error of a variable that can't be written.
@@ -98,39 +92,39 @@ impl Completion {
     ) -> Result<Completion, AllocError>
         ensures { IfOk result (λ c. completion_of c ≡ cant_set (chars name.now) refusal) }
     {
-        Completion::quoting(alloc, "can't set \"", name, "\": ", reason(refusal))
+        Completion::about(alloc, "can't set", name, because(refusal))
     }
 
     /// The error of a command that has other words than its usage says.
     pub(crate) fn wrong_words(alloc: Global, usage: &str) -> Result<Completion, AllocError>
         ensures { IfOk result (λ c. completion_of c ≡ wrong_words (chars usage.now)) }
     {
-        Completion::quoting(alloc, "wrong # args: should be \"", usage, "\"", "")
+        Completion::about(alloc, "wrong # args: should be", usage, "")
     }
 
     /// The error of a word that is no command's name.
     pub(crate) fn unknown_command(alloc: Global, word: &str) -> Result<Completion, AllocError>
         ensures { IfOk result (λ c. completion_of c ≡ unknown_command (chars word.now)) }
     {
-        Completion::quoting(alloc, "invalid command name \"", word, "\"", "")
+        Completion::about(alloc, "invalid command name", word, "")
     }
 
     /// The error of a word that is no channel's name.
     pub(crate) fn unknown_channel(alloc: Global, word: &str) -> Result<Completion, AllocError>
         ensures { IfOk result (λ c. completion_of c ≡ failure (unknown_channel (chars word.now))) }
     {
-        Completion::quoting(alloc, "can not find channel named \"", word, "\"", "")
+        Completion::about(alloc, "can not find channel named", word, "")
     }
 }
 
-// What a refusal says.
-fn reason(refusal: Refusal) -> &'static str
-    ensures { chars result.now ≡ reason refusal }
+// What a refusal says behind the name.
+fn because(refusal: Refusal) -> &'static str
+    ensures { chars result.now ≡ because refusal }
 {
     match refusal {
-        Refusal::NoSuch => "no such variable",
-        Refusal::IsArray => "variable is array",
-        Refusal::IsntArray => "variable isn't array",
-        Refusal::NoElement => "no such element in array",
+        Refusal::NoSuch => ": no such variable",
+        Refusal::IsArray => ": variable is array",
+        Refusal::IsntArray => ": variable isn't array",
+        Refusal::NoElement => ": no such element in array",
     }
 }

@@ -11,7 +11,7 @@ ghost use Rattle.tcl_meaning.specs.Value.{behind};
 ghost use Rattle.tcl_meaning.specs.Script.{Run, most_depth, levels_read, run_command};
 ghost use Rattle.tcl_interp.specs.Evaluate.{Follows, ValueFollows, stopped};
 ghost use Rattle.tcl_interp.specs.Fault.{is_io, value_is_io};
-ghost use Rattle.tcl_interp.specs.Evaluation.{shown};
+ghost use Rattle.tcl_interp.specs.Evaluation.{shown_state};
 ghost use Rattle.tcl_interp.specs.Channels.{Leaves};
 
 use crate::completion::Completion;
@@ -43,7 +43,7 @@ pub(crate) fn eval_script<R: Input, W: Output, E: Output>(
     script: &str,
 ) -> Result<Completion, EvalFault>
     ensures spends { state.new.units ≤ state.old.units }
-    ensures run { Follows result (Run (Script depth (normal []) (chars script.now)) (shown W.written E.written state.old world.old)) (shown W.written E.written state.new world.new) }
+    ensures run { Follows result (Run (Script depth (normal []) (chars script.now)) (shown_state W.written E.written state.old world.old)) (shown_state W.written E.written state.new world.new) }
     ensures leaves { Leaves R.to_come W.failed_calls E.failed_calls (is_io result) world.old world.new }
 {
     if depth > MOST_DEPTH {
@@ -94,7 +94,7 @@ fn eval_command<R: Input, W: Output, E: Output>(
     requires shallow { depth ≤ most_depth }
     requires nests { WordsNest levels_read (map shape_of words.now) }
     ensures spends { state.new.units ≤ state.old.units }
-    ensures run { Follows result (exec Run (run_command depth (map shape_of words.now)) (shown W.written E.written state.old world.old)) (shown W.written E.written state.new world.new) }
+    ensures run { Follows result (exec Run (run_command depth (map shape_of words.now)) (shown_state W.written E.written state.old world.old)) (shown_state W.written E.written state.new world.new) }
     ensures leaves { Leaves R.to_come W.failed_calls E.failed_calls (is_io result) world.old world.new }
 {
     match subst_words(alloc, state, world, depth, words) {
@@ -122,7 +122,7 @@ fn subst_words<R: Input, W: Output, E: Output>(
     requires shallow { depth ≤ most_depth }
     requires nests { WordsNest levels_read (map shape_of words.now) }
     ensures spends { state.new.units ≤ state.old.units }
-    ensures run { ValueFollows (λ v. v.items) result (exec Run (words_text depth (map shape_of words.now)) (shown W.written E.written state.old world.old)) (shown W.written E.written state.new world.new) }
+    ensures run { ValueFollows (λ v. v.items) result (exec Run (words_text depth (map shape_of words.now)) (shown_state W.written E.written state.old world.old)) (shown_state W.written E.written state.new world.new) }
     ensures leaves { Leaves R.to_come W.failed_calls E.failed_calls (value_is_io result) world.old world.new }
 {
     let mut values = Vec::new(alloc);
@@ -145,7 +145,7 @@ fn subst_word<R: Input, W: Output, E: Output>(
     requires shallow { depth ≤ most_depth }
     requires nests { PartsNest levels_read (parts_of (shape_of word.now).pieces) }
     ensures spends { state.new.units ≤ state.old.units }
-    ensures run { ValueFollows (λ v. v) result (exec Run (one_word depth (shape_of word.now).expands (shape_of word.now).pieces) (shown W.written E.written state.old world.old)) (shown W.written E.written state.new world.new) }
+    ensures run { ValueFollows (λ v. v) result (exec Run (one_word depth (shape_of word.now).expands (shape_of word.now).pieces) (shown_state W.written E.written state.old world.old)) (shown_state W.written E.written state.new world.new) }
     ensures leaves { Leaves R.to_come W.failed_calls E.failed_calls (value_is_io result) world.old world.new }
 {
     if word.expands {
@@ -179,7 +179,7 @@ fn subst_pieces<R: Input, W: Output, E: Output>(
     requires shallow { depth ≤ most_depth }
     requires nests { PartsNest levels (parts_of (map part_of pieces.now)) }
     ensures spends { state.new.units ≤ state.old.units }
-    ensures run { ValueFollows (λ _. chars (string_bytes text.new)) result (exec Run (behind (chars (string_bytes text.old)) (pieces_text depth (map part_of pieces.now))) (shown W.written E.written state.old world.old)) (shown W.written E.written state.new world.new) }
+    ensures run { ValueFollows (λ _. chars (string_bytes text.new)) result (exec Run (behind (chars (string_bytes text.old)) (pieces_text depth (map part_of pieces.now))) (shown_state W.written E.written state.old world.old)) (shown_state W.written E.written state.new world.new) }
     ensures leaves { Leaves R.to_come W.failed_calls E.failed_calls (value_is_io result) world.old world.new }
 {
     'pieces: for piece in pieces {
@@ -202,7 +202,7 @@ fn subst_piece<R: Input, W: Output, E: Output>(
     requires shallow { depth ≤ most_depth }
     requires nests { PartNests levels (part_of piece.now) }
     ensures spends { state.new.units ≤ state.old.units }
-    ensures run { ValueFollows (λ _. chars (string_bytes text.new)) result (exec Run (behind (chars (string_bytes text.old)) (piece_text depth (part_of piece.now))) (shown W.written E.written state.old world.old)) (shown W.written E.written state.new world.new) }
+    ensures run { ValueFollows (λ _. chars (string_bytes text.new)) result (exec Run (behind (chars (string_bytes text.old)) (piece_text depth (part_of piece.now))) (shown_state W.written E.written state.old world.old)) (shown_state W.written E.written state.new world.new) }
     ensures leaves { Leaves R.to_come W.failed_calls E.failed_calls (value_is_io result) world.old world.new }
 {
     match piece {

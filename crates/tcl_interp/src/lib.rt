@@ -11,9 +11,9 @@ mod lookup;
 mod names;
 mod outcome;
 mod pages;
+mod report;
 mod value;
 mod variables;
-mod report;
 
 pub use host::{Config, HostFault, HostVar, Outcome, VarFault};
 pub use interp::Interp;

@@ -8,21 +8,21 @@ ghost use Rattle.tcl_meaning.specs.Value.{behind};
 ghost use Rattle.tcl_meaning.specs.Script.{Run, invoke, looked_up, page_of};
 ghost use Rattle.tcl_interp.specs.Evaluate.{Follows, ValueFollows};
 ghost use Rattle.tcl_interp.specs.Fault.{is_io, value_is_io};
-ghost use Rattle.tcl_interp.specs.Evaluation.{shown};
+ghost use Rattle.tcl_interp.specs.Evaluation.{shown_state};
 ghost use Rattle.tcl_interp.specs.Channels.{Leaves};
 ghost use Rattle.tcl_meaning.specs.State.{state_with};
 
 use crate::completion::Completion;
 use crate::evaluation::Evaluation;
 use crate::fault::{EvalFault, Halt};
-use crate::names::{is_text, without_colons};
+use crate::names::without_colons;
 use crate::pages::{puts_page, set_page};
 use crate::value::Value;
 use crate::variables::Variables;
 use std::alloc::Global;
 use tcl_chan::device::{Input, Output};
 use tcl_chan::world::World;
-use tcl_chars::push_text;
+use tcl_chars::{is_text, push_text};
 use tcl_meaning::Page;
 
 /// Adds the text of a variable to a text.
@@ -76,7 +76,7 @@ pub(crate) fn invoke<R: Input, W: Output, E: Output>(
     words: &[Value],
 ) -> Result<Completion, EvalFault>
     ensures spends { state.new.units ≡ state.old.units }
-    ensures run { Follows result (exec Run (invoke words.now) (shown W.written E.written state.old world.old)) (shown W.written E.written state.new world.new) }
+    ensures run { Follows result (exec Run (invoke words.now) (shown_state W.written E.written state.old world.old)) (shown_state W.written E.written state.new world.new) }
     ensures leaves { Leaves R.to_come W.failed_calls E.failed_calls (is_io result) world.old world.new }
 {
     let Some((word, args)) = words.split_first() else {

@@ -2,18 +2,9 @@
 ghost use Rattle.std.specs.Prelude.{◌≡◌};
 ghost use Rattle.std.specs.Str.{chars};
 ghost use Rattle.tcl_meaning.specs.Variables as spec;
-ghost use Rattle.tcl_meaning.specs.Pages.{same_text};
 ghost use Rattle.tcl_interp.specs.Names.{name_of};
 
 use tcl_chars::{before, begins, split_first, tail};
-
-/// Are the texts the same?
-#[tactic(auto, using(tcl_chars::proofs::Same::eq_by_chars))]
-pub(crate) fn is_text(text: &str, other: &str) -> bool
-    ensures { result ≡ same_text (chars text.now) (chars other.now) }
-{
-    text == other
-}
 
 // What follows the colons at the front.
 #[tactic(auto, unfolding(tcl_meaning::specs::Variables::after_colons))]

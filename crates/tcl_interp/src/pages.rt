@@ -1,9 +1,9 @@
 //! The commands that run no script: set(n), puts(n).
-ghost use Rattle.std.specs.Prelude.{◌≡◌, ℕ, List, codes, Option, Ok, false, IfOk, if◌then◌else◌};
+ghost use Rattle.std.specs.Prelude.{◌≡◌, ℕ, List, Option, Ok, false, IfOk, if◌then◌else◌};
 ghost use Rattle.std.specs.Str.{chars};
 ghost use Rattle.tcl_meaning.specs.Effects.{exec};
 ghost use Rattle.tcl_meaning.specs.Completions.{failure, wrong_words};
-ghost use Rattle.tcl_meaning.specs.Pages.{same_text, set_usage, set_page, after_get, after_put, puts_usage, puts_page, put_text, input_only, output_of, line_of, is_nonewline};
+ghost use Rattle.tcl_meaning.specs.Pages.{set_usage, set_page, after_get, after_put, puts_usage, puts_page, put_text, input_only, output_of, line_of, is_nonewline};
 ghost use Rattle.tcl_meaning.specs.State.{Store, state_with};
 ghost use Rattle.tcl_meaning.specs.Variables.{get, put};
 ghost use Rattle.tcl_meaning.specs.Script.{Run};
@@ -16,14 +16,13 @@ ghost use Rattle.tcl_interp.specs.Channels.{Leaves};
 
 use crate::completion::Completion;
 use crate::fault::EvalFault;
-use crate::names::is_text;
 use crate::value::Value;
 use crate::variables::{PutFault, Variables};
 use std::alloc::{AllocError, Global};
 use tcl_chan::device::{Input, Output};
 use tcl_chan::fault::Out;
 use tcl_chan::world::World;
-use tcl_chars::{push, push_text};
+use tcl_chars::{is_text, push, push_text};
 
 /// set varName ?newValue?
 #[tactic(auto, unfolding(tcl_meaning::specs::Pages::set_page))]
@@ -86,32 +85,11 @@ enum Destination {
     Nowhere(Completion),
 }
 
-// Is the name standard output's?
-fn is_stdout(name: &str) -> bool
-    ensures { result ≡ same_text (chars name.now) (codes "stdout") }
-{
-    is_text(name, "stdout")
-}
-
-// Is the name standard error's?
-fn is_stderr(name: &str) -> bool
-    ensures { result ≡ same_text (chars name.now) (codes "stderr") }
-{
-    is_text(name, "stderr")
-}
-
-// Is the name standard input's?
-fn is_stdin(name: &str) -> bool
-    ensures { result ≡ same_text (chars name.now) (codes "stdin") }
-{
-    is_text(name, "stdin")
-}
-
 // The error of writing to the input.
 fn input_only(alloc: Global) -> Result<Completion, AllocError>
     ensures { IfOk result (λ c. completion_of c ≡ failure input_only) }
 {
-    Completion::failure(alloc, "channel \"stdin\" wasn't opened for writing")
+    Completion::about(alloc, "channel", "stdin", " wasn't opened for writing")
 }
 
 // The error of `puts` with other words than its usage says.
@@ -126,13 +104,13 @@ fn puts_usage(alloc: Global) -> Result<Completion, AllocError>
 fn output_named(alloc: Global, name: &str) -> Result<Destination, AllocError>
     ensures { IfOk result (λ to. IsDestination to (output_of (chars name.now))) }
 {
-    if is_stdout(name) {
+    if is_text(name, "stdout") {
         return Ok(Destination::To(Out::Stdout));
     }
-    if is_stderr(name) {
+    if is_text(name, "stderr") {
         return Ok(Destination::To(Out::Stderr));
     }
-    if is_stdin(name) {
+    if is_text(name, "stdin") {
         return Ok(Destination::Nowhere(input_only(alloc)?));
     }
     Ok(Destination::Nowhere(Completion::unknown_channel(alloc, name)?))

@@ -2,7 +2,7 @@
 ghost use Rattle.std.specs.Prelude.{◌≡◌, IfOk, false, ℕ, List, Option, is_err, map as each};
 ghost use Rattle.std.specs.FinMap as map;
 ghost use Rattle.std.specs.Str.{chars};
-ghost use Rattle.tcl_chan.specs.Worlds.{stdout, stderr, SameDevices};
+ghost use Rattle.tcl_chan.specs.Worlds.{stdin, stdout, stderr, SameDevices};
 ghost use Rattle.tcl_meaning.specs.Effects.{Gives};
 ghost use Rattle.tcl_meaning.specs.Run.{run_script, run_with_args, args_put, args_error};
 ghost use Rattle.tcl_meaning.specs.State.{state_with};
@@ -32,6 +32,7 @@ fn flush_both<R: Input, W: Output, E: Output>(
     world: &mut World<'_, '_, '_, R, W, E>,
 ) -> Result<(), ChanFault>
     ensures devices { SameDevices world.old world.new }
+    ensures input { stdin world.new ≡ stdin world.old }
     ensures failures { RunCounted W.failed_calls E.failed_calls (is_err result) (stdout world.old) (stderr world.old) (stdout world.new) (stderr world.new) }
     ensures out { W.written (stdout world.new) ≡ W.written (stdout world.old) }
     ensures err { E.written (stderr world.new) ≡ E.written (stderr world.old) }
@@ -54,6 +55,7 @@ fn run_in<R: Input, W: Output, E: Output>(
         interp.new.globals (W.written (stdout world.new)) (E.written (stderr world.new)) }
     ensures fails { interp.new.failed ≡ outcome_fails result }
     ensures devices { SameDevices world.old world.new }
+    ensures input { stdin world.new ≡ stdin world.old }
     ensures failures { RunCounted W.failed_calls E.failed_calls (outcome_is_io result) (stdout world.old) (stderr world.old) (stdout world.new) (stderr world.new) }
 {
     let outcome = interp.eval(world, script, budget);
@@ -100,6 +102,7 @@ fn run_named<R: Input, W: Output, E: Output>(
 ) -> Report
     ensures report { Reports result (run_script (chars script.now) (state_with (args_put (chars name.now)) (W.written out.old) (E.written err.old) budget)) (W.written out.new) (E.written err.new) }
     ensures failures { RunCounted W.failed_calls E.failed_calls (outcome_is_io result.outcome) out.old err.old out.new err.new }
+    ensures input { reader.new ≡ reader.old }
 {
     let Ok(mut interp) = prepared(alloc, name) else {
         return Report {
@@ -144,7 +147,8 @@ fn refused(alloc: Global, budget: u64) -> Report
 }
 
 /// Runs a script: `argv0` holds the first of the arguments, `argv` the list of the others and `argc` their count. Unless
-/// memory was refused or a device failed, both outputs are flushed at the end.
+/// memory was refused or a device failed, both outputs are flushed at the end. The input stays as it was: no script reads
+/// yet.
 ///
 /// More than one argument is refused until there are lists.
 pub fn run<R: Input, W: Output, E: Output>(
@@ -158,6 +162,7 @@ pub fn run<R: Input, W: Output, E: Output>(
 ) -> Report
     ensures report { Reports result (run_with_args (chars script.now) (each (λ a. chars a.now) args.now) (W.written out.old) (E.written err.old) budget) (W.written out.new) (E.written err.new) }
     ensures failures { RunCounted W.failed_calls E.failed_calls (outcome_is_io result.outcome) out.old err.old out.new err.new }
+    ensures input { reader.new ≡ reader.old }
 {
     match args {
         [] => run_named(alloc, script, "", reader, out, err, budget),

@@ -1,5 +1,7 @@
 -- How commands and scripts end: return(n), RETURN CODES.
-use Rattle.std.specs.Prelude.{ℕ, List, codes, ◌++◌}
+use Rattle.std.specs.Prelude.{ℕ, List}
+use Rattle.tcl_chars.specs.Texts.{literal}
+use Rattle.tcl_chars.specs.Messages.{about}
 use Rattle.tcl_meaning.specs.declared.code.Code.{Code}
 use Rattle.tcl_meaning.specs.declared.code.Code.TheVariants as code
 
@@ -16,8 +18,8 @@ failure message = record { code = code.Error; result = message }
 
 -- the error of a command that has other words than its usage says
 abbrev pub wrong_words : List ℕ → Completion
-wrong_words usage = failure (codes "wrong # args: should be \"" ++ usage ++ codes "\"")
+wrong_words usage = failure (about (literal "wrong # args: should be") usage (literal ""))
 
 -- a script would stand in more than a thousand others
 abbrev pub too_deep : Completion
-too_deep = failure (codes "too many nested evaluations (infinite loop?)")
+too_deep = failure (literal "too many nested evaluations (infinite loop?)")

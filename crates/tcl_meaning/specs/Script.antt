@@ -1,5 +1,7 @@
 -- What a command does, and a script: Tcl(n), rules 1, 2 and 11.
-use Rattle.std.specs.Prelude.{ℕ, nat_lt, List, [], ◌∷◌, ◌++◌, codes, Option, Some, None, if◌then◌else◌}
+use Rattle.std.specs.Prelude.{ℕ, nat_lt, List, [], ◌∷◌, Option, Some, None, if◌then◌else◌}
+use Rattle.tcl_chars.specs.Texts.{literal, same_text}
+use Rattle.tcl_chars.specs.Messages.{about}
 use Rattle.tcl_words.specs.Parts.{Shape}
 use Rattle.tcl_words.specs.First.{First, none, malformed, command, first_command}
 use Rattle.tcl_words.specs.Syntax.{syntax_text}
@@ -13,7 +15,7 @@ use Rattle.tcl_meaning.specs.Effects.{Task, Script, Prog, Give, ◌>>=◌, call,
 use Rattle.tcl_meaning.specs.Value.{Value, Has, Fails}
 use Rattle.tcl_meaning.specs.Substitution.{words_text}
 use Rattle.tcl_meaning.specs.Variables.{without_colons}
-use Rattle.tcl_meaning.specs.Pages.{same_text, set_page, puts_page}
+use Rattle.tcl_meaning.specs.Pages.{set_page, puts_page}
 
 -- Brackets and array indices may stand in one another this deep. They are refused until tclint reads lists.
 abbrev pub levels_read : ℕ
@@ -21,7 +23,7 @@ levels_read = 0
 
 -- the commands by their names
 unfoldable pub page_names : List (List ℕ × Page)
-page_names = (codes "set", Set) ∷ (codes "puts", Puts) ∷ []
+page_names = (literal "set", Set) ∷ (literal "puts", Puts) ∷ []
 
 -- what a table has for a name
 abbrev pub looked_up : {A : Type 0} → List (List ℕ × A) → List ℕ → Option A
@@ -33,7 +35,7 @@ abbrev pub page_of : List ℕ → Option Page
 page_of word = looked_up page_names (without_colons word)
 
 abbrev pub unknown_command : List ℕ → Completion
-unknown_command word = failure (codes "invalid command name \"" ++ word ++ codes "\"")
+unknown_command word = failure (about (literal "invalid command name") word (literal ""))
 
 abbrev pub run_page : Option Page → List ℕ → List (List ℕ) → Prog Completion
 run_page None word args = Give (unknown_command word)

@@ -1,5 +1,7 @@
 -- The substitution of words: Tcl(n), rules 2 to 8 and 11. The pieces of a word are substituted from left to right.
-use Rattle.std.specs.Prelude.{ℕ, ◌+◌, Bool, true, false, List, [], ◌∷◌, ◌++◌, Result, Ok, Err, codes}
+use Rattle.std.specs.Prelude.{ℕ, ◌+◌, Bool, true, false, List, [], ◌∷◌, ◌++◌, Result, Ok, Err}
+use Rattle.tcl_chars.specs.Characters.{open_paren, close_paren}
+use Rattle.tcl_chars.specs.Texts.{literal}
 use Rattle.tcl_words.specs.Parts.{Part, text, escape, var, elem_, bracket, Parts, no_parts, part, Shape}
 use Rattle.tcl_meaning.specs.declared.refusal.Refusal.{Refusal}
 use Rattle.tcl_meaning.specs.declared.code.Code.{Code}
@@ -30,7 +32,7 @@ bracket_result code.Error t = fail (record { code = code.Error; result = t })
 
 -- the name of an element, as a script writes it
 abbrev pub spelled_element : List ℕ → List ℕ → List ℕ
-spelled_element name index = name ++ codes "(" ++ index ++ codes ")"
+spelled_element name index = name ++ open_paren ∷ [] ++ index ++ close_paren ∷ []
 
 abbrev mutual
   pub piece_text : ℕ → Part → Prog (Value (List ℕ))
@@ -60,7 +62,7 @@ pieces_text d (p ∷ ps) = do
 
 -- A word with `{*}` in front is refused until tclint reads lists.
 abbrev pub no_expansion : Completion
-no_expansion = failure (codes "word expansion comes with lists")
+no_expansion = failure (literal "word expansion comes with lists")
 
 abbrev pub one_word : ℕ → Bool → List Part → Prog (Value (List ℕ))
 one_word d true ps = fail no_expansion

@@ -1,6 +1,8 @@
 -- Variables by their names: Tcl(n), rule 8; set(n); array(n).
-use Rattle.std.specs.Prelude.{ℕ, ◌&&◌, ◌==◌, List, [], ◌∷◌, ◌++◌, codes, Option, Some, None, Result, Ok, Err, if◌then◌else◌}
+use Rattle.std.specs.Prelude.{ℕ, ◌&&◌, ◌==◌, List, [], ◌∷◌, Option, Some, None, Result, Ok, Err, if◌then◌else◌}
 use Rattle.std.specs.FinMap as map
+use Rattle.tcl_chars.specs.Texts.{literal}
+use Rattle.tcl_chars.specs.Messages.{about}
 use Rattle.tcl_chars.specs.Characters.{colon, open_paren, close_paren}
 use Rattle.tcl_chars.specs.Place.{begins, tail, before}
 use Rattle.tcl_meaning.specs.declared.refusal.Refusal.{Refusal}
@@ -89,14 +91,14 @@ put vs name t = put_named vs (divided_name name) t
 
 -- ---- what the refusals say
 
-abbrev pub reason : Refusal → List ℕ
-reason NoSuch = codes "no such variable"
-reason IsArray = codes "variable is array"
-reason IsntArray = codes "variable isn't array"
-reason NoElement = codes "no such element in array"
+abbrev pub because : Refusal → List ℕ
+because NoSuch = literal ": no such variable"
+because IsArray = literal ": variable is array"
+because IsntArray = literal ": variable isn't array"
+because NoElement = literal ": no such element in array"
 
 abbrev pub cant_read : List ℕ → Refusal → Completion
-cant_read name refusal = failure (codes "can't read \"" ++ name ++ codes "\": " ++ reason refusal)
+cant_read name refusal = failure (about (literal "can't read") name (because refusal))
 
 abbrev pub cant_set : List ℕ → Refusal → Completion
-cant_set name refusal = failure (codes "can't set \"" ++ name ++ codes "\": " ++ reason refusal)
+cant_set name refusal = failure (about (literal "can't set") name (because refusal))

@@ -1,5 +1,3 @@
-mod Joining
+mod JoinedNewlines
 mod LinesLemmas
 mod ProgramLemmas
-mod Texts
-mod WordsLemmas

@@ -7,6 +7,7 @@ use Rattle.std.proofs.Math.Seq.{take-length}
 use Rattle.tcl_meaning.specs.Beginnings.{state_of, OutputsBegin}
 use Rattle.tcl_meaning.specs.Completions.{Completion, normal}
 use Rattle.tcl_meaning.specs.Effects.{Got, Script}
+use Rattle.tcl_chars.specs.Texts.{literal}
 use Rattle.tcl_meaning.specs.Run.{run_with_args, args_put}
 use Rattle.tcl_meaning.specs.State.{state_with}
 use Rattle.tcl_meaning.proofs.Rules.{begins_run}
@@ -19,14 +20,15 @@ use Rattle.tcl_interp.specs.declared.host.Outcome.{Outcome}
 use Rattle.tcl_interp.specs.declared.host.Outcome.TheVariants as outcome
 use Rattle.tcl_interp.specs.declared.report.Report.{Report}
 use Rattle.tcl_shell.specs.Lines.{Told, Said, SaidIf, unreadable, not_utf8}
-use Rattle.tcl_shell.specs.Program.{Ran, RunsWords, RunsFile, file_name, joined, status_of, outcome_line}
+use Rattle.tcl_chan.specs.Newlines.{joined_newlines}
+use Rattle.tcl_shell.specs.Program.{Ran, RunsWords, RunsFile, file_name, status_of, outcome_line}
 use Rattle.tcl_shell.specs.declared.words.Request.{Request}
 
 -- a run that was refused memory before it began
 
 args_begin : (script : List ℕ) (args : List (List ℕ)) (out err : Option (List ℕ)) (budget : ℕ) → OutputsBegin (state_with finmap.empty out err 0) (state_of (run_with_args script args out err budget))
 args_begin script [] out err budget =
-    let b = begins_run (Script 1 (normal []) script) (state_with (args_put []) out err budget) refl in record { out = b.out; err = b.err }
+    let b = begins_run (Script 1 (normal []) script) (state_with (args_put (literal "")) out err budget) refl in record { out = b.out; err = b.err }
 args_begin script (name ∷ []) out err budget =
     let b = begins_run (Script 1 (normal []) script) (state_with (args_put name) out err budget) refl in record { out = b.out; err = b.err }
 args_begin script (name ∷ more ∷ others) out err budget = record { out = out_same out; err = out_same err }
@@ -89,13 +91,13 @@ module _ (budget : ℕ) (ws : List (Bor (List ℕ))) (file : Option (Bor (List �
   pub bad_file : (d : Bor (List ℕ)) (bytes : Bor (List ℕ)) → 0 < length ws → file ≡ Some bytes → (IsUtf8 bytes.now → ⊥) → out' ≡ out → Said (not_utf8 (slice_index_or ws 0 d).now) err err' → RunsFile budget (texts ws) (option_map (λ f. f.now) file) 5 out err out' err'
   bad_file d bytes l e bad same says = rw e (λ u. absurd (bad u), λ b. (refl, same, subst (λ name. Said (not_utf8 name) err err') (name_is d ws l) says))
 
-  good_file : (bytes : Bor (List ℕ)) (status : ℕ) → file ≡ Some bytes → IsUtf8 bytes.now → Ran (run_with_args (joined (chars bytes.now)) (map (λ w. chars w.now) ws) out.bytes err.bytes budget) status out err out' err' → RunsFile budget (texts ws) (option_map (λ f. f.now) file) status out err out' err'
-  good_file bytes status e u ran = rw e (λ v. subst (λ args. Ran (run_with_args (joined (chars bytes.now)) args out.bytes err.bytes budget) status out err out' err') (args_are ws) ran, λ bad. absurd (bad u))
+  good_file : (bytes : Bor (List ℕ)) (status : ℕ) → file ≡ Some bytes → IsUtf8 bytes.now → Ran (run_with_args (joined_newlines (chars bytes.now)) (map (λ w. chars w.now) ws) out.bytes err.bytes budget) status out err out' err' → RunsFile budget (texts ws) (option_map (λ f. f.now) file) status out err out' err'
+  good_file bytes status e u ran = rw e (λ v. subst (λ args. Ran (run_with_args (joined_newlines (chars bytes.now)) args out.bytes err.bytes budget) status out err out' err') (args_are ws) ran, λ bad. absurd (bad u))
 
   pub refused_file : (bytes : Bor (List ℕ)) (status : ℕ) → file ≡ Some bytes → IsUtf8 bytes.now → out' ≡ out → status ≡ status_of outcome.Memory → SaidIf (outcome_line outcome.Memory) err err' → RunsFile budget (texts ws) (option_map (λ f. f.now) file) status out err out' err'
-  refused_file bytes status e u same answers says = good_file bytes status e u (ran_nothing (joined (chars bytes.now)) (map (λ w. chars w.now) ws) budget status out err out' err' same answers says)
+  refused_file bytes status e u same answers says = good_file bytes status e u (ran_nothing (joined_newlines (chars bytes.now)) (map (λ w. chars w.now) ws) budget status out err out' err' same answers says)
 
-  pub read_file : (bytes : Bor (List ℕ)) (script : List ℕ) (status : ℕ) (between before : Told) (report : Report) → file ≡ Some bytes → IsUtf8 bytes.now → script ≡ joined (chars bytes.now) → out' ≡ between → Reports report (run_with_args script (map (λ w. chars w.now) ws) out.bytes err.bytes budget) between.bytes before.bytes → RunCounted (λ n. n) (λ n. n) (outcome_is_io report.outcome) out.failed err.failed between.failed before.failed → status ≡ status_of report.outcome → SaidIf (outcome_line report.outcome) before err' → RunsFile budget (texts ws) (option_map (λ f. f.now) file) status out err out' err'
+  pub read_file : (bytes : Bor (List ℕ)) (script : List ℕ) (status : ℕ) (between before : Told) (report : Report) → file ≡ Some bytes → IsUtf8 bytes.now → script ≡ joined_newlines (chars bytes.now) → out' ≡ between → Reports report (run_with_args script (map (λ w. chars w.now) ws) out.bytes err.bytes budget) between.bytes before.bytes → RunCounted (λ n. n) (λ n. n) (outcome_is_io report.outcome) out.failed err.failed between.failed before.failed → status ≡ status_of report.outcome → SaidIf (outcome_line report.outcome) before err' → RunsFile budget (texts ws) (option_map (λ f. f.now) file) status out err out' err'
   read_file bytes script status between before report e u is same h counted answers says =
       let got = run_with_args script (map (λ w. chars w.now) ws) out.bytes err.bytes budget in
       let whole = ran got status out err between before err' report h counted answers says in

@@ -1,6 +1,6 @@
 -- Lines on standard error.
 use Rattle.std.specs.Prelude.{◌≡◌, ℕ, ◌⊎◌, List, ◌++◌, codes, Option, Some, None}
-use Rattle.tcl_chan.specs.Devices.{put, one_more}
+use Rattle.tcl_chan.specs.Devices.{put_behind, one_more}
 use Rattle.tcl_chan.specs.Writing.{WroteFront}
 use Rattle.tcl_shell.specs.declared.lines.Line.{Line}
 use Rattle.tcl_shell.specs.declared.lines.Line.TheVariants as line
@@ -16,7 +16,7 @@ told written failed_calls device = record { bytes = written device; failed = fai
 -- A text goes to an output: all of it, or a beginning of it where a write failed.
 abbrev pub Said : List ℕ → Told → Told → Type 0
 Said text old new =
-    ((new.bytes ≡ put old.bytes text) × (new.failed ≡ old.failed)) ⊎ (WroteFront old.bytes new.bytes text × (new.failed ≡ one_more old.failed))
+    ((new.bytes ≡ put_behind old.bytes text) × (new.failed ≡ old.failed)) ⊎ (WroteFront old.bytes new.bytes text × (new.failed ≡ one_more old.failed))
 
 abbrev pub SaidIf : Option (List ℕ) → Told → Told → Type 0
 SaidIf None old new = new ≡ old
@@ -24,8 +24,8 @@ SaidIf (Some text) old new = Said text old new
 
 -- the lines, with their newlines, in bytes
 
-abbrev pub usage : List ℕ
-usage = codes "usage: tclint ?-budget N? ?file arg ...?\n"
+abbrev pub usage_line : List ℕ
+usage_line = codes "usage: tclint ?-budget N? ?file arg ...?\n"
 
 abbrev pub unreadable : List ℕ → List ℕ
 unreadable name = codes "couldn't read file \"" ++ (name ++ codes "\"\n")
@@ -46,7 +46,7 @@ abbrev pub broken : List ℕ
 broken = codes "read or write failed\n"
 
 abbrev pub line_bytes : Line → List ℕ
-line_bytes line.Usage = usage
+line_bytes line.Usage = usage_line
 line_bytes (line.Unread name) = unreadable name.now
 line_bytes (line.NotUtf8 name) = not_utf8 name.now
 line_bytes (line.Message message) = message_line message.now

@@ -2,8 +2,7 @@
 use Rattle.std.specs.Prelude.{◌≡◌, ℕ, zero, suc, Bool, ◌&&◌, ◌==◌, ℤ, pos, negsuc, List, [], ◌∷◌, drop, map, Option, Some, None, if◌then◌else◌}
 use Rattle.std.specs.Rc.{rc_str_bytes}
 use Rattle.std.specs.Str.{chars, IsUtf8}
-use Rattle.tcl_chars.specs.Characters.{newline}
-use Rattle.tcl_chars.specs.Place.{begins}
+use Rattle.tcl_chan.specs.Newlines.{joined_newlines}
 use Rattle.tcl_meaning.specs.Completions.{Completion}
 use Rattle.tcl_meaning.specs.Effects.{Got}
 use Rattle.tcl_meaning.specs.Run.{run_with_args}
@@ -12,20 +11,8 @@ use Rattle.tcl_interp.specs.Outcome.{Ends, outcome_is_io}
 use Rattle.tcl_interp.specs.Channels.{RunCounted}
 use Rattle.tcl_interp.specs.declared.host.Outcome.{Outcome}
 use Rattle.tcl_interp.specs.declared.host.Outcome.TheVariants as outcome
-use Rattle.tcl_shell.specs.Lines.{Told, Said, SaidIf, usage, unreadable, not_utf8, message_line, budget_spent, out_of_memory, broken}
+use Rattle.tcl_shell.specs.Lines.{Told, Said, SaidIf, usage_line, unreadable, not_utf8, message_line, budget_spent, out_of_memory, broken}
 use Rattle.tcl_shell.specs.declared.words.Request.{Request}
-
-abbrev pub carriage_return : ℕ
-carriage_return = 13
-
--- the CR of a CR LF
-abbrev pub ends_line : ℕ → List ℕ → Bool
-ends_line c cs = c == carriage_return && begins newline cs
-
--- the text of a file as a script: CR LF is read as LF
-unfoldable pub joined : List ℕ → List ℕ
-joined [] = []
-joined (c ∷ cs) = if ends_line c cs then joined cs else c ∷ joined cs
 
 -- the status of a return code
 abbrev pub code_status : ℤ → ℕ
@@ -79,11 +66,11 @@ file_name (name ∷ words) = name
 abbrev pub RunsFile : ℕ → List (List ℕ) → Option (List ℕ) → ℕ → Told → Told → Told → Told → Type 0
 RunsFile budget words None status out err out' err' = Refused (unreadable (file_name words)) status out err out' err'
 RunsFile budget words (Some bytes) status out err out' err' =
-    (IsUtf8 bytes → Ran (run_with_args (joined (chars bytes)) (map chars words) out.bytes err.bytes budget) status out err out' err')
+    (IsUtf8 bytes → Ran (run_with_args (joined_newlines (chars bytes)) (map chars words) out.bytes err.bytes budget) status out err out' err')
     × ((IsUtf8 bytes → ⊥) → Refused (not_utf8 (file_name words)) status out err out' err')
 
 -- What the program does for what its words ask, the words in UTF-8, and its file: the status that it answers, and what
 -- its outputs tell before and after.
 abbrev pub RunsWords : Option Request → List (List ℕ) → Option (List ℕ) → ℕ → Told → Told → Told → Told → Type 0
-RunsWords None words file status out err out' err' = Refused usage status out err out' err'
+RunsWords None words file status out err out' err' = Refused usage_line status out err out' err'
 RunsWords (Some request) words file status out err out' err' = RunsFile request.budget (drop request.file words) file status out err out' err'

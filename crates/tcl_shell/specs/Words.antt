@@ -1,15 +1,19 @@
 -- The program's words: `?-budget N? file`.
-use Rattle.std.specs.Prelude.{ℕ, ◌-◌, ◌^◌, ◌&&◌, nat_lt, Bool, List, [], ◌∷◌, codes, Option, Some, None, if◌then◌else◌}
-use Rattle.std.specs.Str.{all_ascii_digits}
-use Rattle.std.specs.Str.Parse.{digits_value}
-use Rattle.tcl_meaning.specs.Pages.{same_text}
+use Rattle.std.specs.Prelude.{ℕ, ◌-◌, ◌^◌, List, [], ◌∷◌, Option, Some, None, if◌then◌else◌}
+use Rattle.tcl_chars.specs.Texts.{literal, same_text}
+use Rattle.tcl_chars.specs.Whole.{decimal_of}
+use Rattle.tcl_chars.specs.declared.numbers.Decimal.{Decimal}
+use Rattle.tcl_chars.specs.declared.numbers.Decimal.TheVariants as decimal
 use Rattle.tcl_shell.specs.declared.words.Request.{Request}
 
 -- a budget: decimal digits, at most 2^63 - 1
-unfoldable pub budget_of : List ℕ → Option ℕ
-budget_of [] = None
-budget_of (c ∷ cs) =
-    if all_ascii_digits (c ∷ cs) && nat_lt (digits_value 10 (c ∷ cs)) (2 ^ 63) then Some (digits_value 10 (c ∷ cs)) else None
+abbrev pub within_bounds : Decimal → Option ℕ
+within_bounds (decimal.Number n) = Some n
+within_bounds decimal.TooLarge = None
+within_bounds decimal.Not = None
+
+abbrev pub budget_of : List ℕ → Option ℕ
+budget_of word = within_bounds (decimal_of word)
 
 -- the budget of a run for which none is given
 abbrev pub most_budget : ℕ
@@ -26,10 +30,7 @@ budgeted [] = None
 budgeted (number ∷ []) = None
 budgeted (number ∷ file ∷ args) = asks 2 (budget_of number)
 
-abbrev pub is_budget : List ℕ → Bool
-is_budget word = same_text word (codes "-budget")
-
 -- What the words ask, if they are the program's usage.
 unfoldable pub request_of : List (List ℕ) → Option Request
 request_of [] = None
-request_of (word ∷ words) = if is_budget word then budgeted words else asks 0 (Some most_budget)
+request_of (word ∷ words) = if same_text word (literal "-budget") then budgeted words else asks 0 (Some most_budget)

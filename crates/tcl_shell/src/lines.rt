@@ -1,6 +1,6 @@
 //! Lines on standard error.
 ghost use Rattle.std.specs.Prelude.{◌≡◌, ◌++◌, codes, Err, OnOk, OnErr};
-ghost use Rattle.tcl_chan.specs.Devices.{put};
+ghost use Rattle.tcl_chan.specs.Devices.{put_behind};
 ghost use Rattle.tcl_chan.specs.Faults.{write_failures};
 ghost use Rattle.tcl_chan.specs.Worlds.{stdin, stdout, stderr, SameDevices};
 ghost use Rattle.tcl_chan.specs.Writing.{WroteFront};
@@ -39,7 +39,7 @@ fn put_three<R: Input, W: Output, E: Output>(
     second: &str,
     third: &str,
 ) -> Result<(), ChanFault>
-    ensures whole { OnOk result (E.written (stderr world.new) ≡ put (E.written (stderr world.old)) (first.now ++ (second.now ++ third.now))) }
+    ensures whole { OnOk result (E.written (stderr world.new) ≡ put_behind (E.written (stderr world.old)) (first.now ++ (second.now ++ third.now))) }
     ensures front { OnErr result (WroteFront (E.written (stderr world.old)) (E.written (stderr world.new)) (first.now ++ (second.now ++ third.now))) }
     ensures fault { OnErr result (result ≡ Err Write) }
     ensures failures { E.failed_calls (stderr world.new) ≡ write_failures (E.failed_calls (stderr world.old)) result }
@@ -57,7 +57,7 @@ fn put_line<R: Input, W: Output, E: Output>(
     world: &mut World<'_, '_, '_, R, W, E>,
     line: Line<'_>,
 ) -> Result<(), ChanFault>
-    ensures whole { OnOk result (E.written (stderr world.new) ≡ put (E.written (stderr world.old)) (line_bytes line.entry)) }
+    ensures whole { OnOk result (E.written (stderr world.new) ≡ put_behind (E.written (stderr world.old)) (line_bytes line.entry)) }
     ensures front { OnErr result (WroteFront (E.written (stderr world.old)) (E.written (stderr world.new)) (line_bytes line.entry)) }
     ensures fault { OnErr result (result ≡ Err Write) }
     ensures failures { E.failed_calls (stderr world.new) ≡ write_failures (E.failed_calls (stderr world.old)) result }

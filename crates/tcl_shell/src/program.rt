@@ -2,8 +2,9 @@
 ghost use Rattle.std.specs.Prelude.{◌≡◌, ◌<◌, length, map, option_map, IfOk};
 ghost use Rattle.std.specs.Str.{chars};
 ghost use Rattle.std.specs.String.{string_bytes};
+ghost use Rattle.tcl_chan.specs.Newlines.{is_joined_return, joined_newlines};
 ghost use Rattle.tcl_shell.specs.Lines.{told, SaidIf};
-ghost use Rattle.tcl_shell.specs.Program.{RunsWords, RunsFile, ends_line, joined, outcome_line, status_of};
+ghost use Rattle.tcl_shell.specs.Program.{RunsWords, RunsFile, outcome_line, status_of};
 ghost use Rattle.tcl_shell.specs.Words.{request_of};
 
 use crate::lines::{Line, say};
@@ -14,20 +15,21 @@ use tcl_chars::{begins, push, split_first};
 use tcl_interp::{Outcome, Report, run};
 
 // Is the character the CR of a CR LF, where this follows it?
-fn ends_line(c: char, after: &str) -> bool
-    ensures { result ≡ ends_line c (chars after.now) }
+#[tactic(auto, using(crate::proofs::JoinedNewlines::return_is))]
+fn is_joined_return(c: char, after: &str) -> bool
+    ensures { result ≡ is_joined_return c (chars after.now) }
 {
     c == '\r' && begins('\n', after)
 }
 
 // The script of a file: CR LF is read as LF.
 fn joined_lines(alloc: Global, text: &str) -> Result<String, AllocError>
-    ensures { IfOk result (λ script. chars (string_bytes script) ≡ joined (chars text.now)) }
+    ensures { IfOk result (λ script. chars (string_bytes script) ≡ joined_newlines (chars text.now)) }
 {
     let mut script = String::new(alloc);
     let mut rest = text;
     'characters: while let Some((c, after)) = split_first(rest) {
-        if !ends_line(c, after) {
+        if !is_joined_return(c, after) {
             push(&mut script, c)?;
         }
         rest = after;

@@ -1,9 +1,9 @@
 //! The program's words: `?-budget N? file`.
 ghost use Rattle.std.specs.Prelude.{◌≡◌, ◌+◌, ◌<◌, length, map, option_map, IfSome};
 ghost use Rattle.std.specs.Str.{chars};
-ghost use Rattle.tcl_shell.specs.Words.{budget_of, is_budget, budgeted, request_of};
+ghost use Rattle.tcl_shell.specs.Words.{budget_of, budgeted, request_of};
 
-use tcl_chars::begins;
+use tcl_chars::{Decimal, is_text, read_decimal};
 
 // The greatest budget.
 const MOST_BUDGET: u64 = 0x7fff_ffff_ffff_ffff;
@@ -21,21 +21,10 @@ pub(crate) struct Request {
 fn read_budget(word: &str) -> Option<u64>
     ensures { result ≡ budget_of (chars word.now) }
 {
-    if begins('+', word) {
-        return None;
+    match read_decimal(word) {
+        Decimal::Number(budget) => Some(budget),
+        Decimal::TooLarge | Decimal::Not => None,
     }
-    match word.parse::<u64>() {
-        Ok(budget) if budget <= MOST_BUDGET => Some(budget),
-        _ => None,
-    }
-}
-
-// Is the word the option for a budget?
-#[tactic(auto, using(tcl_chars::proofs::Same::eq_by_chars))]
-fn is_budget(word: &str) -> bool
-    ensures { result ≡ is_budget (chars word.now) }
-{
-    word == "-budget"
 }
 
 // What the words behind `-budget` ask.
@@ -61,7 +50,7 @@ pub(crate) fn read_request(words: &[&str]) -> Option<Request>
     let [first, others @ ..] = words else {
         return None;
     };
-    if is_budget(first) {
+    if is_text(first, "-budget") {
         return read_budgeted(others);
     }
     Some(Request {

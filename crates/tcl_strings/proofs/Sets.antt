@@ -1,5 +1,5 @@
 -- A set, a range or a character at a time.
-use Rattle.std.proofs.Common.{◌≡◌, ℕ, ◌==◌, Bool, true, false, ◌||◌, List, [], ◌∷◌, Option, Some, None, sym, ap, ◌∙◌, refl, inl, inr}
+use Rattle.std.proofs.Common.{◌≡◌, ℕ, suc, ◌==◌, ◌≤◌, Bool, true, false, ◌||◌, List, [], ◌∷◌, length, Option, Some, None, sym, ap, ◌∙◌, refl, arith, inl, inr}
 use Rattle.std.proofs.lemmas.Bool.{cases_Bool, cond-true, cond-false, cond_both}
 use Rattle.tcl_chars.specs.Place.{EndsWith}
 use Rattle.tcl_chars.specs.Characters.{close_bracket}
@@ -11,26 +11,41 @@ or_false : (b : Bool) → b ≡ (b || false)
 or_false true = refl
 or_false false = refl
 
-pub with_range : (x y c : ℕ) (cs rest : List ℕ) → range_end cs ≡ Some (y, rest) → in_set (x ∷ cs) c ≡ (is_between x y c || in_set rest c)
-with_range x y c [] rest e = absurd cc
-with_range x y c (d ∷ []) rest e = absurd cc
-with_range x y c (d ∷ z ∷ cs) rest e =
+no_some : {A B : Type 0} (b : B) → None ≡ Some b → A
+no_some b e = absurd cc
+
+some_no : {A B : Type 0} (b : B) → Some b ≡ None → A
+some_no b e = absurd cc
+
+some_same : {B : Type 0} (a b : B) → Some a ≡ Some b → a ≡ b
+some_same a b e = cc
+
+pub with_range : (x c : ℕ) (cs : List ℕ) (r : ℕ × List ℕ) → range_end cs ≡ Some r → in_set (x ∷ cs) c ≡ (is_between x r.0 c || in_set r.1 c)
+with_range x c [] r e = no_some r e
+with_range x c (d ∷ []) r e = no_some r e
+with_range x c (d ∷ z ∷ cs) r e =
     elim (cases_Bool (d == minus)) [
-      | inl t ↦ let p : Some (z, cs) ≡ Some (y, rest) = sym (cond-true _ _ _ t) ∙ e in cond-true _ _ _ t ∙ same p
-      | inr f ↦ let p : None ≡ Some (y, rest) = sym (cond-false _ _ _ f) ∙ e in absurd cc
+      | inl t ↦ cond-true _ _ _ t ∙ ap (λ (p : ℕ × List ℕ). is_between x p.0 c || in_set p.1 c) (some_same (z, cs) r (sym (cond-true _ _ _ t) ∙ e))
+      | inr f ↦ no_some r (sym (cond-false _ _ _ f) ∙ e)
     ]
-  where
-    same : Some (z, cs) ≡ Some (y, rest) → (is_between x z c || in_set cs c) ≡ (is_between x y c || in_set rest c)
-    same p = let q : z ≡ y = cc in let r : cs ≡ rest = cc in rw (q, r) refl
 
 pub without_range : (x c : ℕ) (cs : List ℕ) → range_end cs ≡ None → in_set (x ∷ cs) c ≡ ((x == c) || in_set cs c)
 without_range x c [] e = or_false (x == c)
 without_range x c (d ∷ []) e = refl
 without_range x c (d ∷ z ∷ cs) e =
     elim (cases_Bool (d == minus)) [
-      | inl t ↦ let p : Some (z, cs) ≡ None = sym (cond-true _ _ _ t) ∙ e in absurd cc
+      | inl t ↦ some_no (z, cs) (sym (cond-true _ _ _ t) ∙ e)
       | inr f ↦ cond-false _ _ _ f
     ]
+
+pub range_shorter : (cs : List ℕ) (r : ℕ × List ℕ) → Some r ≡ range_end cs → length r.1 ≤ length cs
+range_shorter [] r e = some_no r e
+range_shorter (d ∷ []) r e = some_no r e
+range_shorter (d ∷ z ∷ cs) r e =
+    cond_both (d == minus) _ _ (λ (o : Option (ℕ × List ℕ)). Some r ≡ o → length r.1 ≤ length (d ∷ z ∷ cs)) (λ _ p. within r (z, cs) p) (λ _ p. some_no r p) e
+  where
+    within : (a b : ℕ × List ℕ) → Some a ≡ Some b → length a.1 ≤ suc (suc (length b.1))
+    within a b p = omega (arith, ap (λ (q : ℕ × List ℕ). length q.1) (some_same a b p))
 
 pub ends_at_bracket : (cs : List ℕ) → EndsWith cs (to_bracket cs)
 ends_at_bracket [] = ends_self []

@@ -28,7 +28,11 @@ fn range_end(text: &str) -> Option<(char, &str)>
 {
     let (dash, behind) = split_first(text)?;
     let (last, after) = split_first(behind)?;
-    if dash == '-' { Some((last, after)) } else { None }
+    if dash == '-' {
+        Some((last, after))
+    } else {
+        None
+    }
 }
 
 /// Is the character in a set?
@@ -57,7 +61,7 @@ fn in_set(set: &str, c: char) -> bool
 
 /// Does the part take the character?
 fn takes(part: Part<'_>, c: char) -> bool
-    ensures { result ≡ spec.takes (one_of_part part) c }
+    ensures { result ≡ spec.takes (one_of_part part.entry) c }
 {
     match part {
         Part::Any => true,
@@ -111,17 +115,18 @@ fn fit<'p, 't>(pattern: &'p str, text: &'t str) -> Option<(&'p str, &'t str)>
             return Some((pattern, text));
         }
         let (part, next) = first_part(first, behind);
-        let (c, after) = split_first(text)?;
+        let Some((c, after)) = split_first(text) else {
+            return None;
+        };
         if !takes(part, c) {
             return None;
         }
         pattern = next;
         text = after;
     }
-    if text.is_empty() {
-        Some((pattern, text))
-    } else {
-        None
+    match split_first(text) {
+        Some(_) => None,
+        None => Some((pattern, text)),
     }
 }
 
@@ -132,8 +137,8 @@ fn first_fit<'p, 't>(pattern: &'p str, text: &'t str) -> Option<(&'p str, &'t st
 {
     let mut rest = text;
     'places: loop {
-        if let Some(found) = fit(pattern, rest) {
-            return Some(found);
+        if let Some((next, left)) = fit(pattern, rest) {
+            return Some((next, left));
         }
         let (_, after) = split_first(rest)?;
         rest = after;

@@ -1,5 +1,5 @@
 -- The text in a bracket, read alone, has the same commands as inside.
-use Rattle.std.proofs.Common.{◌≡◌, ℕ, zero, suc, ◌+◌, ◌≤◌, Bool, true, false, ◌&&◌, ◌==◌, List, [], ◌∷◌, length, drop, Option, None, Result, Ok, Err, refl, sym, ap, subst, ◌∙◌, arith, inl, inr, ◌⊎◌}
+use Rattle.std.proofs.Common.{◌≡◌, ℕ, zero, suc, ◌+◌, ◌≤◌, Bool, true, false, ◌&&◌, ◌==◌, List, [], ◌∷◌, ◌++◌, length, drop, Option, None, Result, Ok, Err, refl, sym, ap, subst, ◌∙◌, arith, inl, inr, ◌⊎◌}
 use Rattle.std.specs.Prelude.{IfOk}
 use Rattle.std.proofs.lemmas.Bool.{cases_Bool, true≢false, eqb-true}
 use Rattle.std.proofs.lemmas.List.{nil_from_length}
@@ -16,7 +16,6 @@ use Rattle.tcl_words.specs.declared.front.Mode.{Mode}
 use Rattle.tcl_words.specs.declared.front.Mode.TheVariants as mode
 use Rattle.tcl_words.specs.declared.word.Form.{Form}
 use Rattle.tcl_words.specs.declared.word.Form.TheVariants as form
-use Rattle.tcl_words.specs.Laws.{BracketAlone}
 use Rattle.tcl_words.specs.Parts.{Part, Shape, parts_of, var, bracket}
 use Rattle.tcl_words.specs.Words.{after_blanks, after_gaps, ends_word, after_name, kind_of, after_plain, at_variable_brace, at_brace, verbatim_at, braced_at, stretch, marked, form_of, closed, after_command, Inner, named, variable_at, bracket_at, piece_of, piece_at, pieces_at, quoted_at, word_of, word_at, next_word, words_at, first_at, commands_at, after_commands, closing, index_of, inner_at}
 use Rattle.tcl_words.proofs.Bracketed.{closed_by, behind, length_closed, place_alone, before_alone, stretch_alone, same_cond, and_false, ends_word_alone, Stays, name_alone, blanks_alone, gaps_alone, CutScan, variable_brace_alone, brace_alone, escape_alone}
@@ -366,9 +365,12 @@ inner_nests n y (suc levels) (suc more) le =
       index = λ t. index_rest y (pieces_at big (inner_at big levels) mode.Index (closed_by t y)) (pieces_at n (inner_at n more) mode.Index t) (index_alone n y (inner_at big levels) (inner_at n more) inside inside_alone below t);
     }
 
-pub bracket_alone : BracketAlone
+-- where as much may nest
+pub script_alone : (size levels more : ℕ) (script rest : List ℕ) (commands : List (List Shape)) → levels ≤ more
+    → (let whole = size + bytes (close_bracket ∷ rest) in commands_at whole (inner_at whole levels) true (script ++ close_bracket ∷ rest) ≡ Ok (commands, close_bracket ∷ rest))
+    → commands_at size (inner_at size more) false script ≡ Ok (commands, [])
 unfolding commands_at
-bracket_alone n levels more t y cs le e =
+script_alone n levels more t y cs le e =
     let big = n + bytes (close_bracket ∷ y) in
     let cut = commands_alone n y (inner_at big levels) (inner_at n more) (inner_inside big levels) (inner_inside n more) (inner_nests n y levels more le) false t in
     let (s, e1, e2) = of_cut y (Clear false y) (all_turns (first_at big (inner_at big levels) true) (closed_by t y)) (all_turns (first_at n (inner_at n more) false) t) (cs, close_bracket ∷ y) cut e (omega arith) (λ off here. omega arith) in

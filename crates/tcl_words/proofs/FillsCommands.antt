@@ -22,7 +22,7 @@ use Rattle.tcl_words.proofs.Longer.{some, firm, blanks_longer, gaps_longer, ends
 use Rattle.tcl_words.proofs.LongerPieces.{firm_some}
 use Rattle.tcl_words.proofs.LongerTurns.{Over}
 use Rattle.tcl_words.proofs.LongerWords.{Mere, mere_colon, mere_backslash, mere, mere_open, inner_nested, next_kept}
-use Rattle.tcl_words.proofs.Written.{OneWord, next_written}
+use Rattle.tcl_words.proofs.ReadIsSpelled.{next_ends, nest_spelled}
 
 -- ---- what a step says of what it read
 
@@ -229,8 +229,8 @@ module _ (n levels : ℕ) (below : Filled n levels) where
   some_ends : (nested : Bool) (t : List ℕ) (x : Shape) (rest : List ℕ) → next_word n inner nested t ≡ Ok (Some x, rest) → firm rest ≡ false → rest ≡ []
   some_ends nested t x [] e h = refl
   some_ends nested t x (c ∷ rest) e h =
-      let written = if_ok (λ u. OneWord nested t u.0 u.1) (next_word n inner nested t) (Some x, c ∷ rest) (next_written n levels nested t) e in
-      absurd (true≢false (sym written.3 ∙ mere_open nested (c ∷ rest) (mere (c ∷ rest) h refl)))
+      let stop : ends_word nested (c ∷ rest) ≡ true = next_ends n levels (nest_spelled n levels) nested t (c ∷ rest) x e in
+      absurd (true≢false (sym stop ∙ mere_open nested (c ∷ rest) (mere (c ∷ rest) h refl)))
 
   words_turn : (nested : Bool) (t : List ℕ) → Over (words_at n inner nested t) → ((rest : List ℕ) → length rest < length t → Over (words_at n inner nested rest) → WordsFill nested rest)
       → (r : Result (Option Shape × List ℕ) Syntax) → next_word n inner nested t ≡ r → WordsFill nested t

@@ -10,7 +10,6 @@ use Rattle.tcl_words.specs.declared.fault.Syntax.{Syntax}
 use Rattle.tcl_words.specs.declared.fault.Syntax.TheVariants.{TooDeep}
 use Rattle.tcl_words.specs.declared.front.Mode.TheVariants as mode
 use Rattle.tcl_words.specs.Complete.{is_open}
-use Rattle.tcl_words.specs.Laws.{texts}
 use Rattle.tcl_words.specs.Parts.{Part, Parts, Shape}
 use Rattle.tcl_words.specs.Words.{after_gaps, ends_word, after_command, Inner, inner_at, pieces_at, words_at, first_at, commands_at, after_commands, closing, index_of}
 use Rattle.tcl_words.proofs.Ends.{forward_shrinks, if_ok}
@@ -22,7 +21,8 @@ use Rattle.tcl_words.proofs.Forward.{first_forward, inner_inside}
 use Rattle.tcl_words.proofs.Longer.{some, firm, gaps_longer, ends_longer}
 use Rattle.tcl_words.proofs.LongerTurns.{Kept, Over}
 use Rattle.tcl_words.proofs.LongerWords.{inner_nested, words_kept, words_over, command_longer}
-use Rattle.tcl_words.proofs.Written.{pieces_text}
+use Rattle.tcl_words.proofs.ReadIsSpelled.{pieces_end_there, pieces_spelled, nest_spelled}
+use Rattle.tcl_words.specs.Spelling.{Pieces}
 
 -- an end put to what fills up
 ended : (t more z : List ℕ) (c : ℕ) → t ++ (more ++ c ∷ z) ≡ t ++ ((more ++ c ∷ []) ++ z)
@@ -166,7 +166,7 @@ module _ (n levels : ℕ) (below : Filled n levels) where
   pub index_calmly : (t w : List ℕ) (big : ℕ) → Calmly w (pieces_at n inner mode.Index t >>= λ found. Ok (index_of found)) (pieces_at big (long big) mode.Index (t ++ w) >>= λ found. Ok (index_of found))
   index_calmly t w big =
       index_whole w t (pieces_at n inner mode.Index t) (pieces_at big (long big) mode.Index (t ++ w))
-      (λ ps rest e. (if_ok (λ x. (t ≡ texts x.0 ++ x.1) × (begins close_paren x.1 ≡ true)) (pieces_at n inner mode.Index t) (ps, rest) (pieces_text n levels mode.Index t) e).1)
+      (λ ps rest e. pieces_end_there n levels (begins close_paren) t ps rest (if_ok (λ x. Pieces n levels (begins close_paren) t x.0 x.1) (pieces_at n inner mode.Index t) (ps, rest) (pieces_spelled n levels (nest_spelled n levels) mode.Index t) e))
       (long_pieces n levels below big w t mode.Index)
 
 too_deep : {A : Type 0} (f : Syntax) → (let r : Result A Syntax = Err TooDeep in r ≡ Err f) → is_open f ≡ true → ⊥

@@ -3,11 +3,12 @@ use Rattle.std.proofs.Common.{◌≡◌, ℕ, Bool, true, false, ◌==◌, List,
 use Rattle.std.proofs.lemmas.Bool.{cases_Bool, eqb-true, true≢false}
 use Rattle.std.proofs.lemmas.List.{append-nil}
 use Rattle.tcl_chars.specs.Characters.{newline}
+use Rattle.tcl_chars.specs.Place.{begins}
 use Rattle.tcl_words.specs.declared.blanks.Gap.TheVariants as gap
 use Rattle.tcl_words.specs.declared.fault.Syntax.{Syntax}
 use Rattle.tcl_words.specs.Complete.{is_open}
-use Rattle.tcl_words.specs.First.{First, first, first_of, malformed}
-use Rattle.tcl_words.specs.Fronts.{Hangs, FaultStays, is_well, GoesOn, Always, OpenGoesOn, FaultAtFront}
+use Rattle.tcl_words.specs.First.{First, first, first_of, none, malformed, command}
+use Rattle.tcl_words.specs.Fronts.{Hangs}
 use Rattle.tcl_words.specs.Parts.{Shape}
 use Rattle.tcl_words.specs.Words.{after_gaps, ends_word, words_at, first_at, inner_at}
 use Rattle.tcl_words.proofs.Fills.{LeavesSome}
@@ -20,12 +21,26 @@ use Rattle.tcl_words.proofs.LongerWords.{fault_kept}
 use Rattle.tcl_words.proofs.Newlines.{Still}
 use Rattle.tcl_words.proofs.NewlinesWords.{first_still, nested_still}
 
-was_malformed : (r : Result (Option (List Shape) × List ℕ) Syntax) (m : Syntax) → first_of r ≡ malformed m → r ≡ Err m
+-- ---- the laws of fronts, said of what is read
+
+abbrev pub is_well : First → Bool
+is_well (none rest) = true
+is_well (malformed m) = false
+is_well (command words rest) = true
+
+abbrev pub GoesOn : ℕ → Bool → List ℕ → Type 0
+GoesOn levels nested cs = (more : List ℕ) × ((size : ℕ) → is_well (first size levels nested (cs ++ more)) ≡ true)
+
+abbrev pub Always : ℕ → Bool → Syntax → List ℕ → Type 0
+Always levels nested m cs = (size : ℕ) (more : List ℕ) → first size levels nested (cs ++ more) ≡ malformed m
+
+pub was_malformed : (r : Result (Option (List Shape) × List ℕ) Syntax) (m : Syntax) → first_of r ≡ malformed m → r ≡ Err m
 was_malformed (Err f) m e = cc
 was_malformed (Ok (None, rest)) m e = absurd cc
 was_malformed (Ok (Some words, rest)) m e = absurd cc
 
-pub fault_stays : FaultStays
+pub fault_stays : (size longer levels : ℕ) (nested : Bool) (cs more : List ℕ) (m : Syntax) → is_open m ≡ false → first size levels nested cs ≡ malformed m
+    → (first longer levels nested (cs ++ more) ≡ malformed m) ⊎ ((begins newline more ≡ true) × Hangs m cs)
 unfolding first
 fault_stays size longer levels nested cs more m shut e = elim (fault_kept size longer levels nested cs more m (was_malformed _ m e) shut) [
   | inl same ↦ inl (ap first_of same)
@@ -47,7 +62,7 @@ open_goes size levels nested cs m o e =
     let (more, fills) = first_open size levels (filled size levels) nested cs m (was_malformed _ m e) o in
     (more ++ 59 ∷ [], λ big. well_some _ (first_at big (inner_at big levels) nested (cs ++ (more ++ 59 ∷ []))) (fills big 59 [] (at_semicolon nested)))
 
-pub open_goes_on : OpenGoesOn
+pub open_goes_on : (size levels : ℕ) (nested : Bool) (cs : List ℕ) (m : Syntax) → is_open m ≡ true → first size levels nested cs ≡ malformed m → (front rest : List ℕ) → cs ≡ front ++ rest → GoesOn levels nested front
 open_goes_on size levels nested cs m o e front rest joined = goes_back levels nested front rest (subst (GoesOn levels nested) joined (open_goes size levels nested cs m o e))
 
 -- a text whose last character is a newline doesn't end in a backslash
@@ -173,7 +188,9 @@ front_fault size levels nested cs before rest c m k joined always e =
     let there : first size levels nested cs ≡ malformed k = ap (first size levels nested) (joined ∙ sym (append_assoc before (c ∷ []) rest)) ∙ always size rest in
     fault_of (sym there ∙ e)
 
-pub fault_at_front : FaultAtFront
+pub fault_at_front : (size levels : ℕ) (nested : Bool) (cs : List ℕ) (m : Syntax) → is_open m ≡ false → first size levels nested cs ≡ malformed m
+    → ((before : List ℕ) × (c : ℕ) × (rest : List ℕ) × (cs ≡ before ++ c ∷ rest) × GoesOn levels nested before × Always levels nested m (before ++ c ∷ []))
+    ⊎ (Hangs m cs × GoesOn levels nested cs)
 fault_at_front size levels nested cs m shut e = elim (walk levels nested [] cs (empty_goes levels nested)) [
   | inl (k, before, c, rest, joined, goes, always) ↦
       let same : k ≡ m = front_fault size levels nested cs before rest c m k joined always e in

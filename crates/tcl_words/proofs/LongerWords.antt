@@ -12,7 +12,7 @@ use Rattle.tcl_words.specs.declared.word.Form.{Form}
 use Rattle.tcl_words.specs.declared.word.Form.TheVariants as form
 use Rattle.tcl_words.specs.Complete.{is_open}
 use Rattle.tcl_words.specs.Fronts.{Hangs}
-use Rattle.tcl_words.specs.Laws.{texts}
+use Rattle.tcl_words.specs.Spelling.{Pieces}
 use Rattle.tcl_words.specs.Parts.{Part, Shape, parts_of}
 use Rattle.tcl_words.specs.Words.{after_blanks, after_gaps, ends_word, at_brace, braced_at, form_of, closed, after_command, Inner, pieces_at, quoted_at, word_of, word_at, next_word, words_at, first_at, commands_at, after_commands, closing, index_of, inner_at}
 use Rattle.tcl_words.proofs.Bracketed.{same_cond}
@@ -22,7 +22,7 @@ use Rattle.tcl_words.proofs.Forward.{Inside, blanks_end, gaps_end, word_forward,
 use Rattle.tcl_words.proofs.Longer.{some, firm, blanks_longer, gaps_longer, ends_longer}
 use Rattle.tcl_words.proofs.LongerPieces.{KeptScan, Nested, inside_fine, braced_kept, pieces_kept, pieces_over, quoted_kept, tail_kept, tail_loose}
 use Rattle.tcl_words.proofs.LongerTurns.{Same, Kept, KeptTurn, Over, Loose, true_not_false, loose_kept, over_turn, kept_lift, turn_lift, same_bind, bind_kept, some_turn, Goes, turns_over, turns_kept}
-use Rattle.tcl_words.proofs.Written.{braced_text, quoted_text}
+use Rattle.tcl_words.proofs.ReadIsSpelled.{BracedText, braced_spelled, quoted_spelled, pieces_front, nest_spelled}
 
 -- ---- where a word ends
 
@@ -115,13 +115,14 @@ module _ (n big levels : ℕ) (y : List ℕ) (nests : Nested y (inner_at n level
 
   braced_hangs : (c : ℕ) (t : List ℕ) (p : List Part × List ℕ) → braced_at n (c ∷ t) ≡ Ok p → p.1 ≡ 92 ∷ [] → Hangs AfterBrace (c ∷ t)
   braced_hangs c t p e same =
-      let joined = if_ok (λ x. t ≡ texts x.0 ++ 125 ∷ x.1) (braced_at n (c ∷ t)) p (braced_text n (c ∷ t)) e in
-      (c ∷ texts p.0, 125, refl, ap (λ (r : List ℕ). c ∷ r) joined ∙ ap (λ (r : List ℕ). c ∷ texts p.0 ++ 125 ∷ r) same)
+      let (inside_, joined, b, i) = if_ok (BracedText n t) (braced_at n (c ∷ t)) p (braced_spelled n (c ∷ t)) e in
+      (c ∷ inside_, 125, refl, ap (λ (r : List ℕ). c ∷ r) joined ∙ ap (λ (r : List ℕ). c ∷ inside_ ++ 125 ∷ r) same)
 
   quoted_hangs : (c : ℕ) (t : List ℕ) (p : List Part × List ℕ) → quoted_at n inner (c ∷ t) ≡ Ok p → p.1 ≡ 92 ∷ [] → Hangs AfterQuote (c ∷ t)
   quoted_hangs c t p e same =
-      let joined = if_ok (λ x. t ≡ texts x.0 ++ 34 ∷ x.1) (quoted_at n inner (c ∷ t)) p (quoted_text n levels (c ∷ t)) e in
-      (c ∷ texts p.0, 34, refl, ap (λ (r : List ℕ). c ∷ r) joined ∙ ap (λ (r : List ℕ). c ∷ texts p.0 ++ 34 ∷ r) same)
+      let k = if_ok (λ x. Pieces n levels (begins quote) t x.0 (34 ∷ x.1)) (quoted_at n inner (c ∷ t)) p (quoted_spelled n levels (nest_spelled n levels) (c ∷ t)) e in
+      let f = pieces_front n levels (begins quote) t p.0 (34 ∷ p.1) k in
+      (c ∷ f.front, 34, refl, ap (λ (r : List ℕ). c ∷ r) f.joined ∙ ap (λ (r : List ℕ). c ∷ f.front ++ 34 ∷ r) same)
 
   inside : Inside inner
   inside = inner_inside n levels

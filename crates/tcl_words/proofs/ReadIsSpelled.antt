@@ -19,16 +19,13 @@ use Rattle.tcl_words.specs.declared.front.Mode.{Mode}
 use Rattle.tcl_words.specs.declared.front.Mode.TheVariants as mode
 use Rattle.tcl_words.specs.declared.word.Form.{Form}
 use Rattle.tcl_words.specs.declared.word.Form.TheVariants as form
-use Rattle.tcl_words.specs.Laws.{mark}
 use Rattle.tcl_words.specs.Parts.{Stretch, Part, Parts, parts_of, text, escape, var, elem_, bracket, Shape}
 use Rattle.tcl_words.specs.Spelling.{Stands, Blanks, Separators, CommandEnd, ends_script, ends_word, IsLongestName, begins_name, begins_variable, stands_for_itself, lacks, Balanced, Inside, Piece, Pieces, Body, Word, Words, Command, Commands, NoCommand}
 use Rattle.tcl_words.specs.Words.{after_blanks, after_gaps, after_name, after_plain, after_command, at_variable_brace, at_brace, begins_hidden_newline, verbatim_at, braced_at, kind_of, ends_pieces, marked, form_of, closed as closed_word, stretch, Inner, inner_at, named, variable_at, bracket_at, piece_of, piece_at, pieces_at, quoted_at, word_of, word_at, next_word, words_at, first_at, commands_at, after_commands, closing, index_of}
 use Rattle.tcl_words.proofs.Bracketed.{and_false}
-use Rattle.tcl_words.proofs.Ends.{ends_self, ends_more, ends_trans, ends_tail, ends_drop, if_cond, if_bind, if_weak, if_both, always, forward_shrinks}
+use Rattle.tcl_words.proofs.Ends.{ends_self, ends_more, ends_trans, ends_tail, ends_drop, if_cond, if_bind, if_weak, if_both, if_ok, forward_shrinks}
 use Rattle.tcl_words.proofs.Forward.{plain_end, name_end, verbatim_end, verbatim_forward, piece_forward, word_forward, first_forward, inner_inside, named_end, variable_brace_end}
 use Rattle.tcl_words.proofs.ScansSpelled.{one_is, two_are, blanks_spelled, gaps_spelled, run_spelled, name_spelled, no_name_here, variable_brace_spelled, VariableSpelled, braces_spelled, hidden_spelled}
-use Rattle.tcl_words.proofs.Tiles.{cut_at}
-use Rattle.tcl_words.proofs.Written.{headed, marked_text}
 
 -- ---- turns
 
@@ -66,6 +63,14 @@ pub front_is : (cs front rest : List ℕ) → cs ≡ front ++ rest → before cs
 front_is cs front rest e =
     let k : length front ≡ length cs - length rest = omega (arith, ap length e, length-append front rest) in
     ap (take (length cs - length rest)) e ∙ take_at front rest (length cs - length rest) k
+
+-- a text is what stands before its end, and the end
+pub cut_at : (cs rest : List ℕ) → EndsWith cs rest → cs ≡ before cs rest ++ rest
+cut_at cs rest e = e.joined ∙ ap (λ t. t ++ rest) (sym (front_is cs e.front rest e.joined))
+
+pub headed : (c : ℕ) (cs : List ℕ) → begins c cs ≡ true → cs ≡ c ∷ tail cs
+headed c [] h = absurd cc
+headed c (d ∷ cs) h = ap (λ x. x ∷ cs) (eqb-true d c h)
 
 pub stands : (size : ℕ) (cs rest : List ℕ) → EndsWith cs rest → Stands size cs (stretch size cs rest) rest
 stands size cs rest e = record { start = refl; joined = cut_at cs rest e }
@@ -105,7 +110,7 @@ verbatim_turn size (c ∷ cs) = elim (cases_Bool (begins_hidden_newline (c ∷ c
 inside_spelled : (size : ℕ) (cs : List ℕ) → IfOk (all_turns (verbatim_at size) cs) (λ x. Inside size cs x.0)
 inside_spelled size cs = turns_give (λ ds ps rest. Inside size ds ps) (verbatim_at size) cs (forward_shrinks (verbatim_at size) (verbatim_forward size)) (verbatim_turn size)
 
-abbrev BracedText : ℕ → List ℕ → List Part × List ℕ → Type 0
+abbrev pub BracedText : ℕ → List ℕ → List Part × List ℕ → Type 0
 BracedText size cs x = (inside : List ℕ) × (cs ≡ inside ++ close_brace ∷ x.1) × Balanced inside × Inside (place size (close_brace ∷ x.1)) inside x.0
 
 braced_text : (size : ℕ) (cs inside close rest : List ℕ) (ps : List Part) → Balanced inside → cs ≡ inside ++ close → close ≡ close_brace ∷ rest → Inside (place size close) (before cs close) ps → BracedText size cs (ps, tail close)
@@ -122,7 +127,7 @@ braced_spelled size cs =
 
 -- ---- what stands in front
 
-abbrev KindIs : Kind → Bool → Bool → Bool → Bool → Type 0
+abbrev pub KindIs : Kind → Bool → Bool → Bool → Bool → Type 0
 KindIs kind.Ends x y z v = x ≡ true
 KindIs kind.Open x y z v = ⊥
 KindIs kind.Backslashed x y z v = (x ≡ false) × (y ≡ true)
@@ -130,7 +135,7 @@ KindIs kind.Opening x y z v = (x ≡ false) × (z ≡ true)
 KindIs kind.Variable x y z v = (x ≡ false) × (v ≡ true)
 KindIs kind.Plain x y z v = (x ≡ false) × ((not x && not y && not z && not v) ≡ true)
 
-kind_facts : (x y z v : Bool) → KindIs (cond x kind.Ends (cond y kind.Backslashed (cond z kind.Opening (cond v kind.Variable kind.Plain)))) x y z v
+pub kind_facts : (x y z v : Bool) → KindIs (cond x kind.Ends (cond y kind.Backslashed (cond z kind.Opening (cond v kind.Variable kind.Plain)))) x y z v
 kind_facts true y z v = refl
 kind_facts false true z v = (refl, refl)
 kind_facts false false true v = (refl, refl)
@@ -142,6 +147,23 @@ kind_facts false false false false = (refl, refl)
 pub pieces_end_there : (size levels : ℕ) (ends : List ℕ → Bool) (cs : List ℕ) (ps : List Part) (rest : List ℕ) → Pieces size levels ends cs ps rest → ends rest ≡ true
 pieces_end_there size _ _ _ _ _ (Pieces.done levels ends rest e) = e
 pieces_end_there size _ _ _ _ _ (Pieces.piece levels ends cs p after ps rest e q k) = pieces_end_there size levels ends after ps rest k
+
+-- a piece, and pieces, are the front of their text
+piece_front : (size levels : ℕ) (ends : List ℕ → Bool) (cs : List ℕ) (p : Part) (rest : List ℕ) → Piece size levels ends cs p rest → EndsWith cs rest
+piece_front size _ _ _ _ _ (Piece.plain levels ends cs s rest r w) = record { front = s.text; joined = w.joined }
+piece_front size _ _ _ _ _ (Piece.escaped levels ends cs s rest r w) = record { front = s.text; joined = w.joined }
+piece_front size _ _ _ _ _ (Piece.variable levels ends cs s name rest b l p n w) = record { front = s.text; joined = w.joined }
+piece_front size _ _ _ _ _ (Piece.braced_variable levels ends cs s name rest l n w) = record { front = s.text; joined = w.joined }
+piece_front size _ _ _ _ _ (Piece.element levels k ends cs s name index ps rest v l n i w) = record { front = s.text; joined = w.joined }
+piece_front size _ _ _ _ _ (Piece.script levels k ends cs s inside commands rest v n c w) = record { front = s.text; joined = w.joined }
+
+pub pieces_front : (size levels : ℕ) (ends : List ℕ → Bool) (cs : List ℕ) (ps : List Part) (rest : List ℕ) → Pieces size levels ends cs ps rest → EndsWith cs rest
+pieces_front size _ _ _ _ _ (Pieces.done levels ends rest e) = ends_self rest
+pieces_front size _ _ _ _ _ (Pieces.piece levels ends cs p after ps rest e q k) = ends_trans cs after rest (piece_front size levels ends cs p after q) (pieces_front size levels ends after ps rest k)
+
+word_end_there : (size levels : ℕ) (nested : Bool) (cs : List ℕ) (w : Shape) (rest : List ℕ) → Word size levels nested cs w rest → ends_word nested rest ≡ true
+word_end_there size _ _ _ _ _ (Word.without_mark levels nested cs f ps rest b stop) = stop
+word_end_there size _ _ _ _ _ (Word.behind_mark levels nested cs f ps rest goes_on b stop) = stop
 
 pub commands_end_there : (size levels : ℕ) (nested : Bool) (cs : List ℕ) (wss : List (List Shape)) (rest : List ℕ) → Commands size levels nested cs wss rest → ends_script nested rest ≡ true
 commands_end_there size _ _ _ _ _ (Commands.separators_alone levels nested cs rest s e) = e
@@ -176,7 +198,7 @@ blanks_passed (c ∷ d ∷ cs) = elim (cases_Bool (is_word_space c)) [
   ]
 ]
 
-gaps_passed : (g : Gap) (cs : List ℕ) → begins_gap (after_gaps g cs) ≡ false
+pub gaps_passed : (g : Gap) (cs : List ℕ) → begins_gap (after_gaps g cs) ≡ false
 unfolding after_gaps
 gaps_passed gap.Between [] = refl
 gaps_passed (gap.Comment h) [] = refl
@@ -228,7 +250,7 @@ script_end : (nested : Bool) (cs : List ℕ) → ends_word nested cs ≡ true �
 script_end nested [] e n = refl
 script_end nested (c ∷ cs) e n = script_end_by (is_word_space c) (c == newline) (c == semicolon) (nested && c == close_bracket) (c == backslash && begins newline cs) (c == number_sign) e n
 
-no_comment : (cs : List ℕ) → begins_gap cs ≡ false → begins number_sign cs ≡ false
+pub no_comment : (cs : List ℕ) → begins_gap cs ≡ false → begins number_sign cs ≡ false
 no_comment [] n = refl
 no_comment (c ∷ cs) n = last_false (is_word_space c || c == newline || c == semicolon || (c == backslash && begins newline cs)) (c == number_sign) n
   where
@@ -251,17 +273,17 @@ begins_named (c ∷ cs) b o p = elim (cases_Bool (begins_name (c ∷ cs))) [
       or_cases (begins_name (c ∷ cs)) (c == open_brace) (or_cases (begins_name (c ∷ cs) || c == open_brace) (c == open_paren) b here) o
 ]
 
-longest_before : (cs : List ℕ) → IsLongestName cs (before cs (after_name false cs))
+pub longest_before : (cs : List ℕ) → IsLongestName cs (before cs (after_name false cs))
 longest_before cs = let (name, e, l) = name_spelled cs in subst (IsLongestName cs) (sym (front_is cs name (after_name false cs) e)) l
 
 -- ---- forms and marks
 
-abbrev FormIs : Form → Bool → Bool → Type 0
+abbrev pub FormIs : Form → Bool → Bool → Type 0
 FormIs form.Braced b q = b ≡ true
 FormIs form.Quoted b q = q ≡ true
 FormIs form.Bare b q = (b ≡ false) × (q ≡ false)
 
-form_facts : (b q : Bool) → FormIs (cond b form.Braced (cond q form.Quoted form.Bare)) b q
+pub form_facts : (b q : Bool) → FormIs (cond b form.Braced (cond q form.Quoted form.Bare)) b q
 form_facts true q = refl
 form_facts false true = refl
 form_facts false false = (refl, refl)
@@ -269,7 +291,11 @@ form_facts false false = (refl, refl)
 pub mark_parts : (nested : Bool) (cs : List ℕ) → marked nested cs ≡ true → (cs ≡ open_brace ∷ star ∷ close_brace ∷ tail (tail (tail cs))) × (ends_word nested (tail (tail (tail cs))) ≡ false)
 mark_parts nested cs e =
     let front = and_parts (begins open_brace cs && begins star (tail cs) && begins close_brace (tail (tail cs))) (not (ends_word nested (tail (tail (tail cs))))) e in
-    (marked_text nested cs e, not_true (ends_word nested (tail (tail (tail cs)))) front.1)
+    let third = and_parts (begins open_brace cs && begins star (tail cs)) (begins close_brace (tail (tail cs))) front.0 in
+    let second = and_parts (begins open_brace cs) (begins star (tail cs)) third.0 in
+    let is_mark : cs ≡ open_brace ∷ star ∷ close_brace ∷ tail (tail (tail cs)) =
+    headed open_brace cs second.0 ∙ ap (λ t. open_brace ∷ t) (headed star (tail cs) second.1 ∙ ap (λ t. star ∷ t) (headed close_brace (tail (tail cs)) third.1)) in
+    (is_mark, not_true (ends_word nested (tail (tail (tail cs)))) front.1)
   where
     not_true : (b : Bool) → not b ≡ true → b ≡ false
     not_true true h = absurd (true≢false (sym h))
@@ -284,6 +310,11 @@ ScriptSpelled size levels cs close =
 
 abbrev pub IndexSpelled : ℕ → ℕ → List ℕ → Parts × List ℕ → Type 0
 IndexSpelled size levels cs x = (below : ℕ) × (ps : List Part) × (levels ≡ suc below) × (x.0 ≡ parts_of ps) × Pieces size below (begins close_paren) cs ps (close_paren ∷ x.1)
+
+-- what the first command is
+abbrev pub FirstSpelled : ℕ → ℕ → Bool → List ℕ → Option (List Shape) → List ℕ → Type 0
+FirstSpelled size levels nested cs None rest = NoCommand nested cs rest
+FirstSpelled size levels nested cs (Some ws) rest = Command size levels nested cs ws rest
 
 pub record NestSpelled (size levels : ℕ) : Type 0 where
   pub script : (cs : List ℕ) → IfOk ((inner_at size levels).bracket cs) (ScriptSpelled size levels cs)
@@ -350,42 +381,46 @@ module _ (size levels : ℕ) (below : NestSpelled size levels) where
 
   -- ---- pieces
 
-  abbrev PieceTurn : Mode → List ℕ → Option Part → List ℕ → Type 0
-  PieceTurn m = Turn (λ cs ps rest. Pieces size levels (ends_pieces m) cs ps rest)
-
-  one_piece : (m : Mode) (cs : List ℕ) (p : Part) (rest : List ℕ) → ends_pieces m cs ≡ false → Piece size levels (ends_pieces m) cs p rest → PieceTurn m cs (Some p) rest
-  one_piece m cs p rest e q ps end k = Pieces.piece levels (ends_pieces m) cs p rest ps end e q k
+  -- the next piece, or none where the word ends
+  abbrev pub PieceIs : Mode → List ℕ → Option Part → List ℕ → Type 0
+  PieceIs m cs None rest = Pieces size levels (ends_pieces m) cs [] rest
+  PieceIs m cs (Some p) rest = (ends_pieces m cs ≡ false) × Piece size levels (ends_pieces m) cs p rest
 
   escape_turn : (m : Mode) (cs : List ℕ) → (let here = backslash ∷ cs in let rest = drop (escape_of here).1 here in Piece size levels (ends_pieces m) here (escape (stretch size here rest) (escape_of here).0) rest)
   escape_turn m cs = let here = backslash ∷ cs in let rest = drop (escape_of here).1 here in Piece.escaped levels (ends_pieces m) cs _ rest refl (stands size here rest (ends_drop (escape_of here).1 here))
 
-  piece_of_turn : (m : Mode) (k : Kind) (c : ℕ) (cs : List ℕ) → KindIs k (ends_pieces m (c ∷ cs)) (c == backslash) (c == open_bracket) (c == dollar && begins_variable cs)
-      → IfOk (piece_of size inner m k (c ∷ cs)) (λ t. PieceTurn m (c ∷ cs) t.0 t.1)
-  piece_of_turn m kind.Ends c cs h = Pieces.done levels (ends_pieces m) (c ∷ cs) h
-  piece_of_turn m kind.Open c cs h = absurd h
-  piece_of_turn m kind.Backslashed c cs (a, b) =
-      one_piece m (c ∷ cs) _ _ a (one_is (λ x. let here = x ∷ cs in let rest = drop (escape_of here).1 here in Piece size levels (ends_pieces m) here (escape (stretch size here rest) (escape_of here).0) rest) c backslash b (escape_turn m cs))
-  piece_of_turn m kind.Opening c cs (a, b) =
-      if_bind (λ x. Piece size levels (ends_pieces m) (c ∷ cs) x.0 x.1) (λ t. PieceTurn m (c ∷ cs) t.0 t.1) (bracket_at size inner (c ∷ cs)) _
-      (one_is (λ y. IfOk (bracket_at size inner (y ∷ cs)) (λ x. Piece size levels (ends_pieces m) (y ∷ cs) x.0 x.1)) c open_bracket b (bracket_spelled (ends_pieces m) cs)) (λ x p. one_piece m (c ∷ cs) x.0 x.1 a p)
-  piece_of_turn m kind.Variable c cs (a, b) =
+  piece_of_is : (m : Mode) (k : Kind) (c : ℕ) (cs : List ℕ) → KindIs k (ends_pieces m (c ∷ cs)) (c == backslash) (c == open_bracket) (c == dollar && begins_variable cs)
+      → IfOk (piece_of size inner m k (c ∷ cs)) (λ t. PieceIs m (c ∷ cs) t.0 t.1)
+  piece_of_is m kind.Ends c cs h = Pieces.done levels (ends_pieces m) (c ∷ cs) h
+  piece_of_is m kind.Open c cs h = absurd h
+  piece_of_is m kind.Backslashed c cs (a, b) =
+      (a, one_is (λ x. let here = x ∷ cs in let rest = drop (escape_of here).1 here in Piece size levels (ends_pieces m) here (escape (stretch size here rest) (escape_of here).0) rest) c backslash b (escape_turn m cs))
+  piece_of_is m kind.Opening c cs (a, b) =
+      if_bind (λ x. Piece size levels (ends_pieces m) (c ∷ cs) x.0 x.1) (λ t. PieceIs m (c ∷ cs) t.0 t.1) (bracket_at size inner (c ∷ cs)) _
+      (one_is (λ y. IfOk (bracket_at size inner (y ∷ cs)) (λ x. Piece size levels (ends_pieces m) (y ∷ cs) x.0 x.1)) c open_bracket b (bracket_spelled (ends_pieces m) cs)) (λ x p. (a, p))
+  piece_of_is m kind.Variable c cs (a, b) =
       let both = and_parts (c == dollar) (begins_variable cs) b in
-      if_bind (λ x. Piece size levels (ends_pieces m) (c ∷ cs) x.0 x.1) (λ t. PieceTurn m (c ∷ cs) t.0 t.1) (variable_at size inner (c ∷ cs)) _
-      (one_is (λ y. IfOk (variable_at size inner (y ∷ cs)) (λ x. Piece size levels (ends_pieces m) (y ∷ cs) x.0 x.1)) c dollar both.0 (variable_spelled (ends_pieces m) cs both.1)) (λ x p. one_piece m (c ∷ cs) x.0 x.1 a p)
-  piece_of_turn m kind.Plain c cs (a, b) =
-      one_piece m (c ∷ cs) _ _ a (Piece.plain levels (ends_pieces m) (c ∷ cs) _ _ (run_spelled m c cs b) (stands size (c ∷ cs) (after_plain m (c ∷ cs)) (plain_end m (c ∷ cs))))
+      if_bind (λ x. Piece size levels (ends_pieces m) (c ∷ cs) x.0 x.1) (λ t. PieceIs m (c ∷ cs) t.0 t.1) (variable_at size inner (c ∷ cs)) _
+      (one_is (λ y. IfOk (variable_at size inner (y ∷ cs)) (λ x. Piece size levels (ends_pieces m) (y ∷ cs) x.0 x.1)) c dollar both.0 (variable_spelled (ends_pieces m) cs both.1)) (λ x p. (a, p))
+  piece_of_is m kind.Plain c cs (a, b) =
+      (a, Piece.plain levels (ends_pieces m) (c ∷ cs) _ _ (run_spelled m c cs b) (stands size (c ∷ cs) (after_plain m (c ∷ cs)) (plain_end m (c ∷ cs))))
 
-  piece_turn : (m : Mode) (cs : List ℕ) → IfOk (piece_at size inner m cs) (λ t. PieceTurn m cs t.0 t.1)
+  pub piece_is : (m : Mode) (cs : List ℕ) → IfOk (piece_at size inner m cs) (λ t. PieceIs m cs t.0 t.1)
   unfolding piece_at kind_of
-  piece_turn (mode.Bare nested) [] = Pieces.done levels (ends_pieces (mode.Bare nested)) [] refl
-  piece_turn mode.Quoted [] = tt
-  piece_turn mode.Index [] = tt
-  piece_turn m (c ∷ cs) = piece_of_turn m (kind_of m (c ∷ cs)) c cs (kind_facts (ends_pieces m (c ∷ cs)) (c == backslash) (c == open_bracket) (c == dollar && begins_variable cs))
+  piece_is (mode.Bare nested) [] = Pieces.done levels (ends_pieces (mode.Bare nested)) [] refl
+  piece_is mode.Quoted [] = tt
+  piece_is mode.Index [] = tt
+  piece_is m (c ∷ cs) = piece_of_is m (kind_of m (c ∷ cs)) c cs (kind_facts (ends_pieces m (c ∷ cs)) (c == backslash) (c == open_bracket) (c == dollar && begins_variable cs))
+
+  piece_turn : (m : Mode) (cs : List ℕ) (x : Option Part) (rest : List ℕ) → PieceIs m cs x rest → Turn (λ ds ps end. Pieces size levels (ends_pieces m) ds ps end) cs x rest
+  piece_turn m cs None rest h = h
+  piece_turn m cs (Some p) rest (e, q) = λ ps end k. Pieces.piece levels (ends_pieces m) cs p rest ps end e q k
 
   pub pieces_spelled : (m : Mode) (cs : List ℕ) → IfOk (pieces_at size inner m cs) (λ x. Pieces size levels (ends_pieces m) cs x.0 x.1)
   unfolding pieces_at
   pieces_spelled m cs =
-      turns_give (λ ds ps rest. Pieces size levels (ends_pieces m) ds ps rest) (piece_at size inner m) cs (forward_shrinks (piece_at size inner m) (piece_forward size inner (inner_inside size levels) m)) (piece_turn m)
+      turns_give (λ ds ps rest. Pieces size levels (ends_pieces m) ds ps rest) (piece_at size inner m) cs (forward_shrinks (piece_at size inner m) (piece_forward size inner (inner_inside size levels) m))
+      (λ ds. if_weak (λ t. PieceIs m ds t.0 t.1) (λ t. Turn (λ es ps rest. Pieces size levels (ends_pieces m) es ps rest) ds t.0 t.1) (piece_at size inner m ds) (piece_is m ds) (λ t h. piece_turn m ds t.0 t.1 h))
 
   -- ---- words
 
@@ -398,7 +433,7 @@ module _ (size levels : ℕ) (below : NestSpelled size levels) where
     | inr other ↦ rw other tt
   ]
 
-  braced_body : (nested : Bool) (cs : List ℕ) (ps : List Part) (rest : List ℕ) → begins open_brace cs ≡ true → BracedText size (tail cs) (ps, rest) → Body size levels nested cs form.Braced ps rest
+  pub braced_body : (nested : Bool) (cs : List ℕ) (ps : List Part) (rest : List ℕ) → begins open_brace cs ≡ true → BracedText size (tail cs) (ps, rest) → Body size levels nested cs form.Braced ps rest
   braced_body nested cs ps rest b (inside, e, k, i) = subst (λ t. Body size levels nested t form.Braced ps rest) (sym (headed open_brace cs b)) (Body.braced levels nested (tail cs) inside ps rest e k i)
 
   pub quoted_spelled : (cs : List ℕ) → IfOk (quoted_at size inner cs) (λ x. Pieces size levels (begins quote) (tail cs) x.0 (quote ∷ x.1))
@@ -407,7 +442,7 @@ module _ (size levels : ℕ) (below : NestSpelled size levels) where
       if_bind (λ x. Pieces size levels (begins quote) (tail cs) x.0 x.1) (λ x. Pieces size levels (begins quote) (tail cs) x.0 (quote ∷ x.1)) (pieces_at size inner mode.Quoted (tail cs)) _ (pieces_spelled mode.Quoted (tail cs))
       (λ x k. subst (λ t. Pieces size levels (begins quote) (tail cs) x.0 t) (headed quote x.1 (pieces_end_there size levels (begins quote) (tail cs) x.0 x.1 k)) k)
 
-  quoted_body : (nested : Bool) (cs : List ℕ) (ps : List Part) (rest : List ℕ) → begins quote cs ≡ true → Pieces size levels (begins quote) (tail cs) ps (quote ∷ rest) → Body size levels nested cs form.Quoted ps rest
+  pub quoted_body : (nested : Bool) (cs : List ℕ) (ps : List Part) (rest : List ℕ) → begins quote cs ≡ true → Pieces size levels (begins quote) (tail cs) ps (quote ∷ rest) → Body size levels nested cs form.Quoted ps rest
   quoted_body nested cs ps rest b k = subst (λ t. Body size levels nested t form.Quoted ps rest) (sym (headed quote cs b)) (Body.quoted levels nested (tail cs) ps rest k)
 
   word_of_spelled : (nested expands : Bool) (f : Form) (cs : List ℕ) → FormIs f (begins open_brace cs) (begins quote cs) → IfOk (word_of size inner nested expands f cs) (BodyText nested expands cs)
@@ -432,10 +467,10 @@ module _ (size levels : ℕ) (below : NestSpelled size levels) where
         let third = tail (tail (tail cs)) in
         let (at, goes_on) = mark_parts nested cs starred in
         if_weak (BodyText nested true third) (λ x. Word size levels nested cs x.0 x.1) (word_of size inner nested true (form_of third) third) (word_of_spelled nested true (form_of third) third (form_facts (begins open_brace third) (begins quote third)))
-        (λ x (b, e, stop). subst (λ t. Word size levels nested t x.0 x.1) (sym at) (subst (WordWith nested (open_brace ∷ star ∷ close_brace ∷ third) x.0 x.1) (sym e) (Word.marked levels nested third x.0.form x.0.pieces x.1 goes_on b stop))))
+        (λ x (b, e, stop). subst (λ t. Word size levels nested t x.0 x.1) (sym at) (subst (WordWith nested (open_brace ∷ star ∷ close_brace ∷ third) x.0 x.1) (sym e) (Word.behind_mark levels nested third x.0.form x.0.pieces x.1 goes_on b stop))))
     | inr other ↦ rw other (
         if_weak (BodyText nested false cs) (λ x. Word size levels nested cs x.0 x.1) (word_of size inner nested false (form_of cs) cs) (word_of_spelled nested false (form_of cs) cs (form_facts (begins open_brace cs) (begins quote cs)))
-        (λ x (b, e, stop). subst (WordWith nested cs x.0 x.1) (sym e) (Word.unmarked levels nested cs x.0.form x.0.pieces x.1 b stop)))
+        (λ x (b, e, stop). subst (WordWith nested cs x.0 x.1) (sym e) (Word.without_mark levels nested cs x.0.form x.0.pieces x.1 b stop)))
   ]
 
   -- ---- commands
@@ -444,38 +479,47 @@ module _ (size levels : ℕ) (below : NestSpelled size levels) where
   abbrev WordsEnded : Bool → List ℕ → List Shape → List ℕ → Type 0
   WordsEnded nested cs ws rest = Words size levels nested cs ws rest × CommandEnd nested rest (after_command rest)
 
-  next_turn : (nested : Bool) (cs : List ℕ) → IfOk (next_word size inner nested cs) (λ t. Turn (WordsEnded nested) cs t.0 t.1)
+  -- the next word, or none where the command ends
+  abbrev pub WordIs : Bool → List ℕ → Option Shape → List ℕ → Type 0
+  WordIs nested cs None rest = WordsEnded nested cs [] rest
+  WordIs nested cs (Some w) rest = (here : List ℕ) × Blanks cs here × (ends_word nested here ≡ false) × Word size levels nested here w rest
+
+  pub word_is : (nested : Bool) (cs : List ℕ) → IfOk (next_word size inner nested cs) (λ t. WordIs nested cs t.0 t.1)
   unfolding next_word
-  next_turn nested cs =
+  word_is nested cs =
       let here = after_blanks cs in
       elim (cases_Bool (ends_word nested here)) [
         | inl stop ↦ rw stop (Words.blanks_alone levels nested cs here (blanks_spelled cs), command_end nested here stop (blanks_passed cs))
         | inr more ↦ rw more (
-            if_bind (λ x. Word size levels nested here x.0 x.1) (λ t. Turn (WordsEnded nested) cs t.0 t.1) (word_at size inner nested here) _ (word_spelled nested here)
-            (λ x w ws end (k, e). (Words.word levels nested cs here x.0 x.1 ws end (blanks_spelled cs) more w k, e)))
+            if_bind (λ x. Word size levels nested here x.0 x.1) (λ t. WordIs nested cs t.0 t.1) (word_at size inner nested here) _ (word_spelled nested here) (λ x w. (here, blanks_spelled cs, more, w)))
       ]
+
+  pub next_ends : (nested : Bool) (cs rest : List ℕ) (w : Shape) → next_word size inner nested cs ≡ Ok (Some w, rest) → ends_word nested rest ≡ true
+  next_ends nested cs rest w e =
+      let (here, b, more, h) = if_ok (λ t. WordIs nested cs t.0 t.1) (next_word size inner nested cs) (Some w, rest) (word_is nested cs) e in
+      word_end_there size levels nested here w rest h
+
+  word_turn : (nested : Bool) (cs : List ℕ) (x : Option Shape) (rest : List ℕ) → WordIs nested cs x rest → Turn (WordsEnded nested) cs x rest
+  word_turn nested cs None rest h = h
+  word_turn nested cs (Some w) rest (here, b, more, h) = λ ws end (k, e). (Words.word levels nested cs here w rest ws end b more h k, e)
 
   words_spelled : (nested : Bool) (cs : List ℕ) → IfOk (words_at size inner nested cs) (λ x. WordsEnded nested cs x.0 x.1)
   unfolding words_at
-  words_spelled nested cs = turns_give (WordsEnded nested) (next_word size inner nested) cs (forward_shrinks (next_word size inner nested) (word_forward size inner (inner_inside size levels) nested)) (next_turn nested)
+  words_spelled nested cs = turns_give (WordsEnded nested) (next_word size inner nested) cs (forward_shrinks (next_word size inner nested) (word_forward size inner (inner_inside size levels) nested))
+      (λ ds. if_weak (λ t. WordIs nested ds t.0 t.1) (λ t. Turn (WordsEnded nested) ds t.0 t.1) (next_word size inner nested ds) (word_is nested ds) (λ t h. word_turn nested ds t.0 t.1 h))
 
-  -- what the first command is
-  abbrev pub FirstSpelled : Bool → List ℕ → Option (List Shape) → List ℕ → Type 0
-  FirstSpelled nested cs None rest = NoCommand nested cs rest
-  FirstSpelled nested cs (Some ws) rest = Command size levels nested cs ws rest
-
-  pub first_spelled : (nested : Bool) (cs : List ℕ) → IfOk (first_at size inner nested cs) (λ t. FirstSpelled nested cs t.0 t.1)
+  pub first_spelled : (nested : Bool) (cs : List ℕ) → IfOk (first_at size inner nested cs) (λ t. FirstSpelled size levels nested cs t.0 t.1)
   unfolding first_at
   first_spelled nested cs =
       let here = after_gaps gap.Between cs in
       elim (cases_Bool (ends_word nested here)) [
         | inl stop ↦ rw stop (record { separators = gaps_spelled gap.Between cs; stops = script_end nested here stop (gaps_passed gap.Between cs) })
         | inr more ↦ rw more (
-            if_bind (λ x. WordsEnded nested here x.0 x.1) (λ t. FirstSpelled nested cs t.0 t.1) (words_at size inner nested here) _ (words_spelled nested here)
+            if_bind (λ x. WordsEnded nested here x.0 x.1) (λ t. FirstSpelled size levels nested cs t.0 t.1) (words_at size inner nested here) _ (words_spelled nested here)
             (λ x (k, e). Command.command levels nested cs here x.0 x.1 (after_command x.1) (gaps_spelled gap.Between cs) (no_comment here (gaps_passed gap.Between cs)) more k e))
       ]
 
-  command_turn : (nested : Bool) (cs : List ℕ) (x : Option (List Shape)) (rest : List ℕ) → FirstSpelled nested cs x rest → Turn (λ ds wss end. Commands size levels nested ds wss end) cs x rest
+  command_turn : (nested : Bool) (cs : List ℕ) (x : Option (List Shape)) (rest : List ℕ) → FirstSpelled size levels nested cs x rest → Turn (λ ds wss end. Commands size levels nested ds wss end) cs x rest
   command_turn nested cs None rest h = Commands.separators_alone levels nested cs rest h.separators h.stops
   command_turn nested cs (Some ws) rest h = λ wss end k. Commands.next levels nested cs ws rest wss end h k
 
@@ -483,7 +527,7 @@ module _ (size levels : ℕ) (below : NestSpelled size levels) where
   unfolding commands_at
   commands_spelled nested cs =
       turns_give (λ ds wss rest. Commands size levels nested ds wss rest) (first_at size inner nested) cs (forward_shrinks (first_at size inner nested) (first_forward size inner (inner_inside size levels) nested))
-      (λ ds. if_weak (λ t. FirstSpelled nested ds t.0 t.1) (λ t. Turn (λ ds wss rest. Commands size levels nested ds wss rest) ds t.0 t.1) (first_at size inner nested ds) (first_spelled nested ds) (λ t h. command_turn nested ds t.0 t.1 h))
+      (λ ds. if_weak (λ t. FirstSpelled size levels nested ds t.0 t.1) (λ t. Turn (λ ds wss rest. Commands size levels nested ds wss rest) ds t.0 t.1) (first_at size inner nested ds) (first_spelled nested ds) (λ t h. command_turn nested ds t.0 t.1 h))
 
 -- ---- one level more
 

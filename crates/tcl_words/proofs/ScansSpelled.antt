@@ -17,7 +17,7 @@ use Rattle.tcl_words.specs.declared.front.Mode.TheVariants as mode
 use Rattle.tcl_words.specs.Spelling.{Blanks, Comment, Separators, CommandEnd, ends_script, ends_word, is_name, IsLongestName, begins_name, begins_variable, stands_for_itself, PlainRun, lacks, Balanced, UpToHidden, begins_hidden}
 use Rattle.tcl_words.specs.Words.{after_blanks, after_gaps, after_name, after_plain, after_verbatim, after_command, at_variable_brace, at_brace, kind_of, is_plain, ends_pieces}
 use Rattle.tcl_words.proofs.Ends.{if_cond, if_weak}
-use Rattle.tcl_words.proofs.Scans.{name_longest}
+use Rattle.tcl_words.proofs.Names.{name_longest}
 
 -- two characters that are tested for
 pub two_are : (P : ℕ → ℕ → Type 0) (c d x y : ℕ) → (c == x && d == y) ≡ true → P x y → P c d
@@ -374,6 +374,7 @@ solid_gaps nested (c ∷ cs) h n = rw (gaps_none nested c cs h, n) refl
     parts true b d e = absurd (true≢false e)
     parts false true d e = absurd (true≢false e)
     parts false false d e = e
+
     gaps_none : (nested : Bool) (c : ℕ) (cs : List ℕ) → ends_word nested (c ∷ cs) ≡ false → (is_word_space c || c == newline || c == semicolon || (c == backslash && begins newline cs)) ≡ false
     gaps_none nested c cs e = parts (is_word_space c || c == newline || c == semicolon) (nested && c == close_bracket) (c == backslash && begins newline cs) e
 

@@ -85,11 +85,11 @@ kind_escape : (m : Mode) (cs : List ℕ) → ends_pieces m (backslash ∷ cs) �
 unfolding kind_of
 kind_escape m cs e = rw e refl
 
-kind_bracket : (m : Mode) (cs : List ℕ) → ends_pieces m (open_bracket ∷ cs) ≡ false → kind_of m (open_bracket ∷ cs) ≡ kind.Opening
+pub kind_bracket : (m : Mode) (cs : List ℕ) → ends_pieces m (open_bracket ∷ cs) ≡ false → kind_of m (open_bracket ∷ cs) ≡ kind.Opening
 unfolding kind_of
 kind_bracket m cs e = rw e refl
 
-kind_variable : (m : Mode) (cs : List ℕ) → ends_pieces m (dollar ∷ cs) ≡ false → begins_variable cs ≡ true → kind_of m (dollar ∷ cs) ≡ kind.Variable
+pub kind_variable : (m : Mode) (cs : List ℕ) → ends_pieces m (dollar ∷ cs) ≡ false → begins_variable cs ≡ true → kind_of m (dollar ∷ cs) ≡ kind.Variable
 unfolding kind_of
 kind_variable m cs e b = rw (e, b) refl
 
@@ -97,12 +97,15 @@ kind_variable m cs e b = rw (e, b) refl
 
 name_variable : (cs : List ℕ) → begins_name cs ≡ true → (begins_variable cs ≡ true) × (begins open_brace cs ≡ false)
 name_variable [] h = absurd (true≢false (sym h))
-name_variable (c ∷ cs) h = (rw h refl, elim (cases_Bool (c == open_brace)) [
-  | inl b ↦ absurd (one_is (λ x. begins_name (x ∷ cs) ≡ true → ⊥) c open_brace b (λ k. true≢false (sym k)) h)
-  | inr b ↦ b
-])
+name_variable (c ∷ cs) h = (
+  rw h refl,
+  elim (cases_Bool (c == open_brace)) [
+    | inl b ↦ absurd (one_is (λ x. begins_name (x ∷ cs) ≡ true → ⊥) c open_brace b (λ k. true≢false (sym k)) h)
+    | inr b ↦ b
+  ],
+)
 
-paren_variable : (cs index : List ℕ) → after_name false cs ≡ open_paren ∷ index → (begins_variable cs ≡ true) × (begins open_brace cs ≡ false)
+pub paren_variable : (cs index : List ℕ) → after_name false cs ≡ open_paren ∷ index → (begins_variable cs ≡ true) × (begins open_brace cs ≡ false)
 paren_variable cs index e = elim (cases_Bool (begins_name cs)) [
   | inl n ↦ name_variable cs n
   | inr n ↦ subst (λ t. (begins_variable t ≡ true) × (begins open_brace t ≡ false)) (sym e ∙ no_name_here cs n) (refl, refl)
@@ -138,6 +141,10 @@ script_at size inner cs s inside rest c n w = rw (c, stands_is size (open_bracke
 piece_by : (size : ℕ) (inner : Inner) (m : Mode) (k : Kind) (cs : List ℕ) (p : Part) (rest : List ℕ) → kind_of m cs ≡ k → piece_of size inner m k cs ≡ Ok (Some p, rest) → piece_at size inner m cs ≡ Ok (Some p, rest)
 unfolding piece_at
 piece_by size inner m k cs p rest e h = ap (λ (x : Kind). piece_of size inner m x cs) e ∙ h
+
+pub piece_by_err : (size : ℕ) (inner : Inner) (m : Mode) (k : Kind) (cs : List ℕ) (e : Syntax) → kind_of m cs ≡ k → piece_of size inner m k cs ≡ Err e → piece_at size inner m cs ≡ Err e
+unfolding piece_at
+piece_by_err size inner m k cs e is h = ap (λ (x : Kind). piece_of size inner m x cs) is ∙ h
 
 pub piece_read : (size levels : ℕ) (ends : List ℕ → Bool) (cs : List ℕ) (p : Part) (rest : List ℕ) → Piece size levels ends cs p rest → NestRead size levels → (m : Mode) → ends ≡ ends_pieces m → ends_pieces m cs ≡ false
     → piece_at size (inner_at size levels) m cs ≡ Ok (Some p, rest)
@@ -213,12 +220,12 @@ not_marked : (b : Bool) → (b ≡ true → ⊥) → b ≡ false
 not_marked true h = absurd (h refl)
 not_marked false h = refl
 
-word_read : (size levels : ℕ) (nested : Bool) (cs : List ℕ) (w : Shape) (rest : List ℕ) → Word size levels nested cs w rest → NestRead size levels → word_at size (inner_at size levels) nested cs ≡ Ok (w, rest)
+pub word_read : (size levels : ℕ) (nested : Bool) (cs : List ℕ) (w : Shape) (rest : List ℕ) → Word size levels nested cs w rest → NestRead size levels → word_at size (inner_at size levels) nested cs ≡ Ok (w, rest)
 unfolding word_at
-word_read size _ _ _ _ _ (Word.unmarked levels nested cs f ps rest b stop) below =
+word_read size _ _ _ _ _ (Word.without_mark levels nested cs f ps rest b stop) below =
     let (is, formed) = body_read size levels nested cs f ps rest b below false stop in
     rw (not_marked (marked nested cs) (body_unmarked size levels nested cs f ps rest b stop), formed) is
-word_read size _ _ _ _ _ (Word.marked levels nested cs f ps rest goes_on b stop) below =
+word_read size _ _ _ _ _ (Word.behind_mark levels nested cs f ps rest goes_on b stop) below =
     let (is, formed) = body_read size levels nested cs f ps rest b below true stop in
     rw (goes_on, formed) is
 
@@ -228,7 +235,7 @@ no_word : (size : ℕ) (inner : Inner) (nested : Bool) (cs rest : List ℕ) → 
 unfolding next_word
 no_word size inner nested cs rest e stop = rw (e, stop) refl
 
-one_word : (size : ℕ) (inner : Inner) (nested : Bool) (cs here : List ℕ) (w : Shape) (rest : List ℕ) → after_blanks cs ≡ here → ends_word nested here ≡ false → word_at size inner nested here ≡ Ok (w, rest)
+pub one_word : (size : ℕ) (inner : Inner) (nested : Bool) (cs here : List ℕ) (w : Shape) (rest : List ℕ) → after_blanks cs ≡ here → ends_word nested here ≡ false → word_at size inner nested here ≡ Ok (w, rest)
     → next_word size inner nested cs ≡ Ok (Some w, rest)
 unfolding next_word
 one_word size inner nested cs here w rest e more h = rw (e, more, h) refl

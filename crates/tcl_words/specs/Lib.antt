@@ -1,4 +1,5 @@
 pub mod Complete
+pub mod Faults
 pub mod First
 pub mod Fronts
 pub mod Laws

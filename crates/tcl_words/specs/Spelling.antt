@@ -2,11 +2,11 @@
 -- In each relation the text comes first, then what it spells, and last the rest: the text that is left behind it. What a
 -- rule says of the character that follows is said of the rest. `size` is the size of the whole text, in bytes, from
 -- which places are counted, and `levels` says how deep brackets and indices may still stand in one another.
-use Rattle.std.specs.Prelude.{◌≡◌, ◌≢◌, ℕ, suc, ◌+◌, ◌<◌, ◌≤◌, Bool, true, false, not, ◌&&◌, ◌||◌, ◌==◌, List, [], ◌∷◌, ◌++◌, length, take, drop, if◌then◌else◌}
+use Rattle.std.specs.Prelude.{◌≡◌, ◌≢◌, ◌⊎◌, ℕ, suc, ◌+◌, ◌<◌, ◌≤◌, Bool, true, false, not, ◌&&◌, ◌||◌, ◌==◌, List, [], ◌∷◌, ◌++◌, length, take, drop, if◌then◌else◌}
 use Rattle.tcl_chars.specs.Characters.{newline, space, backslash, semicolon, dollar, quote, open_brace, close_brace, open_paren, close_paren, open_bracket, close_bracket, number_sign, colon, star}
 use Rattle.tcl_chars.specs.Classes.{is_word_space, is_name_char}
 use Rattle.tcl_chars.specs.Escape.{blanks, escape as escape_of}
-use Rattle.tcl_chars.specs.Place.{begins, place}
+use Rattle.tcl_chars.specs.Place.{begins, tail, place}
 use Rattle.tcl_words.specs.declared.word.Form.{Form}
 use Rattle.tcl_words.specs.declared.word.Form.TheVariants.{Bare, Quoted, Braced}
 use Rattle.tcl_words.specs.Parts.{Stretch, Part, text, escape, var, elem_, bracket, Parts, parts_of, Shape}
@@ -94,6 +94,11 @@ abbrev pub lacks : ℕ → List ℕ → Bool
 lacks d [] = true
 lacks d (c ∷ cs) = not (c == d) && lacks d cs
 
+-- `{*}` stands at the front, and a word behind it (rule 5)
+abbrev pub marked : Bool → List ℕ → Bool
+marked nested cs =
+    begins open_brace cs && begins star (tail cs) && begins close_brace (tail (tail cs)) && not (ends_word nested (tail (tail (tail cs))))
+
 -- ---- braces
 
 -- Braces match one another in the text, and a backslash hides the character behind it (rule 6).
@@ -169,9 +174,9 @@ mutual
 
   -- A word, which ends where one may. Before another word it may be marked by `{*}` (rule 5).
   pub data Word (size : ℕ) : ℕ → Bool → List ℕ → Shape → List ℕ → Type 0 where
-    unmarked : (levels : ℕ) (nested : Bool) (cs : List ℕ) (f : Form) (ps : List Part) (rest : List ℕ) → Body size levels nested cs f ps rest → ends_word nested rest ≡ true
+    without_mark : (levels : ℕ) (nested : Bool) (cs : List ℕ) (f : Form) (ps : List Part) (rest : List ℕ) → Body size levels nested cs f ps rest → ends_word nested rest ≡ true
         → Word size levels nested cs (record { form = f; expands = false; pieces = ps }) rest
-    marked : (levels : ℕ) (nested : Bool) (cs : List ℕ) (f : Form) (ps : List Part) (rest : List ℕ) → ends_word nested cs ≡ false → Body size levels nested cs f ps rest → ends_word nested rest ≡ true
+    behind_mark : (levels : ℕ) (nested : Bool) (cs : List ℕ) (f : Form) (ps : List Part) (rest : List ℕ) → ends_word nested cs ≡ false → Body size levels nested cs f ps rest → ends_word nested rest ≡ true
         → Word size levels nested (open_brace ∷ star ∷ close_brace ∷ cs) (record { form = f; expands = true; pieces = ps }) rest
 
   -- the words of a command, with blanks between them and behind the last
@@ -195,3 +200,7 @@ mutual
 pub record NoCommand (nested : Bool) (cs rest : List ℕ) : Type 0 where
   pub separators : Separators cs rest
   pub stops : ends_script nested rest ≡ true
+
+-- the text begins with a command, or none is left
+abbrev pub IsWellFormed : ℕ → ℕ → Bool → List ℕ → Type 0
+IsWellFormed size levels nested cs = ((ws : List Shape) × (rest : List ℕ) × Command size levels nested cs ws rest) ⊎ ((rest : List ℕ) × NoCommand nested cs rest)

@@ -16,7 +16,7 @@ use Rattle.tcl_words.specs.declared.front.Kind.{Kind}
 use Rattle.tcl_words.specs.declared.front.Kind.TheVariants as kind
 use Rattle.tcl_words.specs.declared.front.Mode.{Mode}
 use Rattle.tcl_words.specs.declared.front.Mode.TheVariants as mode
-pub use Rattle.tcl_words.specs.Spelling.{ends_word, begins_variable}
+pub use Rattle.tcl_words.specs.Spelling.{ends_word, begins_variable, marked}
 use Rattle.tcl_words.specs.Parts.{Stretch, Part, text, escape, var, elem_, bracket, Parts, parts_of, Shape}
 
 -- ---- between words and commands
@@ -120,11 +120,6 @@ abbrev pub begins_hidden_newline : List ℕ → Bool
 begins_hidden_newline cs = begins backslash cs && begins newline (tail cs)
 
 -- ---- words
-
--- what follows `{*}`, where it stands at the front and a word follows it (rule 5)
-abbrev pub marked : Bool → List ℕ → Bool
-marked nested cs =
-    begins open_brace cs && begins star (tail cs) && begins close_brace (tail (tail cs)) && not (ends_word nested (tail (tail (tail cs))))
 
 abbrev pub form_of : List ℕ → Form
 form_of cs = if begins open_brace cs then form.Braced else if begins quote cs then form.Quoted else form.Bare

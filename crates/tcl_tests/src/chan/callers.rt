@@ -1,6 +1,6 @@
 //! What a caller of a world learns of the devices that it lent.
 ghost use Rattle.std.specs.Prelude.{◌≡◌, ◌++◌, [], OnOk, Some};
-ghost use Rattle.tcl_chan.specs.Devices.{put};
+ghost use Rattle.tcl_chan.specs.Devices.{put_behind};
 
 use std::alloc::Global;
 use std::test::Fail;
@@ -18,8 +18,8 @@ fn write_both<R: Input, W: Output, E: Output>(
     first: &str,
     second: &str,
 ) -> Result<(), ChanFault>
-    ensures out { OnOk result (W.written out.new ≡ put (W.written out.old) first.now) }
-    ensures err { OnOk result (E.written err.new ≡ put (E.written err.old) second.now) }
+    ensures out { OnOk result (W.written out.new ≡ put_behind (W.written out.old) first.now) }
+    ensures err { OnOk result (E.written err.new ≡ put_behind (E.written err.old) second.now) }
     ensures input { R.to_come input.new ≡ R.to_come input.old }
 {
     let mut world = World::new(alloc, input, out, err);

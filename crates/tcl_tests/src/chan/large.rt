@@ -37,7 +37,11 @@ fn a_thousand_texts(rt: HostRuntime) -> Result<(), Fail> {
         1000,
     )?;
     assert_eq!(rt; out.bytes().len(), 5000);
-    assert!(rt; out.bytes().chunks(5).all(|line| line == b"four\n".as_slice()));
+    assert!(rt;
+        out.bytes()
+            .chunks(5)
+            .all(|line| line == b"four\n".as_slice())
+    );
     Ok(())
 }
 

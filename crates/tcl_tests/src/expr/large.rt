@@ -56,7 +56,7 @@ fn a_thousand_arguments(rt: HostRuntime) -> Result<(), Fail> {
         text.push_str(", $a")?;
     }
     text.push_str(")")?;
-    match parse_expr(rt.alloc(), &text)? {
+    match parse_expr(rt.alloc(), &text, Dialect::Tcl86)? {
         Ok(Tree::Call(_, _, arguments)) => assert_eq!(rt; arguments.len(), 1000),
         _ => assert!(rt; false, "no call"),
     }

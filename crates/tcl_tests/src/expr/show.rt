@@ -105,7 +105,11 @@ pub(super) fn shown(alloc: Global, tree: &Tree<'_>) -> Result<String, AllocError
 pub(super) fn parse(alloc: Global, text: &str) -> Result<String, Fail> {
     match parse_expr(alloc, text, Dialect::Tcl86)? {
         Ok(tree) => Ok(shown(alloc, &tree)?),
-        Err(fault) => Ok(fault.message(alloc)?),
+        Err(fault) => {
+            let mut out = String::new(alloc);
+            out.push_str(&fault.message(alloc)?)?;
+            Ok(out)
+        }
     }
 }
 

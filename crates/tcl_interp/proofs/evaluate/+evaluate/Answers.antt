@@ -14,7 +14,7 @@ use Rattle.tcl_meaning.proofs.Nests.{first_nests, parts_nest_at, words_nest_at}
 use Rattle.tcl_meaning.proofs.Runs.{outputs_same}
 use Rattle.tcl_meaning.proofs.Rules.{begins_run, begins_of, begins_here, script_deep, script_end, script_bad, script_broke, script_paid, sequence_next, sequence_ends, shape_text, words_start, word_after, word_at, words_after, words_at, reach_value}
 use Rattle.tcl_interp.specs.Completion.{completion_of}
-use Rattle.tcl_interp.specs.Evaluation.{shown}
+use Rattle.tcl_interp.specs.Evaluation.{shown_state}
 use Rattle.tcl_interp.proofs.EvaluateLemmas.{fault_bind, halt_value, command_invokes, command_stopped, parsed_end, parsed_bad, parsed_command, map_at, part-var, part-elem, element_reach, element_front, element_adds, word_reach}
 use Rattle.tcl_interp.proofs.ChannelsLemmas.{leaves_same, leaves_trans}
 use Rattle.tcl_interp.proofs.evaluate.+evaluate.Goals as goal
@@ -33,7 +33,7 @@ eval_script-returns-in_err-too_deep-clause-run g t c =
 
 pub eval_script-returns-then-depth-gt-MOST_DEPTH-clause-run : goal.eval_script-returns-then-depth-gt-MOST_DEPTH-clause-run
 eval_script-returns-then-depth-gt-MOST_DEPTH-clause-run g t c =
-    script_deep _ _ _ _ c.if-depth-gt-MOST_DEPTH.true ∙ ap (λ k. Gives k (shown g.W.Output.written g.E.Output.written c.args.state.now c.args.world.now)) (sym c.in_ok-too_deep.ensures)
+    script_deep _ _ _ _ c.if-depth-gt-MOST_DEPTH.true ∙ ap (λ k. Gives k (shown_state g.W.Output.written g.E.Output.written c.args.state.now c.args.world.now)) (sym c.in_ok-too_deep.ensures)
 
 pub eval_script-returns-in_err-parse_first-clause-run : goal.eval_script-returns-in_err-parse_first-clause-run
 eval_script-returns-in_err-parse_first-clause-run g t c =
@@ -52,7 +52,7 @@ pub eval_script-returns-in-Bad-clause-run : goal.eval_script-returns-in-Bad-clau
 eval_script-returns-in-Bad-clause-run g t c =
     let e = parsed_bad _ _ _ _ c.in_ok-parse_first.ensures c.in-Bad.is in
     c.commands.invariant.1.same ∙ script_bad _ _ _ _ c.in-Bad.fault c.commands.invariant.1.shallow e
-    ∙ ap (λ k. Gives k (shown g.W.Output.written g.E.Output.written c.commands.state c.commands.world)) (sym (c.in_ok-failure-in-Bad.ensures ∙ ap failure c.text.ensures.text))
+    ∙ ap (λ k. Gives k (shown_state g.W.Output.written g.E.Output.written c.commands.state c.commands.world)) (sym (c.in_ok-failure-in-Bad.ensures ∙ ap failure c.text.ensures.text))
 
 pub eval_script-returns-then-state-eq0-clause-run : goal.eval_script-returns-then-state-eq0-clause-run
 eval_script-returns-then-state-eq0-clause-run g t c =
@@ -92,7 +92,7 @@ eval_script-commands-preserved g t c =
       search rules,
       record {
         same = sequence_next d ws e.rest (completion_of c.in_ok-done-in-Command.done) r (rw c.as_slice.ensures.value at c.in_ok-done-in-Command.ensures.run) c.in-Ok.is
-            ∙ ap (λ x. Run (Script d (completion_of c.in_ok-done-in-Command.done) x) (shown g.W.Output.written g.E.Output.written c.eval_command.new.state c.eval_command.new.world)) (sym left);
+            ∙ ap (λ x. Run (Script d (completion_of c.in_ok-done-in-Command.done) x) (shown_state g.W.Output.written g.E.Output.written c.eval_command.new.state c.eval_command.new.world)) (sym left);
         shallow = c.commands.invariant.1.shallow;
         spends = omega arith;
         leaves = leaves_trans g.R.Input.to_come g.W.Output.failed_calls g.E.Output.failed_calls false _ _ _ c.commands.invariant.1.leaves c.in_ok-done-in-Command.ensures.leaves;
@@ -101,7 +101,7 @@ eval_script-commands-preserved g t c =
 
 pub subst_words-words-init : goal.subst_words-words-init
 subst_words-words-init g t c = record {
-  same = rw c.new-values.ensures.items (words_start c.args.depth (map shape_of c.args.words.now) (shown g.W.Output.written g.E.Output.written c.args.state.now c.args.world.now));
+  same = rw c.new-values.ensures.items (words_start c.args.depth (map shape_of c.args.words.now) (shown_state g.W.Output.written g.E.Output.written c.args.state.now c.args.world.now));
   shallow = c.requires.shallow;
   nests = c.requires.nests;
   spends = omega arith;
@@ -155,21 +155,21 @@ subst_words-words-preserved g t c =
 pub subst_word-returns-in_err-subst_pieces-clause-run : goal.subst_word-returns-in_err-subst_pieces-clause-run
 subst_word-returns-in_err-subst_pieces-clause-run g t c =
     let p = err_from_is_err_and c.from_residual-in_err-subst_pieces.result c.from_residual-in_err-subst_pieces.ensures.1 in
-    let e = word_reach c.args.depth c.args.word.now.expands (map part_of c.args.word.now.pieces.items) (shown g.W.Output.written g.E.Output.written c.args.state.now c.args.world.now) _ c.if-word.false c.new-text.ensures.bytes in
+    let e = word_reach c.args.depth c.args.word.now.expands (map part_of c.args.word.now.pieces.items) (shown_state g.W.Output.written g.E.Output.written c.args.state.now c.args.world.now) _ c.if-word.false c.new-text.ensures.bytes in
     rw (p.1, p.2, e) (rw c.as_slice.ensures.value at c.in_err-subst_pieces.ensures.run)
 
 pub subst_word-returns-in_err-from_string-clause-run : goal.subst_word-returns-in_err-from_string-clause-run
 subst_word-returns-in_err-from_string-clause-run g t c =
     let p = err_from_is_err_and c.from_residual-in_err-from_string.result c.from_residual-in_err-from_string.ensures.1 in
-    let s = shown g.W.Output.written g.E.Output.written c.args.state.now c.args.world.now in
+    let s = shown_state g.W.Output.written g.E.Output.written c.args.state.now c.args.world.now in
     let e = word_reach c.args.depth c.args.word.now.expands (map part_of c.args.word.now.pieces.items) s _ c.if-word.false c.new-text.ensures.bytes ∙ (rw c.as_slice.ensures.value at c.in_ok-subst_pieces.ensures.run) in
-    rw (p.1, p.2, e) (outputs_same (shown g.W.Output.written g.E.Output.written c.subst_pieces.new.state c.subst_pieces.new.world))
+    rw (p.1, p.2, e) (outputs_same (shown_state g.W.Output.written g.E.Output.written c.subst_pieces.new.state c.subst_pieces.new.world))
 
 pub subst_word-returns-clause-run : goal.subst_word-returns-clause-run
 subst_word-returns-clause-run g t c =
     word_reach c.args.depth c.args.word.now.expands (map part_of c.args.word.now.pieces.items) _ _ c.if-word.false c.new-text.ensures.bytes
     ∙ (rw c.as_slice.ensures.value at c.in_ok-subst_pieces.ensures.run)
-    ∙ ap (λ t. Gives (Has t) (shown g.W.Output.written g.E.Output.written c.subst_pieces.new.state c.subst_pieces.new.world)) (sym (c.of_text.ensures ∙ ap chars c.in_ok-from_string.ensures.ok))
+    ∙ ap (λ t. Gives (Has t) (shown_state g.W.Output.written g.E.Output.written c.subst_pieces.new.state c.subst_pieces.new.world)) (sym (c.of_text.ensures ∙ ap chars c.in_ok-from_string.ensures.ok))
 
 pub subst_pieces-pieces-init : goal.subst_pieces-pieces-init
 subst_pieces-pieces-init g t c = record {
@@ -223,12 +223,12 @@ subst_piece-returns-in-Var-clause-run g t c = rw (part-var _ _ _ c.in-Var.is) (c
 pub subst_piece-returns-in_err-push_text-in-Elem-clause-run : goal.subst_piece-returns-in_err-push_text-in-Elem-clause-run
 subst_piece-returns-in_err-push_text-in-Elem-clause-run g t c =
     let p = err_from_is_err_and c.from_residual-in_err-push_text-in-Elem.result c.from_residual-in_err-push_text-in-Elem.ensures.1 in
-    rw (p.1, p.2) (begins_of (behind (chars (string_bytes c.args.text.now)) (piece_text c.args.depth (part_of c.args.piece.now))) (shown g.W.Output.written g.E.Output.written c.args.state.now c.args.world.now))
+    rw (p.1, p.2) (begins_of (behind (chars (string_bytes c.args.text.now)) (piece_text c.args.depth (part_of c.args.piece.now))) (shown_state g.W.Output.written g.E.Output.written c.args.state.now c.args.world.now))
 
 pub subst_piece-returns-in_err-push-in-Elem-clause-run : goal.subst_piece-returns-in_err-push-in-Elem-clause-run
 subst_piece-returns-in_err-push-in-Elem-clause-run g t c =
     let p = err_from_is_err_and c.from_residual-in_err-push-in-Elem.result c.from_residual-in_err-push-in-Elem.ensures.1 in
-    rw (p.1, p.2) (begins_of (behind (chars (string_bytes c.args.text.now)) (piece_text c.args.depth (part_of c.args.piece.now))) (shown g.W.Output.written g.E.Output.written c.args.state.now c.args.world.now))
+    rw (p.1, p.2) (begins_of (behind (chars (string_bytes c.args.text.now)) (piece_text c.args.depth (part_of c.args.piece.now))) (shown_state g.W.Output.written g.E.Output.written c.args.state.now c.args.world.now))
 
 pub subst_piece-returns-in_err-subst_pieces-in-Elem-clause-run : goal.subst_piece-returns-in_err-subst_pieces-in-Elem-clause-run
 subst_piece-returns-in_err-subst_pieces-in-Elem-clause-run g t c =
@@ -236,7 +236,7 @@ subst_piece-returns-in_err-subst_pieces-in-Elem-clause-run g t c =
     let old = chars (string_bytes c.args.text.now) in
     let ps = map part_of c.in-Elem.index.items in
     let front = element_front _ _ _ _ c.new-element.ensures.bytes c.in_ok-push_text-in-Elem.ensures.ok c.in_ok-push-in-Elem.ensures.ok in
-    let r = element_reach c.args.depth (stretch_of c.in-Elem.field-0) (stretch_of c.in-Elem.name) ps old _ (shown g.W.Output.written g.E.Output.written c.args.state.now c.args.world.now) front in
+    let r = element_reach c.args.depth (stretch_of c.in-Elem.field-0) (stretch_of c.in-Elem.name) ps old _ (shown_state g.W.Output.written g.E.Output.written c.args.state.now c.args.world.now) front in
     rw (p.1, p.2, part-elem _ _ _ _ c.in-Elem.is) (halt_value (behind _ (pieces_text c.args.depth ps)) (λ t. behind old (read (t ++ 41 ∷ []))) _ _ r (rw c.deref.ensures.value at c.in_err-subst_pieces-in-Elem.ensures.run))
 
 pub subst_piece-returns-in_err-push-in-Elem-2-clause-run : goal.subst_piece-returns-in_err-push-in-Elem-2-clause-run
@@ -245,7 +245,7 @@ subst_piece-returns-in_err-push-in-Elem-2-clause-run g t c =
     let old = chars (string_bytes c.args.text.now) in
     let ps = map part_of c.in-Elem.index.items in
     let front = element_front _ _ _ _ c.new-element.ensures.bytes c.in_ok-push_text-in-Elem.ensures.ok c.in_ok-push-in-Elem.ensures.ok in
-    let r = element_reach c.args.depth (stretch_of c.in-Elem.field-0) (stretch_of c.in-Elem.name) ps old _ (shown g.W.Output.written g.E.Output.written c.args.state.now c.args.world.now) front in
+    let r = element_reach c.args.depth (stretch_of c.in-Elem.field-0) (stretch_of c.in-Elem.name) ps old _ (shown_state g.W.Output.written g.E.Output.written c.args.state.now c.args.world.now) front in
     rw (p.1, p.2, part-elem _ _ _ _ c.in-Elem.is) (begins_here (reach_value (behind _ (pieces_text c.args.depth ps)) (λ t. behind old (read (t ++ 41 ∷ []))) _ r (rw c.deref.ensures.value at c.in_ok-subst_pieces-in-Elem.ensures.run)))
 
 pub subst_piece-returns-in_ok-push-in-Elem-2-clause-run : goal.subst_piece-returns-in_ok-push-in-Elem-2-clause-run
@@ -253,5 +253,5 @@ subst_piece-returns-in_ok-push-in-Elem-2-clause-run g t c =
     let old = chars (string_bytes c.args.text.now) in
     let ps = map part_of c.in-Elem.index.items in
     let front = element_front _ _ _ _ c.new-element.ensures.bytes c.in_ok-push_text-in-Elem.ensures.ok c.in_ok-push-in-Elem.ensures.ok in
-    let r = element_reach c.args.depth (stretch_of c.in-Elem.field-0) (stretch_of c.in-Elem.name) ps old _ (shown g.W.Output.written g.E.Output.written c.args.state.now c.args.world.now) front in
+    let r = element_reach c.args.depth (stretch_of c.in-Elem.field-0) (stretch_of c.in-Elem.name) ps old _ (shown_state g.W.Output.written g.E.Output.written c.args.state.now c.args.world.now) front in
     rw (part-elem _ _ _ _ c.in-Elem.is) (element_adds _ c.args.depth ps old _ _ _ _ _ _ r (rw c.deref.ensures.value at c.in_ok-subst_pieces-in-Elem.ensures.run) (ap chars c.as_str.ensures.value ∙ c.in_ok-push-in-Elem-2.ensures.ok) (c.add_variable-in-Elem.ensures.run _ _ _))

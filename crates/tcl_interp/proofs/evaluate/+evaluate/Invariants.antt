@@ -12,7 +12,7 @@ use Rattle.tcl_meaning.specs.Value.{behind}
 use Rattle.tcl_meaning.specs.Script.{Run, most_depth, levels_read}
 use Rattle.tcl_meaning.proofs.Rules.{word_after, words_after}
 use Rattle.tcl_interp.specs.Completion.{completion_of}
-use Rattle.tcl_interp.specs.Evaluation.{shown}
+use Rattle.tcl_interp.specs.Evaluation.{shown_state}
 use Rattle.tcl_interp.specs.Channels.{Leaves}
 use Rattle.tcl_interp.proofs.evaluate.+evaluate.Given as goal
 
@@ -37,7 +37,7 @@ decreases-eval_command g l = 1000 * l.state.now.units + (2 * levels_read + 5)
 
 abbrev pub invariant-eval_script-commands : goal.invariant-eval_script-commands
 invariant-eval_script-commands g l = shadow (Utf8 l.rest) × record {
-  same : Run (Script l.fn.depth (normal []) (chars l.fn.script)) (shown g.W.Output.written g.E.Output.written l.fn.state l.fn.world) ≡ Run (Script l.depth (completion_of l.last) (chars l.rest)) (shown g.W.Output.written g.E.Output.written l.state l.world);
+  same : Run (Script l.fn.depth (normal []) (chars l.fn.script)) (shown_state g.W.Output.written g.E.Output.written l.fn.state l.fn.world) ≡ Run (Script l.depth (completion_of l.last) (chars l.rest)) (shown_state g.W.Output.written g.E.Output.written l.state l.world);
   shallow : l.depth ≤ most_depth;
   spends : l.state.units ≤ l.fn.state.units;
   leaves : Leaves g.R.Input.to_come g.W.Output.failed_calls g.E.Output.failed_calls false l.fn.world l.world;
@@ -48,7 +48,7 @@ decreases-eval_script-commands g l = l.state.units
 
 abbrev pub invariant-subst_words-words : goal.invariant-subst_words-words
 invariant-subst_words-words g l = record {
-  same : exec Run (words_text l.depth (map shape_of l.fn.words)) (shown g.W.Output.written g.E.Output.written l.fn.state l.fn.world) ≡ exec Run (words_after l.depth l.values.items (drop l.word-index (map shape_of l.words))) (shown g.W.Output.written g.E.Output.written l.state l.world);
+  same : exec Run (words_text l.depth (map shape_of l.fn.words)) (shown_state g.W.Output.written g.E.Output.written l.fn.state l.fn.world) ≡ exec Run (words_after l.depth l.values.items (drop l.word-index (map shape_of l.words))) (shown_state g.W.Output.written g.E.Output.written l.state l.world);
   shallow : l.depth ≤ most_depth;
   nests : WordsNest levels_read (map shape_of l.words);
   spends : l.state.units ≤ l.fn.state.units;
@@ -57,7 +57,7 @@ invariant-subst_words-words g l = record {
 
 abbrev pub invariant-subst_pieces-pieces : goal.invariant-subst_pieces-pieces
 invariant-subst_pieces-pieces g l = record {
-  same : exec Run (behind (chars (string_bytes l.fn.text)) (pieces_text l.depth (map part_of l.fn.pieces))) (shown g.W.Output.written g.E.Output.written l.fn.state l.fn.world) ≡ exec Run (word_after l.depth (chars (string_bytes l.text)) (drop l.piece-index (map part_of l.pieces))) (shown g.W.Output.written g.E.Output.written l.state l.world);
+  same : exec Run (behind (chars (string_bytes l.fn.text)) (pieces_text l.depth (map part_of l.fn.pieces))) (shown_state g.W.Output.written g.E.Output.written l.fn.state l.fn.world) ≡ exec Run (word_after l.depth (chars (string_bytes l.text)) (drop l.piece-index (map part_of l.pieces))) (shown_state g.W.Output.written g.E.Output.written l.state l.world);
   shallow : l.depth ≤ most_depth;
   nests : PartsNest l.levels (parts_of (map part_of l.pieces));
   spends : l.state.units ≤ l.fn.state.units;

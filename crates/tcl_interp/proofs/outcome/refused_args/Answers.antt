@@ -1,7 +1,4 @@
-use Rattle.std.proofs.Common.{ap, subst, ◌∙◌}
-use Rattle.tcl_meaning.specs.Completions.{failure}
-use Rattle.tcl_meaning.specs.Run.{args_error}
-use Rattle.tcl_interp.proofs.Messages.{args_error_text}
+use Rattle.std.proofs.Common.{subst}
 use Rattle.tcl_interp.specs.Outcome.{IsOutcome}
 use Rattle.tcl_interp.proofs.ReportLemmas.{outcome_quiet}
 use Rattle.tcl_interp.proofs.outcome.refused_args.Goals as goal
@@ -9,5 +6,5 @@ use Rattle.tcl_interp.proofs.outcome.refused_args.Goals as goal
 pub returns-in-Ok : goal.returns-in-Ok
 returns-in-Ok c = record {
   quiet = outcome_quiet c.outcome_of.result _ c.args.left c.outcome_of.ensures;
-  outcome = subst (λ k. IsOutcome c.outcome_of.result k c.args.left) (c.in-Ok.ensures ∙ ap failure args_error_text) c.outcome_of.ensures;
+  outcome = subst (λ k. IsOutcome c.outcome_of.result k c.args.left) c.in-Ok.ensures c.outcome_of.ensures;
 }

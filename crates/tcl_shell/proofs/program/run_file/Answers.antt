@@ -1,7 +1,7 @@
 use Rattle.std.proofs.Common.{ap, ◌∙◌}
 use Rattle.std.specs.Str.{chars}
 use Rattle.tcl_shell.specs.Lines.{told}
-use Rattle.tcl_shell.specs.Program.{joined}
+use Rattle.tcl_chan.specs.Newlines.{joined_newlines}
 use Rattle.tcl_shell.proofs.ProgramLemmas.{counted_told, unread_file, bad_file, refused_file, read_file}
 use Rattle.tcl_shell.proofs.program.run_file.Goals as goal
 
@@ -24,5 +24,5 @@ pub returns-clause-answers : goal.returns-clause-answers
 returns-clause-answers g c =
     let tells = c.tell-2.ensures in
     let text = c.in-Ok.ensures.cases in
-    let script = ap chars c.as_str.ensures.value ∙ c.in-Ok-joined_lines.ensures ∙ ap (λ t. joined (chars t)) text.0 in
+    let script = ap chars c.as_str.ensures.value ∙ c.in-Ok-joined_lines.ensures ∙ ap (λ t. joined_newlines (chars t)) text.0 in
     read_file c.args.budget c.args.words.now c.args.file _ _ _ _ c.in-Some.bytes _ _ _ (told g.E.Output.written g.E.Output.failed_calls c.run-outcome.new.err) c.run-outcome.result c.in-Some.is text.1 script (ap (told g.W.Output.written g.W.Output.failed_calls) tells.out) c.run-outcome.ensures.report (counted_told g.W.Output.failed_calls g.E.Output.failed_calls _ _ _ _ _ c.run-outcome.ensures.failures) tells.status tells.says

@@ -12,4 +12,4 @@ invariant-loop-first l = record {
 }
 
 abbrev pub decreases-loop-first : goal.decreases-loop-first
-decreases-loop-first l = length l.rest
+decreases-loop-first l = length (chars l.rest)

@@ -1,4 +1,4 @@
-use Rattle.tcl_words.proofs.Fronts.{fault_at_front}
+use Rattle.tcl_words.proofs.FaultFronts.{fault_at_front}
 use Rattle.tcl_words.proofs.laws.fault_at_front.Goals as goal
 
 pub returns : goal.returns

@@ -1,4 +1,4 @@
-use Rattle.tcl_words.proofs.Fronts.{open_goes_on}
+use Rattle.tcl_words.proofs.FaultFronts.{open_goes_on}
 use Rattle.tcl_words.proofs.laws.open_goes_on.Goals as goal
 
 pub returns : goal.returns

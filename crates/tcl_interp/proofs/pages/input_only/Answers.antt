@@ -1,8 +1,0 @@
-use Rattle.std.proofs.Common.{ap}
-use Rattle.tcl_meaning.specs.Completions.{failure}
-use Rattle.tcl_interp.proofs.Messages.{input_only_text}
-use Rattle.tcl_interp.proofs.CompletionLemmas.{says}
-use Rattle.tcl_interp.proofs.pages.input_only.Goals as goal
-
-pub returns : goal.returns
-returns c = says c.failure.result _ _ c.failure.ensures (ap failure input_only_text)

@@ -1,0 +1,4 @@
+pub mod Decimals
+pub mod Depths
+pub mod Joined
+pub mod Replaced

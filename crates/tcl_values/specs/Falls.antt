@@ -1,0 +1,21 @@
+-- An element is deeper than the elements of its list.
+use Rattle.std.specs.Prelude.{ℕ, suc, ◌≤◌, ◌≡◌, ◌+◌, List, [], ◌∷◌, max}
+use Rattle.std.proofs.Common.{arith, sym}
+use Rattle.tcl_values.specs.Kept.{Kept, depth_over}
+use Rattle.tcl_values.specs.Shape.{entry_depth, elements, IsEntry, IsElement, AreKept}
+use Rattle.tcl_values.specs.declared.element.Entry.{Entry}
+use Rattle.tcl_values.specs.declared.element.Entry.TheVariants.{Text, Row}
+use Rattle.tcl_values.specs.declared.element.Element.TheInside.{Inside}
+use Rattle.tcl_values.specs.declared.element.Element.TheDeep.{deep-Entry, deep-Element}
+use denote.Param.Weighed.{most}
+
+pub most_le : (ks : List Kept) → most (λ (k : Kept). k.depth + 1) ks ≤ depth_over ks
+most_le [] = omega arith
+most_le (k ∷ ks) = omega (arith, most_le ks)
+
+pub deep_le : (e : Entry) → IsEntry e → deep-Entry e ≤ entry_depth e
+deep_le (Text s) h = omega arith
+deep_le (Row r) h = omega (arith, most_le (elements r.value), h.1.exact)
+
+pub child_le : (a : Inside) → IsElement a → deep-Element a ≤ entry_depth a.entry
+child_le a h = omega (arith, deep_le a.entry h)

@@ -1,0 +1,4 @@
+pub mod Falls
+pub mod Kept
+pub mod Lists
+pub mod Shape

@@ -1,0 +1,104 @@
+-- What is kept of a value, and the text that it stands for.
+use Rattle.std.specs.Prelude.{ℕ, ◌≤◌, ◌≡◌, Bool, true, false, List, [], Option, None, Some, ⊤, Ok, FitsSigned, option_map}
+use Rattle.std.specs.Int.{w64}
+use Rattle.std.specs.Fmt.{signed_decimal}
+use Rattle.std.specs.Option.{IsSome}
+use Rattle.std.specs.Str.{chars}
+use Rattle.std.specs.String.{string_bytes}
+use Rattle.std.specs.declared.rc.RcStr.{RcStr}
+use Rattle.std.specs.declared.alloc.Global.{Global}
+use Rattle.tcl_list.specs.Elements.{elements_of}
+use Rattle.tcl_list.specs.Written.{written}
+use Rattle.tcl_list.specs.Texts.{text_of}
+use Rattle.tcl_values.specs.Kept.{Kept, texts, depth_over}
+use Rattle.tcl_values.specs.declared.element.Items.{Items}
+use Rattle.tcl_values.specs.declared.element.Entry.{Entry}
+use Rattle.tcl_values.specs.declared.element.Entry.TheVariants as entry
+use Rattle.tcl_values.specs.declared.element.Element.TheInside as element
+use Rattle.tcl_values.specs.declared.value.Held.{Held}
+use Rattle.tcl_values.specs.declared.value.Held.TheVariants as held
+use Rattle.tcl_values.specs.declared.value.Value.TheInside as value
+use Rattle.tcl_values.specs.declared.row.Row.TheInside as row
+
+-- the text, or else how the elements are written
+abbrev pub shown : Option (List ℕ) → List Kept → List ℕ
+shown None ks = written (texts ks)
+shown (Some t) ks = t
+
+abbrev pub elements : Items → List Kept
+elements r = r.items.items
+
+abbrev pub shared_text : Option (RcStr Global) → Option (List ℕ)
+shared_text t = option_map text_of t
+
+-- the text that a list stands for
+abbrev pub items_text : Items → List ℕ
+items_text r = shown (shared_text r.text) (elements r)
+
+-- elements that stand for their text: the text is read as them
+pub record AreKept (r : Items) : Type 0 where
+  pub limit : r.depth ≤ 64
+  pub exact : r.depth ≡ depth_over (elements r)
+  pub reading : elements_of (items_text r) ≡ Ok (texts (elements r))
+
+-- the same text and the same elements
+pub record AreSame (r s : Items) : Type 0 where
+  pub text : shared_text r.text ≡ shared_text s.text
+  pub depth : r.depth ≡ s.depth
+  pub elements : elements r ≡ elements s
+
+abbrev pub entry_text : Entry → List ℕ
+entry_text (entry.Text s) = text_of s
+entry_text (entry.Row r) = items_text r.value
+
+abbrev pub entry_depth : Entry → ℕ
+entry_depth (entry.Text s) = 0
+entry_depth (entry.Row r) = r.value.depth
+
+abbrev pub IsEntry : Entry → Type 0
+IsEntry (entry.Text s) = ⊤
+IsEntry (entry.Row r) = IsSome r.value.text × AreKept r.value
+
+abbrev pub kept : element.Inside → Kept
+kept a = record { text = entry_text a.entry; depth = entry_depth a.entry }
+
+abbrev pub IsElement : element.Inside → Type 0
+IsElement a = IsEntry a.entry
+
+-- the text that a value is
+abbrev pub held_text : Held → List ℕ
+held_text (held.Number n) = signed_decimal n
+held_text (held.Text s) = text_of s
+held_text (held.Grown s) = chars (string_bytes s.value)
+held_text (held.Row r) = items_text r.value
+
+abbrev pub IsHeld : Held → Type 0
+IsHeld (held.Number n) = FitsSigned w64 n
+IsHeld (held.Text s) = ⊤
+IsHeld (held.Grown s) = ⊤
+IsHeld (held.Row r) = AreKept r.value
+
+abbrev pub is_row : Held → Bool
+is_row (held.Number n) = false
+is_row (held.Text s) = false
+is_row (held.Grown s) = false
+is_row (held.Row r) = true
+
+-- the elements of a list that is kept, and none of another value
+abbrev pub elements_held : Held → List Kept
+elements_held (held.Number n) = []
+elements_held (held.Text s) = []
+elements_held (held.Grown s) = []
+elements_held (held.Row r) = elements r.value
+
+abbrev pub value_text : value.Inside → List ℕ
+value_text a = held_text a.held
+
+abbrev pub IsValue : value.Inside → Type 0
+IsValue a = IsHeld a.held
+
+abbrev pub row_texts : row.Inside → List (List ℕ)
+row_texts a = texts (elements a.items.value)
+
+abbrev pub IsRow : row.Inside → Type 0
+IsRow a = AreKept a.items.value

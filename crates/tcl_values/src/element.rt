@@ -1,0 +1,130 @@
+//! Elements of lists that are kept.
+
+ghost use Rattle.std.specs.Prelude.{◌≡◌, ◌<◌, IfOk};
+ghost use Rattle.std.specs.Str.{chars};
+ghost use Rattle.tcl_list.specs.Texts.{text_of};
+
+use crate::value::{Held, Value};
+use std::alloc::AllocError;
+use std::marker::Model;
+use std::rc::{Rc, RcStr};
+
+/// An element of a list that is kept: its text is always there.
+#[cycle(element)]
+#[derive(Drop)]
+pub struct Element {
+    pub(crate) entry: Entry,
+}
+
+/// What is kept of an element.
+#[cycle(element)]
+#[derive(Drop)]
+pub(crate) enum Entry {
+    /// Its text alone.
+    Text(RcStr),
+    /// The list that its text is read as, with the text.
+    Row(Rc<Items>),
+}
+
+/// The elements of a list, beside its text where that has been written or read.
+#[cycle(element)]
+#[derive(Drop)]
+pub(crate) struct Items {
+    pub(crate) text: Option<RcStr>,
+    /// How deep it is: one more than its deepest element.
+    pub(crate) depth: u8,
+    pub(crate) items: Vec<Element>,
+}
+
+impl Model for Element {
+    ghost use Rattle.tcl_values.specs.Kept.{Kept};
+
+    ghost Value = { Kept };
+
+    ghost use Rattle.tcl_values.specs.Shape.{kept, IsElement};
+
+    ghost view = { kept };
+
+    ghost invariant = { IsElement };
+
+    ghost size = { λ k. k.depth };
+
+    ghost use Rattle.tcl_values.specs.Falls.{child_le};
+
+    ghost size_decreases = { child_le };
+}
+
+impl Element {
+    /// Its text.
+    pub fn text(&self) -> &str
+        ensures { chars result.now ≡ self.now.text }
+    {
+        match &self.entry {
+            Entry::Text(text) => text.as_str(),
+            Entry::Row(row) => match &row.text {
+                Some(text) => text.as_str(),
+                None => unreachable!(),
+            },
+        }
+    }
+
+    /// A value of the same text. What is kept is shared.
+    pub fn copy(&self) -> Result<Value, AllocError>
+        ensures { IfOk result (λ v. v ≡ self.now.text) }
+    {
+        let held = match &self.entry {
+            Entry::Text(text) => Held::Text(text.clone()?),
+            Entry::Row(row) => Held::Row(row.clone()?),
+        };
+        Ok(Value { held })
+    }
+
+    /// The same element. What is kept is shared.
+    pub(crate) fn duplicate(&self) -> Result<Element, AllocError>
+        ensures { IfOk result (λ e. e ≡ self.now) }
+    {
+        let entry = match &self.entry {
+            Entry::Text(text) => Entry::Text(text.clone()?),
+            Entry::Row(row) => Entry::Row(row.clone()?),
+        };
+        Ok(Element { entry })
+    }
+
+    /// How deep the list is that stands beside its text.
+    pub(crate) fn depth(&self) -> u8
+        ensures { result ≡ self.now.depth }
+    {
+        match &self.entry {
+            Entry::Text(_) => 0,
+            Entry::Row(row) => row.depth,
+        }
+    }
+
+    /// The element as a value.
+    pub(crate) fn into_value(self) -> Value
+        ensures { result ≡ self.text }
+    {
+        let held = match self.entry {
+            Entry::Text(text) => Held::Text(text),
+            Entry::Row(row) => Held::Row(row),
+        };
+        Value { held }
+    }
+
+    /// The element as its text alone.
+    pub(crate) fn plain(&self) -> Result<Element, AllocError>
+        ensures text { IfOk result (λ e. e.text ≡ self.now.text) }
+        ensures depth { IfOk result (λ e. e.depth ≡ 0) }
+    {
+        let text = match &self.entry {
+            Entry::Text(text) => text.clone()?,
+            Entry::Row(row) => match &row.text {
+                Some(text) => text.clone()?,
+                None => unreachable!(),
+            },
+        };
+        Ok(Element {
+            entry: Entry::Text(text),
+        })
+    }
+}

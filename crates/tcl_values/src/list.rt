@@ -1,0 +1,331 @@
+//! Values read as lists, and changed as lists.
+
+ghost use Rattle.std.specs.Prelude.{◌≡◌, ◌<◌, ◌≤◌, true, map, IfOk, OnOk, OnErr};
+ghost use Rattle.tcl_list.specs.Elements.{elements_of};
+ghost use Rattle.tcl_list.specs.Texts.{text_of, Answers};
+ghost use Rattle.tcl_list.specs.Written.{written};
+ghost use Rattle.tcl_values.specs.Kept.{texts, depth_over};
+ghost use Rattle.tcl_values.specs.Lists.{count_of, item_of, part_of, pushed, spliced, with_item, Leaves};
+ghost use Rattle.tcl_values.specs.Shape.{elements, elements_held, held_text, is_row, items_text, AreKept, IsHeld};
+
+use crate::element::{Element, Entry, Items};
+use crate::items::{
+    gathered, part, push_element, row_text, set_element, settle, splice, take_element,
+};
+use crate::row::Row;
+use crate::value::{Held, Value};
+use std::alloc::{AllocError, Global};
+use std::rc::{Rc, RcStr};
+use tcl_chars::Fault;
+use tcl_list::split;
+
+/// Texts as elements that are their texts alone.
+fn plain_elements(alloc: Global, words: Vec<RcStr>) -> Result<Vec<Element>, AllocError>
+    ensures texts { IfOk result (λ v. texts v.items ≡ map text_of words.items) }
+    ensures depth { IfOk result (λ v. depth_over v.items ≡ 1) }
+{
+    let mut elements = Vec::with_capacity(alloc, words.len())?;
+    for text in words {
+        elements.push(Element {
+            entry: Entry::Text(text),
+        })?;
+    }
+    Ok(elements)
+}
+
+/// The list that a text is read as, with the text beside it.
+fn read_text(alloc: Global, text: RcStr) -> Result<Rc<Items>, Fault>
+    ensures read { Answers (λ r. texts (elements r.value)) result (elements_of (text_of text)) }
+    ensures same { IfOk result (λ r. items_text r.value ≡ text_of text) }
+    ensures kept { IfOk result (λ r. AreKept r.value) }
+{
+    let words = split(alloc, text.as_str())?;
+    let items = plain_elements(alloc, words)?;
+    let row = Items {
+        text: Some(text),
+        depth: 1,
+        items,
+    };
+    Ok(Rc::new(alloc, row)?)
+}
+
+/// Reads what is kept as a list, which is kept from now on.
+fn read_row(held: &mut Held, alloc: Global) -> Result<(), Fault>
+    requires { IsHeld held.old }
+    ensures read { Answers (λ _. texts (elements_held held.new)) result (elements_of (held_text held.old)) }
+    ensures row { OnOk result (is_row held.new ≡ true) }
+    ensures same { held_text held.new ≡ held_text held.old }
+    ensures kept { IsHeld held.new }
+{
+    if held.is_row() {
+        return Ok(());
+    }
+    let text = held.text(alloc)?;
+    let row = read_text(alloc, text)?;
+    *held = Held::Row(row);
+    Ok(())
+}
+
+/// A list as an element, with its text; one that is too deep is its text alone.
+fn row_element(mut row: Rc<Items>, alloc: Global) -> Result<Element, AllocError>
+    requires { AreKept row.value }
+    ensures text { IfOk result (λ e. e.text ≡ items_text row.value) }
+    ensures depth { IfOk result (λ e. e.depth < 64) }
+{
+    if row.depth < 64 {
+        settle(&mut row, alloc)?;
+        return Ok(Element {
+            entry: Entry::Row(row),
+        });
+    }
+    Ok(Element {
+        entry: Entry::Text(row_text(&row, alloc)?),
+    })
+}
+
+/// Values as elements.
+fn into_elements(alloc: Global, values: Vec<Value>) -> Result<Vec<Element>, AllocError>
+    ensures texts { IfOk result (λ v. texts v.items ≡ values.items) }
+    ensures depth { IfOk result (λ v. depth_over v.items ≤ 64) }
+{
+    let mut elements = Vec::with_capacity(alloc, values.len())?;
+    for value in values {
+        elements.push(value.into_element(alloc)?)?;
+    }
+    Ok(elements)
+}
+
+/// Elements as values. What is kept is shared.
+fn copy_values(alloc: Global, elements: &[Element]) -> Result<Vec<Value>, AllocError>
+    ensures { IfOk result (λ v. v.items ≡ texts elements.now) }
+{
+    let mut values = Vec::with_capacity(alloc, elements.len())?;
+    for element in elements {
+        values.push(element.copy()?)?;
+    }
+    Ok(values)
+}
+
+impl Value {
+    /// The value as an element: its text is written, and a list that is too deep is dropped.
+    fn into_element(self, alloc: Global) -> Result<Element, AllocError>
+        ensures text { IfOk result (λ e. e.text ≡ self) }
+        ensures depth { IfOk result (λ e. e.depth < 64) }
+    {
+        match self.held {
+            Held::Row(row) => row_element(row, alloc),
+            Held::Text(text) => Ok(Element {
+                entry: Entry::Text(text),
+            }),
+            held => {
+                let text = held.text(alloc)?;
+                Ok(Element {
+                    entry: Entry::Text(text),
+                })
+            }
+        }
+    }
+
+    /// Adds an element at the end of the list that the text is read as: lappend(n).
+    ///
+    /// # Errors
+    ///
+    /// `Fault::Error` with the list's fault, `Fault::Memory`; the value is then as it was.
+    pub fn push(&mut self, alloc: Global, item: Value) -> Result<(), Fault>
+        ensures done { Leaves self.new (pushed self.old item) result }
+        ensures same { OnErr result (self.new ≡ self.old) }
+    {
+        let element = item.into_element(alloc)?;
+        read_row(&mut self.held, alloc)?;
+        match &mut self.held {
+            Held::Row(row) => {
+                push_element(row, element)?;
+                Ok(())
+            }
+            _ => unreachable!(),
+        }
+    }
+
+    /// How many elements the list has that the text is read as: llength(n).
+    ///
+    /// # Errors
+    ///
+    /// `Fault::Error` with the list's fault, `Fault::Memory`.
+    pub fn count(&mut self, alloc: Global) -> Result<usize, Fault>
+        ensures count { Answers (λ n. n) result (count_of self.old) }
+        ensures same { self.new ≡ self.old }
+    {
+        read_row(&mut self.held, alloc)?;
+        match &self.held {
+            Held::Row(row) => Ok(row.items.len()),
+            _ => unreachable!(),
+        }
+    }
+
+    /// The element at a place of the list that the text is read as; none where the list has no such place: lindex(n).
+    ///
+    /// # Errors
+    ///
+    /// `Fault::Error` with the list's fault, `Fault::Memory`.
+    pub fn item(&mut self, alloc: Global, index: usize) -> Result<Option<Value>, Fault>
+        ensures item { Answers (λ o. o) result (item_of self.old index) }
+        ensures same { self.new ≡ self.old }
+    {
+        read_row(&mut self.held, alloc)?;
+        match &self.held {
+            Held::Row(row) => match row.items.get(index) {
+                Some(element) => Ok(Some(element.copy()?)),
+                None => Ok(None),
+            },
+            _ => unreachable!(),
+        }
+    }
+
+    /// The elements of the list that the text is read as. They are shared with the value, not copied.
+    ///
+    /// # Errors
+    ///
+    /// `Fault::Error` with the list's fault, `Fault::Memory`.
+    pub fn row(&mut self, alloc: Global) -> Result<Row, Fault>
+        ensures row { Answers (λ r. r) result (elements_of self.old) }
+        ensures same { self.new ≡ self.old }
+    {
+        read_row(&mut self.held, alloc)?;
+        match &self.held {
+            Held::Row(row) => Ok(Row {
+                items: row.clone()?,
+            }),
+            _ => unreachable!(),
+        }
+    }
+
+    /// The elements of the list that the text is read as, as values. What is kept of them is shared.
+    ///
+    /// # Errors
+    ///
+    /// `Fault::Error` with the list's fault, `Fault::Memory`.
+    pub fn list(&mut self, alloc: Global) -> Result<Vec<Value>, Fault>
+        ensures list { Answers (λ v. v.items) result (elements_of self.old) }
+        ensures same { self.new ≡ self.old }
+    {
+        read_row(&mut self.held, alloc)?;
+        match &self.held {
+            Held::Row(row) => Ok(copy_values(alloc, &row.items)?),
+            _ => unreachable!(),
+        }
+    }
+
+    /// The value that is a list of these values: list(n).
+    pub fn of_list(alloc: Global, items: Vec<Value>) -> Result<Value, AllocError>
+        ensures { IfOk result (λ v. v ≡ written items.items) }
+    {
+        let elements = into_elements(alloc, items)?;
+        let row = gathered(alloc, elements)?;
+        Ok(Value {
+            held: Held::Row(row),
+        })
+    }
+
+    /// Some elements of the list that the text is read as, as a list of their own: of those from the place `first` on, `count`, or all
+    /// where there are fewer: lrange(n).
+    ///
+    /// # Errors
+    ///
+    /// `Fault::Error` with the list's fault, `Fault::Memory`.
+    pub fn range(&mut self, alloc: Global, first: usize, count: usize) -> Result<Value, Fault>
+        ensures range { Answers (λ v. v) result (part_of self.old first count) }
+        ensures same { self.new ≡ self.old }
+    {
+        read_row(&mut self.held, alloc)?;
+        match &self.held {
+            Held::Row(row) => {
+                let elements = part(alloc, row, first, count)?;
+                let row = gathered(alloc, elements)?;
+                Ok(Value {
+                    held: Held::Row(row),
+                })
+            }
+            _ => unreachable!(),
+        }
+    }
+
+    /// Puts another element at a place of the list that the text is read as, and answers the one before: lset(n). Where the list
+    /// has no such place, nothing changes and the answer is none.
+    ///
+    /// # Errors
+    ///
+    /// `Fault::Error` with the list's fault, `Fault::Memory`; the value is then as it was.
+    pub fn replace_item(
+        &mut self,
+        alloc: Global,
+        index: usize,
+        item: Value,
+    ) -> Result<Option<Value>, Fault>
+        ensures before { Answers (λ o. o) result (item_of self.old index) }
+        ensures done { OnOk result (with_item self.old index item ≡ Ok self.new) }
+        ensures same { OnErr result (self.new ≡ self.old) }
+    {
+        let element = item.into_element(alloc)?;
+        read_row(&mut self.held, alloc)?;
+        match &mut self.held {
+            Held::Row(row) => {
+                if row.items.len() <= index {
+                    return Ok(None);
+                }
+                let before = set_element(row, index, element)?;
+                Ok(Some(before.into_value()))
+            }
+            _ => unreachable!(),
+        }
+    }
+
+    /// The element at a place of the list that the text is read as, as [`Value::item`], but taken out where nobody else holds the
+    /// list: its text alone stays. So the element is changed in place, before it is put back by [`Value::replace_item`].
+    ///
+    /// # Errors
+    ///
+    /// `Fault::Error` with the list's fault, `Fault::Memory`.
+    pub fn take_item(&mut self, alloc: Global, index: usize) -> Result<Option<Value>, Fault>
+        ensures item { Answers (λ o. o) result (item_of self.old index) }
+        ensures same { self.new ≡ self.old }
+    {
+        read_row(&mut self.held, alloc)?;
+        match &mut self.held {
+            Held::Row(row) => {
+                if row.items.len() <= index {
+                    return Ok(None);
+                }
+                let element = take_element(row, index)?;
+                Ok(Some(element.into_value()))
+            }
+            _ => unreachable!(),
+        }
+    }
+
+    /// Puts elements in the place of `count` others, or of as many as there are, behind the first ones of the list that the text is read
+    /// as: linsert(n), lreplace(n).
+    ///
+    /// # Errors
+    ///
+    /// `Fault::Error` with the list's fault, `Fault::Memory`; the value is then as it was.
+    pub fn splice(
+        &mut self,
+        alloc: Global,
+        first: usize,
+        count: usize,
+        items: Vec<Value>,
+    ) -> Result<(), Fault>
+        ensures done { Leaves self.new (spliced self.old first count items.items) result }
+        ensures same { OnErr result (self.new ≡ self.old) }
+    {
+        let inserted = into_elements(alloc, items)?;
+        read_row(&mut self.held, alloc)?;
+        match &mut self.held {
+            Held::Row(row) => {
+                splice(row, first, count, inserted)?;
+                Ok(())
+            }
+            _ => unreachable!(),
+        }
+    }
+}

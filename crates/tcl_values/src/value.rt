@@ -1,0 +1,218 @@
+//! Values: made, read as texts and as numbers, copied.
+
+ghost use Rattle.std.specs.Prelude.{◌≡◌, ◌<◌, ◌++◌, IfOk, IfSome, OnOk, OnErr, true};
+ghost use Rattle.std.specs.Fmt.{signed_decimal};
+ghost use Rattle.std.specs.Str.{chars};
+ghost use Rattle.std.specs.String.{string_bytes};
+ghost use Rattle.tcl_chars.specs.Whole.{whole_of};
+ghost use Rattle.tcl_list.specs.Texts.{text_of};
+ghost use Rattle.tcl_values.specs.Shape.{held_text, is_row, IsHeld};
+
+use crate::element::Items;
+use crate::items::{row_text, show};
+use itoa::Buffer;
+use std::alloc::{AllocError, Global};
+use std::marker::Model;
+use std::rc::{Rc, RcStr};
+use tcl_chars::{Dialect, Whole, push_text, read_whole};
+
+/// A value of a script, which contracts see as its text.
+#[derive(Drop)]
+pub struct Value {
+    pub(crate) held: Held,
+}
+
+/// What is kept of a value.
+#[derive(Drop)]
+pub(crate) enum Held {
+    /// A number, whose text is its decimal digits.
+    Number(i64),
+    /// A text.
+    Text(RcStr),
+    /// A text that grows at its end.
+    Grown(Rc<String>),
+    /// A list.
+    Row(Rc<Items>),
+}
+
+impl Model for Value {
+    ghost use Rattle.std.specs.Prelude.{List, ℕ};
+
+    ghost Value = { List ℕ };
+
+    ghost use Rattle.tcl_values.specs.Shape.{value_text, IsValue};
+
+    ghost view = { value_text };
+
+    ghost invariant = { IsValue };
+}
+
+/// A number's decimal text.
+fn decimal(alloc: Global, n: i64) -> Result<RcStr, AllocError>
+    ensures { IfOk result (λ t. text_of t ≡ signed_decimal n) }
+{
+    let mut buffer = Buffer::new();
+    RcStr::from_str(alloc, buffer.format(n))
+}
+
+/// Is the text the number's decimal text?
+fn is_decimal(n: i64, text: &str) -> bool
+    ensures { result ≡ true → chars text.now ≡ signed_decimal n }
+{
+    let mut buffer = Buffer::new();
+    buffer.format(n) == text
+}
+
+/// The number that a text is read as, if the text is its decimal text.
+fn canonical(text: &str, whole: Whole) -> Option<i64>
+    ensures { IfSome result (λ n. chars text.now ≡ signed_decimal n) }
+{
+    match whole {
+        Whole::Number(n) => if is_decimal(n, text) { Some(n) } else { None },
+        Whole::TooLarge | Whole::Not => None,
+    }
+}
+
+/// The one text and the other behind it.
+fn joined(alloc: Global, text: &str, more: &str) -> Result<String, AllocError>
+    ensures { IfOk result (λ s. chars (string_bytes s) ≡ chars text.now ++ chars more.now) }
+{
+    let mut joined = String::from_str(alloc, text)?;
+    push_text(&mut joined, more)?;
+    Ok(joined)
+}
+
+/// Writes a text at the end of one, in place where nobody else holds it.
+fn grow(text: &mut Rc<String>, more: &str) -> Result<(), AllocError>
+    ensures done { OnOk result (chars (string_bytes text.new.value)
+        ≡ chars (string_bytes text.old.value) ++ chars more.now) }
+    ensures same { OnErr result (string_bytes text.new.value ≡ string_bytes text.old.value) }
+{
+    let own = Rc::make_mut(text)?;
+    push_text(own, more)
+}
+
+impl Held {
+    /// Is it a list?
+    pub(crate) fn is_row(&self) -> bool
+        ensures { result ≡ is_row self.now }
+    {
+        matches!(self, Held::Row(_))
+    }
+
+    /// The text.
+    pub(crate) fn text(&self, alloc: Global) -> Result<RcStr, AllocError>
+        ensures { IfOk result (λ t. text_of t ≡ held_text self.now) }
+    {
+        match self {
+            Held::Number(n) => decimal(alloc, *n),
+            Held::Text(text) => text.clone(),
+            Held::Grown(text) => RcStr::from_str(alloc, text.as_str()),
+            Held::Row(row) => row_text(row, alloc),
+        }
+    }
+}
+
+impl Value {
+    /// The value that is this text.
+    pub fn of_text(text: RcStr) -> Value
+        ensures { result ≡ text_of text }
+    {
+        Value {
+            held: Held::Text(text),
+        }
+    }
+
+    /// The value that is this text, which can grow in place.
+    pub fn of_string(alloc: Global, text: String) -> Result<Value, AllocError>
+        ensures { IfOk result (λ v. v ≡ chars (string_bytes text)) }
+    {
+        Ok(Value {
+            held: Held::Grown(Rc::new(alloc, text)?),
+        })
+    }
+
+    /// The value that is a number's decimal text.
+    pub fn of_int(n: i64) -> Value
+        ensures { result ≡ signed_decimal n }
+    {
+        Value {
+            held: Held::Number(n),
+        }
+    }
+
+    /// Its text.
+    pub fn text(&mut self, alloc: Global) -> Result<RcStr, AllocError>
+        ensures text { IfOk result (λ t. text_of t ≡ self.old) }
+        ensures same { self.new ≡ self.old }
+    {
+        match &mut self.held {
+            Held::Row(row) => show(row, alloc),
+            held => held.text(alloc),
+        }
+    }
+
+    /// What its text says as a whole number.
+    pub fn whole(&mut self, alloc: Global, dialect: Dialect) -> Result<Whole, AllocError>
+        ensures whole { IfOk result (λ w. w ≡ whole_of dialect self.old) }
+        ensures same { self.new ≡ self.old }
+    {
+        if let Held::Number(n) = &self.held {
+            return Ok(Whole::Number(*n));
+        }
+        let text = self.held.text(alloc)?;
+        let whole = read_whole(text.as_str(), dialect);
+        if let Some(n) = canonical(text.as_str(), whole) {
+            self.held = Held::Number(n);
+        }
+        Ok(whole)
+    }
+
+    /// A value of the same text. What is kept is shared.
+    pub fn copy(&self) -> Result<Value, AllocError>
+        ensures { IfOk result (λ v. v ≡ self.now) }
+    {
+        let held = match &self.held {
+            Held::Number(n) => Held::Number(*n),
+            Held::Text(text) => Held::Text(text.clone()?),
+            Held::Grown(text) => Held::Grown(text.clone()?),
+            Held::Row(row) => Held::Row(row.clone()?),
+        };
+        Ok(Value { held })
+    }
+
+    /// Its text, where it stands ready: not that of a number, nor that of a list which nobody has asked for its text.
+    pub fn shown(&self) -> Option<&str>
+        ensures { IfSome result (λ t. chars t.now ≡ self.now) }
+    {
+        match &self.held {
+            Held::Number(_) => None,
+            Held::Text(text) => Some(text.as_str()),
+            Held::Grown(text) => Some(text.as_str()),
+            Held::Row(row) => match &row.text {
+                Some(text) => Some(text.as_str()),
+                None => None,
+            },
+        }
+    }
+
+    /// Writes a text at its end: append(n). A text that grows and has no copy grows in place.
+    ///
+    /// # Errors
+    ///
+    /// `AllocError` where a growth was refused; the value is then as it was.
+    pub fn append(&mut self, alloc: Global, more: &str) -> Result<(), AllocError>
+        ensures done { OnOk result (self.new ≡ self.old ++ chars more.now) }
+        ensures same { OnErr result (self.new ≡ self.old) }
+    {
+        match &mut self.held {
+            Held::Grown(text) => grow(text, more),
+            held => {
+                let text = held.text(alloc)?;
+                let grown = joined(alloc, text.as_str(), more)?;
+                *held = Held::Grown(Rc::new(alloc, grown)?);
+                Ok(())
+            }
+        }
+    }
+}
