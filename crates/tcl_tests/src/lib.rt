@@ -17,4 +17,6 @@ mod names;
 #[cfg(test)]
 mod shell;
 #[cfg(test)]
+mod values;
+#[cfg(test)]
 mod words;
