@@ -14,7 +14,7 @@ use itoa::Buffer;
 use std::alloc::{AllocError, Global};
 use std::marker::Model;
 use std::rc::{Rc, RcStr};
-use tcl_chars::{Dialect, Whole, push_text, read_whole};
+use tcl_chars::{Dialect, Whole, number_text, push_text, read_whole};
 
 /// A value of a script, which contracts see as its text.
 #[derive(Drop)]
@@ -45,14 +45,6 @@ impl Model for Value {
     ghost view = { value_text };
 
     ghost invariant = { IsValue };
-}
-
-/// A number's decimal text.
-fn decimal(alloc: Global, n: i64) -> Result<RcStr, AllocError>
-    ensures { IfOk result (λ t. text_of t ≡ signed_decimal n) }
-{
-    let mut buffer = Buffer::new();
-    RcStr::from_str(alloc, buffer.format(n))
 }
 
 /// Is the text the number's decimal text?
@@ -105,7 +97,7 @@ impl Held {
         ensures { IfOk result (λ t. text_of t ≡ held_text self.now) }
     {
         match self {
-            Held::Number(n) => decimal(alloc, *n),
+            Held::Number(n) => number_text(alloc, *n),
             Held::Text(text) => text.clone(),
             Held::Grown(text) => RcStr::from_str(alloc, text.as_str()),
             Held::Row(row) => row_text(row, alloc),
