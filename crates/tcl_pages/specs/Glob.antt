@@ -7,8 +7,8 @@ use Rattle.tcl_pages.specs.Texts.{Text}
 abbrev pub question : ℕ
 question = 63
 
-abbrev pub minus : ℕ
-minus = 45
+abbrev pub dash : ℕ
+dash = 45
 
 -- is c between x and y, in whichever order they stand
 abbrev pub is_between : ℕ → ℕ → ℕ → Bool
@@ -19,7 +19,7 @@ abbrev pub in_set : Text → ℕ → Bool
 in_set [] c = false
 in_set (x ∷ []) c = x == c
 in_set (x ∷ d ∷ []) c = (x == c) || (d == c)
-in_set (x ∷ d ∷ y ∷ set) c = if d == minus then is_between x y c || in_set set c else (x == c) || in_set (d ∷ y ∷ set) c
+in_set (x ∷ d ∷ y ∷ set) c = if d == dash then is_between x y c || in_set set c else (x == c) || in_set (d ∷ y ∷ set) c
 
 -- what a pattern has left at its next `]`
 abbrev pub to_bracket : Text → Text

@@ -85,6 +85,11 @@ indices_of [] = Ok []
 indices_of (word ∷ []) = elements_of word
 indices_of (word ∷ other ∷ words) = Ok (word ∷ other ∷ words)
 
+-- Others in place of the elements from the place `first` on, in front of the place `behind`; where that is not behind `first`,
+-- none are taken out.
+abbrev pub replaced : List Text → ℕ → ℕ → List Text → List Text
+replaced es first behind new = take first es ++ (new ++ drop (max first behind) es)
+
 -- ---- lassign
 
 -- for n names, the elements from the first on, and empty texts where those are too few
@@ -142,12 +147,8 @@ module _ (dialect : Dialect) where
   linsert (list ∷ i ∷ new) = do
     es ← elements_of list
     place ← index i (length es + 1)
-    Ok (written (take (clamped place (length es)) es ++ new ++ drop (clamped place (length es)) es))
+    Ok (written (replaced es (clamped place (length es)) (clamped place (length es)) new))
   linsert _ = usage (literal "linsert list index ?element ...?")
-
-  -- in place of the elements from first to last, others; none are taken out where last is before first
-  abbrev pub replaced : List Text → ℕ → ℕ → List Text → List Text
-  replaced es first behind new = take first es ++ new ++ drop (max first behind) es
 
   -- lreplace list first last ?element ...?
   abbrev pub lreplace : List Text → Answer Text

@@ -26,15 +26,15 @@ with_search_option o t =
     if same_text t (literal "-not") then Ok (record o { negated = true }) else bad_option t search_options))))
 
 -- does the element fit the pattern
-abbrev pub fits : SearchOptions → Text → Text → Bool
-fits o pattern e =
+abbrev pub is_wanted : SearchOptions → Text → Text → Bool
+is_wanted o pattern e =
     if o.negated then not (if o.exact then same_text pattern e else glob pattern e) else (
     if o.exact then same_text pattern e else glob pattern e)
 
 -- the elements that fit, each behind its place; the first of es stands at the place n
-abbrev pub fitting : SearchOptions → Text → ℕ → List Text → List (ℕ × Text)
-fitting o pattern n [] = []
-fitting o pattern n (e ∷ es) = if fits o pattern e then (n, e) ∷ fitting o pattern (suc n) es else fitting o pattern (suc n) es
+abbrev pub wanted : SearchOptions → Text → ℕ → List Text → List (ℕ × Text)
+wanted o pattern n [] = []
+wanted o pattern n (e ∷ es) = if is_wanted o pattern e then (n, e) ∷ wanted o pattern (suc n) es else wanted o pattern (suc n) es
 
 -- the place of the first one that fits, or -1; the element itself, or the empty text
 abbrev pub first_found : Bool → List (ℕ × Text) → Text
@@ -43,12 +43,12 @@ first_found true (f ∷ fs) = f.1
 first_found false [] = literal "-1"
 first_found false (f ∷ fs) = count_text f.0
 
-abbrev pub shown : Bool → ℕ × Text → Text
-shown true f = f.1
-shown false f = count_text f.0
+abbrev pub hit_text : Bool → ℕ × Text → Text
+hit_text true f = f.1
+hit_text false f = count_text f.0
 
 abbrev pub found : SearchOptions → List (ℕ × Text) → Text
-found o fs = if o.all then written (map (shown o.inline) fs) else first_found o.inline fs
+found o fs = if o.all then written (map (hit_text o.inline) fs) else first_found o.inline fs
 
 -- lsearch ?-option ...? list pattern: all words but the last two are options
 abbrev pub search_with : SearchOptions → List Text → Answer Text
@@ -56,7 +56,7 @@ search_with o [] = usage (literal "lsearch ?-option ...? list pattern")
 search_with o (t ∷ []) = usage (literal "lsearch ?-option ...? list pattern")
 search_with o (list ∷ pattern ∷ []) = do
   es ← elements_of list
-  Ok (found o (fitting o pattern 0 es))
+  Ok (found o (wanted o pattern 0 es))
 search_with o (t ∷ u ∷ v ∷ ts) = do
   more ← with_search_option o t
   search_with more (u ∷ v ∷ ts)

@@ -47,8 +47,8 @@ SortedIsStable A = (before : A → A → Bool) → IsStrictWeakOrder before → 
 -- ---- the command
 
 -- texts are in the order of their characters
-abbrev pub text_before : Text → Text → Bool
-text_before t u = is_lt (slice_cmp nat_cmp t u)
+abbrev pub stands_before : Text → Text → Bool
+stands_before t u = is_lt (slice_cmp nat_cmp t u)
 
 -- elements in the order of the numbers that stand with them
 abbrev pub number_before : ℤ × Text → ℤ × Text → Bool
@@ -84,7 +84,7 @@ module _ (dialect : Dialect) where
       if o.integer then (do
         items ← numbered es
         Ok (map (λ (x : ℤ × Text). x.1) (in_order o (directed o.decreasing number_before) items)))
-      else Ok (in_order o (directed o.decreasing text_before) es)
+      else Ok (in_order o (directed o.decreasing stands_before) es)
 
   -- lsort ?-option ...? list: all words but the last are options
   abbrev pub sort_with : SortOptions → List Text → Answer Text

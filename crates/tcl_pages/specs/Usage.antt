@@ -7,7 +7,7 @@ use Rattle.tcl_pages.specs.Texts.{Text}
 
 -- another count of words than its usage has
 abbrev pub usage : {A : Type 0} → Text → Answer A
-usage u = Err (literal "wrong # args: should be \"" ++ u ++ literal "\"")
+usage u = Err (literal "wrong # args: should be \"" ++ (u ++ literal "\""))
 
 -- choices in a sentence, as `a, b, or c`
 abbrev pub choices : List Text → Text
