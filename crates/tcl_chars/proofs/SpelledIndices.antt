@@ -5,7 +5,7 @@ use Rattle.std.specs.Str.{chars}
 use Rattle.std.proofs.lemmas.Bool.{cases_Bool, cond-true, cond-false, ltb-true, lt-ltb, false_from_ne_true}
 use Rattle.std.proofs.lemmas.List.{append-nil, length-append, take_at}
 use Rattle.std.proofs.lemmas.Slice.Eq.{bytes_eq-Decides}
-use Rattle.tcl_chars.specs.Index.{has_space, to_sign, of_whole, base_of, signed_offset, offset_of, moved, joined, number_or_sum, index_of}
+use Rattle.tcl_chars.specs.Index.{has_space, to_sign, of_whole, base_of, signed_offset, offset_of, moved, shifted, number_or_sum, index_of}
 use Rattle.tcl_chars.specs.Laws.{IsBase, IsUnsigned, Spells, IndexIsSpelled}
 use Rattle.tcl_chars.specs.Laws.IsBase.{last, number}
 use Rattle.tcl_chars.specs.Laws.Spells.{alone, base, plus, minus}
@@ -61,14 +61,14 @@ base_is dialect b q h = elim (cases_Bool (same_text b (literal "end"))) [
   ]
 ]
 
-joined_at : (i : Index) (w : Whole) (p : Position) → joined i w ≡ index.At p → (q : Position) × (z : ℤ) × (i ≡ index.At q) × (w ≡ whole.Number z) × (p ≡ moved q z)
-joined_at index.Not w p h = absurd cc
-joined_at index.TooLarge whole.Not p h = absurd cc
-joined_at index.TooLarge whole.TooLarge p h = absurd cc
-joined_at index.TooLarge (whole.Number n) p h = absurd cc
-joined_at (index.At q) whole.Not p h = absurd cc
-joined_at (index.At q) whole.TooLarge p h = absurd cc
-joined_at (index.At q) (whole.Number n) p h = (q, n, refl, refl, cc)
+shifted_at : (i : Index) (w : Whole) (p : Position) → shifted i w ≡ index.At p → (q : Position) × (z : ℤ) × (i ≡ index.At q) × (w ≡ whole.Number z) × (p ≡ moved q z)
+shifted_at index.Not w p h = absurd cc
+shifted_at index.TooLarge whole.Not p h = absurd cc
+shifted_at index.TooLarge whole.TooLarge p h = absurd cc
+shifted_at index.TooLarge (whole.Number n) p h = absurd cc
+shifted_at (index.At q) whole.Not p h = absurd cc
+shifted_at (index.At q) whole.TooLarge p h = absurd cc
+shifted_at (index.At q) (whole.Number n) p h = (q, n, refl, refl, cc)
 
 offset_at : (minus_here : Bool) (m : Option ℕ) (z : ℤ) → signed_offset minus_here m ≡ whole.Number z → (n : ℕ) × (m ≡ Some n) × (n < 2 ^ 63) × (z ≡ cond minus_here (neg_ℤ (pos n)) (pos n))
 offset_at b None z h = absurd cc
@@ -94,15 +94,15 @@ spells_sum : (dialect : Dialect) (b o : List ℕ) (s n : ℕ) (q : Position) →
 spells_sum dialect b o _ n q is_plus h u = plus b o q n h u
 spells_sum dialect b o _ n q is_minus h u = minus b o q n h u
 
-sum_spelled : (dialect : Dialect) (b r : List ℕ) (p : Position) → ((s : ℕ) (o : List ℕ) → r ≡ s ∷ o → IsSign s) → joined (base_of dialect b) (offset_of dialect r) ≡ index.At p → Spells dialect (b ++ r) p
+sum_spelled : (dialect : Dialect) (b r : List ℕ) (p : Position) → ((s : ℕ) (o : List ℕ) → r ≡ s ∷ o → IsSign s) → shifted (base_of dialect b) (offset_of dialect r) ≡ index.At p → Spells dialect (b ++ r) p
 sum_spelled dialect b [] p sign h =
-    let (q, z, e, f, g) = joined_at (base_of dialect b) (whole.Number (pos 0)) p h in
+    let (q, z, e, f, g) = shifted_at (base_of dialect b) (whole.Number (pos 0)) p h in
     let i = base_is dialect b q e in
     let k : pos 0 ≡ z = cc in
     let same : p ≡ q = g ∙ ap (moved q) (sym k) ∙ IsBase-unmoved dialect b q i in
     subst (λ t. Spells dialect t p) (sym (append-nil b)) (base b p (subst (IsBase dialect b) (sym same) i))
 sum_spelled dialect b (s ∷ o) p sign h =
-    let (q, z, e, f, g) = joined_at (base_of dialect b) (offset_of dialect (s ∷ o)) p h in
+    let (q, z, e, f, g) = shifted_at (base_of dialect b) (offset_of dialect (s ∷ o)) p h in
     let (n, u, k) = offset_is dialect s o z f in
     subst (Spells dialect (b ++ s ∷ o)) (sym (g ∙ ap (moved q) k)) (spells_sum dialect b o s n q (sign s o refl) (base_is dialect b q e) u)
 
@@ -137,9 +137,9 @@ sum_read dialect b o s n q i h u found none =
     let off : offset_of dialect (s ∷ o) ≡ whole.Number (cond (s == 45) (neg_ℤ (pos n)) (pos n)) =
     cond-false _ _ _ u.plain ∙ ap (signed_offset (s == 45)) u.says ∙ cond-true _ _ _ (lt-ltb n (2 ^ 63) u.small) in
     ap (number_or_sum dialect cs) none
-    ∙ ap (λ t. joined (base_of dialect t) (offset_of dialect (to_sign (tail cs)))) left
-    ∙ ap (λ t. joined (base_of dialect b) (offset_of dialect t)) found
-    ∙ ap (λ t. joined t (offset_of dialect (s ∷ o))) h ∙ ap (joined (index.At q)) off
+    ∙ ap (λ t. shifted (base_of dialect t) (offset_of dialect (to_sign (tail cs)))) left
+    ∙ ap (λ t. shifted (base_of dialect b) (offset_of dialect t)) found
+    ∙ ap (λ t. shifted t (offset_of dialect (s ∷ o))) h ∙ ap (shifted (index.At q)) off
 
 end_found : (s : ℕ) (o : List ℕ) → IsSign s → to_sign (tail (literal "end" ++ s ∷ o)) ≡ s ∷ o
 unfolding chars

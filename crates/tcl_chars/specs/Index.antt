@@ -54,18 +54,18 @@ moved (Start number none) offset = Start number offset
 moved (End none) offset = End offset
 
 -- A part that is no number makes no index, and otherwise a number that is too large makes one that is too large.
-abbrev pub joined : Index → Whole → Index
-joined index.Not offset = index.Not
-joined index.TooLarge whole.Not = index.Not
-joined index.TooLarge whole.TooLarge = index.TooLarge
-joined index.TooLarge (whole.Number n) = index.TooLarge
-joined (index.At position) whole.Not = index.Not
-joined (index.At position) whole.TooLarge = index.TooLarge
-joined (index.At position) (whole.Number n) = index.At (moved position n)
+abbrev pub shifted : Index → Whole → Index
+shifted index.Not offset = index.Not
+shifted index.TooLarge whole.Not = index.Not
+shifted index.TooLarge whole.TooLarge = index.TooLarge
+shifted index.TooLarge (whole.Number n) = index.TooLarge
+shifted (index.At position) whole.Not = index.Not
+shifted (index.At position) whole.TooLarge = index.TooLarge
+shifted (index.At position) (whole.Number n) = index.At (moved position n)
 
 -- The sign of a sum stands behind the first character: a sign in front belongs to the number.
 abbrev pub sum_of : Dialect → List ℕ → Index
-sum_of dialect cs = joined (base_of dialect (before cs (to_sign (tail cs)))) (offset_of dialect (to_sign (tail cs)))
+sum_of dialect cs = shifted (base_of dialect (before cs (to_sign (tail cs)))) (offset_of dialect (to_sign (tail cs)))
 
 -- a number alone, with list space round it; or a sum, or `end`
 abbrev pub number_or_sum : Dialect → List ℕ → Whole → Index

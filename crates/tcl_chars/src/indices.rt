@@ -2,7 +2,7 @@
 
 ghost use Rattle.std.specs.Prelude.{◌≡◌, Some};
 ghost use Rattle.std.specs.Str.{chars};
-ghost use Rattle.tcl_chars.specs.Index.{place_of, clamp, has_space, to_sign, of_whole, base_of, signed_offset, offset_of, moved, joined, sum_of, index_of};
+ghost use Rattle.tcl_chars.specs.Index.{place_of, clamp, has_space, to_sign, of_whole, base_of, signed_offset, offset_of, moved, shifted, sum_of, index_of};
 ghost use Rattle.tcl_chars.specs.Whole.{magnitude};
 
 use crate::classes::is_list_space;
@@ -142,8 +142,8 @@ fn moved(position: Position, offset: i64) -> Position
 }
 
 /// An index from what stands in front of its sign and from there on.
-fn joined(base: Index, offset: Whole) -> Index
-    ensures { result ≡ joined base offset }
+fn shifted(base: Index, offset: Whole) -> Index
+    ensures { result ≡ shifted base offset }
 {
     match (base, offset) {
         (Index::At(position), Whole::Number(number)) => Index::At(moved(position, number)),
@@ -157,7 +157,7 @@ fn read_sum(text: &str, dialect: Dialect) -> Index
     ensures { result ≡ sum_of dialect (chars text.now) }
 {
     let rest = to_sign(tail(text));
-    joined(
+    shifted(
         read_base(before(text, rest), dialect),
         read_offset(rest, dialect),
     )

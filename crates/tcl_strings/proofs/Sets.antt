@@ -4,7 +4,7 @@ use Rattle.std.proofs.lemmas.Bool.{cases_Bool, cond-true, cond-false, cond_both}
 use Rattle.tcl_chars.specs.Place.{EndsWith}
 use Rattle.tcl_chars.specs.Characters.{close_bracket}
 use Rattle.tcl_chars.proofs.Ends.{ends_self, ends_more}
-use Rattle.tcl_pages.specs.Glob.{in_set, is_between, minus, to_bracket}
+use Rattle.tcl_pages.specs.Glob.{in_set, is_between, dash, to_bracket}
 use Rattle.tcl_strings.specs.Glob.{range_end}
 
 or_false : (b : Bool) → b ≡ (b || false)
@@ -24,7 +24,7 @@ pub with_range : (x c : ℕ) (cs : List ℕ) (r : ℕ × List ℕ) → range_end
 with_range x c [] r e = no_some r e
 with_range x c (d ∷ []) r e = no_some r e
 with_range x c (d ∷ z ∷ cs) r e =
-    elim (cases_Bool (d == minus)) [
+    elim (cases_Bool (d == dash)) [
       | inl t ↦ cond-true _ _ _ t ∙ ap (λ (p : ℕ × List ℕ). is_between x p.0 c || in_set p.1 c) (some_same (z, cs) r (sym (cond-true _ _ _ t) ∙ e))
       | inr f ↦ no_some r (sym (cond-false _ _ _ f) ∙ e)
     ]
@@ -33,7 +33,7 @@ pub without_range : (x c : ℕ) (cs : List ℕ) → range_end cs ≡ None → in
 without_range x c [] e = or_false (x == c)
 without_range x c (d ∷ []) e = refl
 without_range x c (d ∷ z ∷ cs) e =
-    elim (cases_Bool (d == minus)) [
+    elim (cases_Bool (d == dash)) [
       | inl t ↦ some_no (z, cs) (sym (cond-true _ _ _ t) ∙ e)
       | inr f ↦ cond-false _ _ _ f
     ]
@@ -42,7 +42,7 @@ pub range_shorter : (cs : List ℕ) (r : ℕ × List ℕ) → Some r ≡ range_e
 range_shorter [] r e = some_no r e
 range_shorter (d ∷ []) r e = some_no r e
 range_shorter (d ∷ z ∷ cs) r e =
-    cond_both (d == minus) _ _ (λ (o : Option (ℕ × List ℕ)). Some r ≡ o → length r.1 ≤ length (d ∷ z ∷ cs)) (λ _ p. within r (z, cs) p) (λ _ p. some_no r p) e
+    cond_both (d == dash) _ _ (λ (o : Option (ℕ × List ℕ)). Some r ≡ o → length r.1 ≤ length (d ∷ z ∷ cs)) (λ _ p. within r (z, cs) p) (λ _ p. some_no r p) e
   where
     within : (a b : ℕ × List ℕ) → Some a ≡ Some b → length a.1 ≤ suc (suc (length b.1))
     within a b p = omega (arith, ap (λ (q : ℕ × List ℕ). length q.1) (some_same a b p))

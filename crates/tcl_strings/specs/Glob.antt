@@ -3,7 +3,7 @@ use Rattle.std.specs.Prelude.{◌≡◌, ◌≢◌, ◌⊎◌, ◌≤◌, ℕ, t
 use Rattle.std.specs.Str.{chars}
 use Rattle.tcl_chars.specs.Characters.{star}
 use Rattle.tcl_chars.specs.Place.{begins}
-use Rattle.tcl_pages.specs.Glob.{One, any, just, one_of, minus, takes, first_part, some_rest, glob}
+use Rattle.tcl_pages.specs.Glob.{One, any, just, one_of, dash, takes, first_part, some_rest, glob}
 use Rattle.tcl_strings.specs.declared.glob.Part.{Part}
 use Rattle.tcl_strings.specs.declared.glob.Part.TheVariants as part
 
@@ -16,7 +16,7 @@ one_of_part (part.OneOf set) = one_of (chars set.now)
 abbrev pub range_end : List ℕ → Option (ℕ × List ℕ)
 range_end [] = None
 range_end (d ∷ []) = None
-range_end (d ∷ y ∷ cs) = if d == minus then Some (y, cs) else None
+range_end (d ∷ y ∷ cs) = if d == dash then Some (y, cs) else None
 
 -- the parts of ps up to qs take the characters of t up to u
 pub data Taken : List ℕ → List ℕ → List ℕ → List ℕ → Type 0 where

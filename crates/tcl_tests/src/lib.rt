@@ -17,6 +17,4 @@ mod names;
 #[cfg(test)]
 mod shell;
 #[cfg(test)]
-mod values;
-#[cfg(test)]
 mod words;

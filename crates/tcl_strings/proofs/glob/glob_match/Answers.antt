@@ -1,6 +1,4 @@
-use Rattle.std.proofs.Common.{◌≡◌, sym, ap, ◌∙◌, arith, rules, length}
-use Rattle.std.specs.Str.{chars}
-use Rattle.tcl_pages.specs.Glob.{glob}
+use Rattle.std.proofs.Common.{sym, ◌∙◌, rules}
 use Rattle.tcl_strings.proofs.FirstFit.{kept, star_goes_on, all_matched}
 use Rattle.tcl_strings.proofs.glob.glob_match.Goals as goal
 

@@ -1,0 +1,144 @@
+-- Words by their places.
+use Rattle.std.proofs.Common.{◌≡◌, ◌≢◌, ℕ, zero, suc, ◌+◌, ◌≤◌, ◌<◌, ℤ, pos, List, [], ◌∷◌, length, drop, take, ◌++◌, append_assoc, Ok, sym, ap, ◌∙◌, refl, arith}
+use Rattle.std.specs.Prelude.{◌+ℤ◌}
+use Rattle.std.proofs.lemmas.List.{length-map}
+use Rattle.tcl_lists.specs.WordAt.{word}
+use Rattle.tcl_pages.specs.Answers.{Answer, ◌>>=◌}
+use Rattle.tcl_list.specs.Elements.{elements_of}
+use Rattle.tcl_list.specs.Written.{written}
+use Rattle.tcl_pages.specs.Lists.{index, clamped, replaced, llength, lreverse, lrange, linsert, lreplace}
+use Rattle.tcl_pages.specs.Texts.{Text}
+use Rattle.tcl_pages.specs.Usage.{usage}
+use Rattle.tcl_chars.specs.Texts.{literal}
+use Rattle.tcl_chars.specs.declared.numbers.Dialect.{Dialect}
+use Rattle.tcl_values.specs.Kept.{Kept, texts}
+
+pub three_words : (ws : List Text) → length ws ≡ 3 → ws ≡ word ws 0 ∷ word ws 1 ∷ word ws 2 ∷ []
+three_words [] h = absurd (omega arith)
+three_words (a ∷ []) h = absurd (omega arith)
+three_words (a ∷ b ∷ []) h = absurd (omega arith)
+three_words (a ∷ b ∷ c ∷ []) h = refl
+three_words (a ∷ b ∷ c ∷ d ∷ ws) h = absurd (omega arith)
+
+pub two_more : (ws : List Text) → 2 ≤ length ws → ws ≡ word ws 0 ∷ word ws 1 ∷ drop 2 ws
+two_more [] h = absurd (omega arith)
+two_more (a ∷ []) h = absurd (omega arith)
+two_more (a ∷ b ∷ ws) h = refl
+
+pub three_more : (ws : List Text) → 3 ≤ length ws → ws ≡ word ws 0 ∷ word ws 1 ∷ word ws 2 ∷ drop 3 ws
+three_more [] h = absurd (omega arith)
+three_more (a ∷ []) h = absurd (omega arith)
+three_more (a ∷ b ∷ []) h = absurd (omega arith)
+three_more (a ∷ b ∷ c ∷ ws) h = refl
+
+-- ---- another count of words than the usage has
+
+pub llength_usage : (ws : List Text) → length ws ≢ 1 → llength ws ≡ usage (literal "llength list")
+llength_usage [] h = refl
+llength_usage (a ∷ []) h = absurd (h refl)
+llength_usage (a ∷ b ∷ ws) h = refl
+
+pub lreverse_usage : (ws : List Text) → length ws ≢ 1 → lreverse ws ≡ usage (literal "lreverse list")
+lreverse_usage [] h = refl
+lreverse_usage (a ∷ []) h = absurd (h refl)
+lreverse_usage (a ∷ b ∷ ws) h = refl
+
+pub lrange_usage : (d : Dialect) (ws : List Text) → length ws ≢ 3 → lrange d ws ≡ usage (literal "lrange list first last")
+lrange_usage d [] h = refl
+lrange_usage d (a ∷ []) h = refl
+lrange_usage d (a ∷ b ∷ []) h = refl
+lrange_usage d (a ∷ b ∷ c ∷ []) h = absurd (h refl)
+lrange_usage d (a ∷ b ∷ c ∷ e ∷ ws) h = refl
+
+pub linsert_usage : (d : Dialect) (ws : List Text) → length ws < 2 → linsert d ws ≡ usage (literal "linsert list index ?element ...?")
+linsert_usage d [] h = refl
+linsert_usage d (a ∷ []) h = refl
+linsert_usage d (a ∷ b ∷ ws) h = absurd (omega arith)
+
+pub lreplace_usage : (d : Dialect) (ws : List Text) → length ws < 3 → lreplace d ws ≡ usage (literal "lreplace list first last ?element ...?")
+lreplace_usage d [] h = refl
+lreplace_usage d (a ∷ []) h = refl
+lreplace_usage d (a ∷ b ∷ []) h = refl
+lreplace_usage d (a ∷ b ∷ c ∷ ws) h = absurd (omega arith)
+
+-- ---- elements by their texts
+
+pub count_is : (ks : List Kept) (es : List Text) → texts ks ≡ es → length ks ≡ length es
+count_is ks es e = sym (length-map ks (λ (k : Kept). k.text)) ∙ ap length e
+
+pub texts_front : (n : ℕ) (ks : List Kept) → texts (take n ks) ≡ take n (texts ks)
+texts_front zero ks = refl
+texts_front (suc n) [] = refl
+texts_front (suc n) (k ∷ ks) = ap (λ ts. k.text ∷ ts) (texts_front n ks)
+
+pub texts_rest : (n : ℕ) (ks : List Kept) → texts (drop n ks) ≡ drop n (texts ks)
+texts_rest zero ks = refl
+texts_rest (suc n) [] = refl
+texts_rest (suc n) (k ∷ ks) = texts_rest n ks
+
+pub texts_part : (first last : ℕ) (ks : List Kept) → texts (drop first (take last ks)) ≡ drop first (take last (texts ks))
+texts_part first last ks = texts_rest first (take last ks) ∙ ap (drop first) (texts_front last ks)
+
+pub in_three : (m0 m1 m2 m3 a b c : List Text) → m0 ≡ [] → m1 ≡ m0 ++ a → m2 ≡ m1 ++ b → m3 ≡ m2 ++ c → m3 ≡ a ++ (b ++ c)
+in_three m0 m1 m2 m3 a b c e0 e1 e2 e3 = e3 ∙ ap (λ t. t ++ c) (e2 ∙ ap (λ t. t ++ b) (e1 ∙ ap (λ t. t ++ a) e0)) ∙ append_assoc a b c
+
+-- ---- what the commands answer
+
+-- a place that a word says, by words that are still the same and a count of elements that is the same
+at_place : (d : Dialect) (ws ws1 : List Text) (i n m : ℕ) (z : ℤ) → ws1 ≡ ws → n ≡ m → index d (word ws1 i) n ≡ Ok z → index d (word ws i) m ≡ Ok z
+at_place d ws ws1 i n m z s e h = sym (ap (λ u. index d (word u i) n) s ∙ ap (index d (word ws i)) e) ∙ h
+
+abbrev ranged : List Text → ℤ → ℤ → Answer Text
+ranged xs p q = Ok (written (drop (clamped p (length xs)) (take (clamped (q +ℤ pos 1) (length xs)) xs)))
+
+abbrev range_last : Dialect → Text → List Text → ℤ → Answer Text
+range_last d last xs p = index d last (length xs) >>= ranged xs p
+
+abbrev range_first : Dialect → Text → Text → List Text → Answer Text
+range_first d first last xs = index d first (length xs) >>= range_last d last xs
+
+pub lrange_is : (d : Dialect) (ws ws1 ws2 es : List Text) (n : ℕ) (f l : ℤ) (a b : ℕ) (ts : List Text) (v : Text) → length ws ≡ 3 → ws1 ≡ ws → ws2 ≡ ws1
+    → elements_of (word ws 0) ≡ Ok es → n ≡ length es → index d (word ws1 1) n ≡ Ok f → index d (word ws2 2) n ≡ Ok l
+    → a ≡ clamped f n → b ≡ clamped (l +ℤ pos 1) n → ts ≡ es → v ≡ written (drop a (take b ts)) → lrange d ws ≡ Ok v
+lrange_is d ws ws1 ws2 es n f l a b ts v len s1 s2 e0 en e1 e2 ea eb et ev =
+    ap (lrange d) (three_words ws len) ∙ ap (λ r. r >>= range_first d (word ws 1) (word ws 2)) e0 ∙ ap (λ r. r >>= range_last d (word ws 2) es) (at_place d ws ws1 1 n (length es) f s1 en e1)
+    ∙ ap (λ r. r >>= ranged es f) (at_place d ws ws2 2 n (length es) l (s2 ∙ s1) en e2) ∙ ap Ok (sym (ev ∙ same))
+  where
+    same : written (drop a (take b ts)) ≡ written (drop (clamped f (length es)) (take (clamped (l +ℤ pos 1) (length es)) es))
+    same = rw (ea, eb, et, en) refl
+
+abbrev inserted_at : List Text → List Text → ℤ → Answer Text
+inserted_at new xs p = Ok (written (replaced xs (clamped p (length xs)) (clamped p (length xs)) new))
+
+abbrev insert_in : Dialect → Text → List Text → List Text → Answer Text
+insert_in d i new xs = index d i (length xs + 1) >>= inserted_at new xs
+
+pub linsert_is : (d : Dialect) (ws ws1 ws2 es : List Text) (n : ℕ) (z : ℤ) (a : ℕ) (ts : List Text) (v : Text) → 2 ≤ length ws → ws1 ≡ ws → ws2 ≡ ws1
+    → elements_of (word ws 0) ≡ Ok es → n ≡ length es → index d (word ws1 1) (n + 1) ≡ Ok z
+    → a ≡ clamped z n → ts ≡ es → v ≡ written (replaced ts a a (drop 2 ws2)) → linsert d ws ≡ Ok v
+linsert_is d ws ws1 ws2 es n z a ts v len s1 s2 e0 en e1 ea et ev =
+    ap (linsert d) (two_more ws len) ∙ ap (λ r. r >>= insert_in d (word ws 1) (drop 2 ws)) e0
+    ∙ ap (λ r. r >>= inserted_at (drop 2 ws) es) (at_place d ws ws1 1 (n + 1) (length es + 1) z s1 (ap (λ k. k + 1) en) e1) ∙ ap Ok (sym (ev ∙ same))
+  where
+    same : written (replaced ts a a (drop 2 ws2)) ≡ written (replaced es (clamped z (length es)) (clamped z (length es)) (drop 2 ws))
+    same = rw (ea, et, en, s2, s1) refl
+
+abbrev replaced_at : List Text → List Text → ℤ → ℤ → Answer Text
+replaced_at new xs p q = Ok (written (replaced xs (clamped p (length xs)) (clamped (q +ℤ pos 1) (length xs)) new))
+
+abbrev replace_last : Dialect → Text → List Text → List Text → ℤ → Answer Text
+replace_last d last new xs p = index d last (length xs) >>= replaced_at new xs p
+
+abbrev replace_first : Dialect → Text → Text → List Text → List Text → Answer Text
+replace_first d first last new xs = index d first (length xs) >>= replace_last d last new xs
+
+pub lreplace_is : (d : Dialect) (ws ws1 ws2 ws3 es : List Text) (n : ℕ) (f l : ℤ) (a b : ℕ) (ts : List Text) (v : Text) → 3 ≤ length ws → ws1 ≡ ws → ws2 ≡ ws1 → ws3 ≡ ws2
+    → elements_of (word ws 0) ≡ Ok es → n ≡ length es → index d (word ws1 1) n ≡ Ok f → index d (word ws2 2) n ≡ Ok l
+    → a ≡ clamped f n → b ≡ clamped (l +ℤ pos 1) n → ts ≡ es → v ≡ written (replaced ts a b (drop 3 ws3)) → lreplace d ws ≡ Ok v
+lreplace_is d ws ws1 ws2 ws3 es n f l a b ts v len s1 s2 s3 e0 en e1 e2 ea eb et ev =
+    ap (lreplace d) (three_more ws len) ∙ ap (λ r. r >>= replace_first d (word ws 1) (word ws 2) (drop 3 ws)) e0
+    ∙ ap (λ r. r >>= replace_last d (word ws 2) (drop 3 ws) es) (at_place d ws ws1 1 n (length es) f s1 en e1)
+    ∙ ap (λ r. r >>= replaced_at (drop 3 ws) es f) (at_place d ws ws2 2 n (length es) l (s2 ∙ s1) en e2) ∙ ap Ok (sym (ev ∙ same))
+  where
+    same : written (replaced ts a b (drop 3 ws3)) ≡ written (replaced es (clamped f (length es)) (clamped (l +ℤ pos 1) (length es)) (drop 3 ws))
+    same = rw (ea, eb, et, en, s3, s2, s1) refl

@@ -1,0 +1,140 @@
+//! Parts of lists: lrange(n), linsert(n), lreplace(n).
+
+ghost use Rattle.std.specs.Prelude.{◌≡◌, take, drop, IfOk};
+ghost use Rattle.tcl_chars.specs.Answers.{Answers};
+ghost use Rattle.tcl_list.specs.Written.{written};
+ghost use Rattle.tcl_pages.specs.Lists as spec;
+ghost use Rattle.tcl_values.specs.Kept.{texts};
+
+use crate::message::usage;
+use crate::whole::{push_elements, push_values};
+use crate::words::{behind, clamped, index_at, row_at};
+use std::alloc::{AllocError, Global};
+use tcl_chars::{Dialect, Fault};
+use tcl_values::{Element, Value};
+
+/// The first elements, so many, or all where there are fewer.
+fn front(elements: &[Element], count: usize) -> &[Element]
+    ensures { result.now ≡ take count elements.now }
+{
+    match elements.get(..count) {
+        Some(some) => some,
+        None => elements,
+    }
+}
+
+/// The elements from a place on.
+fn rest(elements: &[Element], first: usize) -> &[Element]
+    ensures { result.now ≡ drop first elements.now }
+{
+    match elements.get(first..) {
+        Some(some) => some,
+        None => &[],
+    }
+}
+
+/// The values from a place on.
+fn values_from(values: &[Value], first: usize) -> &[Value]
+    ensures { result.now ≡ drop first values.now }
+{
+    match values.get(first..) {
+        Some(some) => some,
+        None => &[],
+    }
+}
+
+/// The list of the elements from `first` on, in front of `last`.
+fn part(alloc: Global, elements: &[Element], first: usize, last: usize) -> Result<Value, AllocError>
+    ensures { IfOk result (λ v. v ≡ written (drop first (take last (texts elements.now)))) }
+{
+    let mut values = Vec::new(alloc);
+    push_elements(&mut values, rest(front(elements, last), first))?;
+    Value::of_list(alloc, values)
+}
+
+/// The list of elements where those of `new` from `begin` on stand in place of those from `first` on, in front of `last`.
+fn spliced(
+    alloc: Global,
+    elements: &[Element],
+    first: usize,
+    last: usize,
+    new: &[Value],
+    begin: usize,
+) -> Result<Value, AllocError>
+    ensures { IfOk result (λ v. v ≡ written (spec.replaced (texts elements.now) first last (drop begin new.now))) }
+{
+    let mut values = Vec::new(alloc);
+    push_elements(&mut values, front(elements, first))?;
+    push_values(&mut values, values_from(new, begin))?;
+    push_elements(&mut values, rest(elements, first.max(last)))?;
+    Value::of_list(alloc, values)
+}
+
+/// `lrange list first last`: the list of the elements from the first place to the last one.
+///
+/// # Errors
+///
+/// `Fault::Error` with the usage, the list's fault or the first bad index, `Fault::Memory`.
+pub fn lrange(alloc: Global, words: &mut [Value], dialect: Dialect) -> Result<Value, Fault>
+    ensures answer { Answers (λ v. v) result (spec.lrange dialect words.old) }
+    ensures same { words.new ≡ words.old }
+{
+    if words.len() != 3 {
+        return usage(alloc, "lrange list first last");
+    }
+    let row = row_at(alloc, words, 0)?;
+    let count = row.items().len();
+    let first = index_at(alloc, words, 1, count, dialect)?;
+    let last = index_at(alloc, words, 2, count, dialect)?;
+    Ok(part(
+        alloc,
+        row.items(),
+        clamped(first, count),
+        behind(last, count),
+    )?)
+}
+
+/// `linsert list index ?element ...?`: the list with elements in front of the place, where `end` is behind the last element.
+///
+/// # Errors
+///
+/// `Fault::Error` with the usage, the list's fault or that of the index, `Fault::Memory`.
+pub fn linsert(alloc: Global, words: &mut [Value], dialect: Dialect) -> Result<Value, Fault>
+    ensures answer { Answers (λ v. v) result (spec.linsert dialect words.old) }
+    ensures same { words.new ≡ words.old }
+{
+    if words.len() < 2 {
+        return usage(alloc, "linsert list index ?element ...?");
+    }
+    let row = row_at(alloc, words, 0)?;
+    let count = row.items().len();
+    let place = index_at(alloc, words, 1, count + 1, dialect)?;
+    let place = clamped(place, count);
+    Ok(spliced(alloc, row.items(), place, place, &*words, 2)?)
+}
+
+/// `lreplace list first last ?element ...?`: the list with elements in place of those from the first place to the last one.
+///
+/// # Errors
+///
+/// `Fault::Error` with the usage, the list's fault or the first bad index, `Fault::Memory`.
+pub fn lreplace(alloc: Global, words: &mut [Value], dialect: Dialect) -> Result<Value, Fault>
+    ensures answer { Answers (λ v. v) result (spec.lreplace dialect words.old) }
+    ensures same { words.new ≡ words.old }
+{
+    if words.len() < 3 {
+        return usage(alloc, "lreplace list first last ?element ...?");
+    }
+    let row = row_at(alloc, words, 0)?;
+    let count = row.items().len();
+    let first = index_at(alloc, words, 1, count, dialect)?;
+    let last = index_at(alloc, words, 2, count, dialect)?;
+    Ok(spliced(
+        alloc,
+        row.items(),
+        clamped(first, count),
+        behind(last, count),
+        &*words,
+        3,
+    )?)
+}

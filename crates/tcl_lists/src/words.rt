@@ -1,0 +1,74 @@
+//! The words behind a command's name, read as texts, lists and places. A reading leaves them as they were.
+
+ghost use Rattle.std.specs.Prelude.{◌≡◌, ◌<◌, ◌+ℤ◌, pos, length, IfOk};
+ghost use Rattle.tcl_chars.specs.Answers.{Answers};
+ghost use Rattle.tcl_chars.specs.Texts.{text_of};
+ghost use Rattle.tcl_list.specs.Elements.{elements_of};
+ghost use Rattle.tcl_lists.specs.WordAt.{word};
+ghost use Rattle.tcl_pages.specs.Lists as spec;
+
+use std::alloc::{AllocError, Global};
+use std::rc::RcStr;
+use tcl_chars::{Dialect, Fault, expect_position, place_of};
+use tcl_values::{Row, Value};
+
+/// The text of the word at a place.
+pub(crate) fn text_at(alloc: Global, words: &mut [Value], place: usize) -> Result<RcStr, AllocError>
+    requires { place < length words.old }
+    ensures text { IfOk result (λ t. text_of t ≡ word words.old place) }
+    ensures same { words.new ≡ words.old }
+{
+    words[place].text(alloc)
+}
+
+/// The elements of the word at a place.
+pub(crate) fn row_at(alloc: Global, words: &mut [Value], place: usize) -> Result<Row, Fault>
+    requires { place < length words.old }
+    ensures row { Answers (λ r. r) result (elements_of (word words.old place)) }
+    ensures same { words.new ≡ words.old }
+{
+    words[place].row(alloc)
+}
+
+/// The place among `count` elements that the word at a place says.
+pub(crate) fn index_at(
+    alloc: Global,
+    words: &mut [Value],
+    place: usize,
+    count: usize,
+    dialect: Dialect,
+) -> Result<i128, Fault>
+    requires { place < length words.old }
+    ensures index { Answers (λ z. z) result (spec.index dialect (word words.old place) count) }
+    ensures same { words.new ≡ words.old }
+{
+    let text = text_at(alloc, words, place)?;
+    let position = expect_position(alloc, text.as_str(), dialect)?;
+    Ok(place_of(position, count))
+}
+
+/// The place from 0 to `count` that is nearest.
+pub(crate) fn clamped(place: i128, count: usize) -> usize
+    ensures { result ≡ spec.clamped place count }
+{
+    if place < 0 {
+        return 0;
+    }
+    if place > i128::from(count as u64) {
+        return count;
+    }
+    place as usize
+}
+
+/// The place from 0 to `count` that is nearest to the one behind a place.
+pub(crate) fn behind(place: i128, count: usize) -> usize
+    ensures { result ≡ spec.clamped (place +ℤ pos 1) count }
+{
+    if place < 0 {
+        return 0;
+    }
+    if place >= i128::from(count as u64) {
+        return count;
+    }
+    place as usize + 1
+}
