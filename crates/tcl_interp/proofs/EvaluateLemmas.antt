@@ -12,14 +12,14 @@ use Rattle.tcl_words.specs.declared.fault.Syntax.{Syntax}
 use Rattle.tcl_words.specs.declared.word.Word.{Word}
 use Rattle.tcl_words.specs.declared.word.Parsed.{Parsed}
 use Rattle.tcl_words.specs.declared.word.Parsed.TheVariants as parsed
-use Rattle.tcl_meaning.specs.State.{State}
-use Rattle.tcl_meaning.specs.Beginnings.{state_of, Goes}
-use Rattle.tcl_meaning.specs.Effects.{Prog, Got, Gives, on_got, exec, ◌>>=◌ as andthen}
-use Rattle.tcl_meaning.specs.Value.{Value, Has, Fails, ◌>>=◌, give, on_value, behind}
-use Rattle.tcl_meaning.specs.Substitution.{piece_text, index_text, pieces_text, one_word, words_text, read, spelled_element}
-use Rattle.tcl_meaning.specs.Script.{Run, run_command, with_words, invoke}
-use Rattle.tcl_meaning.proofs.Runs.{exec-goes, exec-bind, outputs_trans}
-use Rattle.tcl_meaning.proofs.Rules.{Reaches, onward, on_got-more, reach_value, fails_value, bind_bind, bind_give, word_start, index-word, command_value}
+use Rattle.tcl_first_path.specs.State.{State}
+use Rattle.tcl_first_path.specs.Beginnings.{state_of, Goes}
+use Rattle.tcl_first_path.specs.Effects.{Prog, Got, Gives, on_got, exec, ◌>>=◌ as andthen}
+use Rattle.tcl_first_path.specs.Value.{Value, Has, Fails, ◌>>=◌, give, on_value, behind}
+use Rattle.tcl_first_path.specs.Substitution.{piece_text, index_text, pieces_text, one_word, words_text, read, spelled_element}
+use Rattle.tcl_first_path.specs.Script.{Run, run_command, with_words, invoke}
+use Rattle.tcl_first_path.proofs.Runs.{exec-goes, exec-bind, outputs_trans}
+use Rattle.tcl_first_path.proofs.Rules.{Reaches, onward, on_got-more, reach_value, fails_value, bind_bind, bind_give, word_start, index-word, command_value}
 use Rattle.tcl_interp.specs.Evaluate.{FaultFollows, Follows, HaltFollows, ValueFollows, stopped}
 use Rattle.tcl_interp.specs.declared.completion.Completion.{Completion}
 use Rattle.tcl_interp.specs.declared.fault.EvalFault.{EvalFault}

@@ -3,7 +3,7 @@ use Rattle.std.proofs.Common.{◌≡◌, ℕ, Bool, true, false, cond, ◌==◌,
 use Rattle.std.proofs.lemmas.Bool.{cond-true}
 use Rattle.tcl_chars.specs.Characters.{open_paren, close_paren}
 use Rattle.tcl_chars.specs.Place.{EndsWith, begins, before}
-use Rattle.tcl_meaning.specs.Variables.{from_paren, last_part, without_colons, Name, element_name, by_paren, divided_name}
+use Rattle.tcl_first_path.specs.Variables.{from_paren, last_part, without_colons, Name, element_name, by_paren, divided_name}
 
 pub ends_itself : (cs : List ℕ) → EndsWith cs cs
 ends_itself cs = record { front = []; joined = refl }

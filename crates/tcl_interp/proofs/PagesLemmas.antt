@@ -12,10 +12,10 @@ use Rattle.tcl_chan.specs.declared.fault.Out.{Out}
 use Rattle.tcl_chan.specs.declared.fault.Out.TheVariants as out
 use Rattle.tcl_chan.specs.declared.fault.ChanFault.{ChanFault}
 use Rattle.tcl_chan.specs.declared.fault.ChanFault.TheVariants as chan
-use Rattle.tcl_meaning.specs.State.{put_bytes, Store, State, wrote}
-use Rattle.tcl_meaning.specs.Effects.{Gives}
-use Rattle.tcl_meaning.specs.Beginnings.{OutBegins, OutputsBegin}
-use Rattle.tcl_meaning.proofs.Runs.{out_same, out_front}
+use Rattle.tcl_first_path.specs.State.{put_bytes, Store, State, wrote}
+use Rattle.tcl_first_path.specs.Effects.{Gives}
+use Rattle.tcl_first_path.specs.Beginnings.{OutBegins, OutputsBegin}
+use Rattle.tcl_first_path.proofs.Runs.{out_same, out_front}
 use Rattle.tcl_interp.specs.Evaluate.{FaultFollows}
 use Rattle.tcl_interp.specs.Fault.{fault_by}
 use Rattle.tcl_interp.specs.Pages.{output_at}

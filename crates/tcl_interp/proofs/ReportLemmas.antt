@@ -2,12 +2,12 @@
 use Rattle.std.proofs.Common.{◌≡◌, ◌<◌, ◌≤◌, ℕ, false, List, [], ◌∷◌, length, map, Option, refl, sym, subst, arith}
 use Rattle.std.specs.FinMap as finmap
 use Rattle.tcl_chars.specs.Texts.{literal}
-use Rattle.tcl_meaning.specs.State.{Variables, text, state_with}
-use Rattle.tcl_meaning.specs.Completions as meaning
-use Rattle.tcl_meaning.specs.Effects.{Got, Gives}
-use Rattle.tcl_meaning.specs.Beginnings.{state_of, OutputsBegin}
-use Rattle.tcl_meaning.specs.Run.{args_put, args_error, run_script, run_with_args}
-use Rattle.tcl_meaning.proofs.Runs.{out_same}
+use Rattle.tcl_first_path.specs.State.{Variables, text, state_with}
+use Rattle.tcl_first_path.specs.Completions as meaning
+use Rattle.tcl_first_path.specs.Effects.{Got, Gives}
+use Rattle.tcl_first_path.specs.Beginnings.{state_of, OutputsBegin}
+use Rattle.tcl_first_path.specs.Run.{args_put, args_error, run_script, run_with_args}
+use Rattle.tcl_first_path.proofs.Runs.{out_same}
 use Rattle.tcl_interp.specs.Outcome.{outcome_fails, outcome_is_io, IsOutcome, Ends}
 use Rattle.tcl_interp.specs.Report.{Reports}
 use Rattle.tcl_interp.specs.declared.report.Report.{Report}

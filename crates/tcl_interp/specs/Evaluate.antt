@@ -1,11 +1,11 @@
 -- What a result of the evaluator says of the definition's: all of it, or, where memory was refused or a device failed, that
 -- the outputs are beginnings of the definition's.
 use Rattle.std.specs.Prelude.{◌≡◌, Result, Ok, Err}
-use Rattle.tcl_meaning.specs.State.{State}
-use Rattle.tcl_meaning.specs.Completions as meaning
-use Rattle.tcl_meaning.specs.Effects.{Got, Gives, Broke}
-use Rattle.tcl_meaning.specs.Value.{Value, Has, Fails}
-use Rattle.tcl_meaning.specs.Beginnings.{state_of, OutputsBegin}
+use Rattle.tcl_first_path.specs.State.{State}
+use Rattle.tcl_first_path.specs.Completions as meaning
+use Rattle.tcl_first_path.specs.Effects.{Got, Gives, Broke}
+use Rattle.tcl_first_path.specs.Value.{Value, Has, Fails}
+use Rattle.tcl_first_path.specs.Beginnings.{state_of, OutputsBegin}
 use Rattle.tcl_interp.specs.Completion.{completion_of}
 use Rattle.tcl_interp.specs.declared.completion.Completion.{Completion}
 use Rattle.tcl_interp.specs.declared.fault.EvalFault.{EvalFault}

@@ -3,7 +3,7 @@ use Rattle.std.specs.Prelude.{ℕ, List, Option}
 use Rattle.tcl_chan.specs.Worlds.{stdout, stderr}
 use Rattle.tcl_chan.specs.declared.reading.Reader.{Reader}
 use Rattle.tcl_chan.specs.declared.world.World.{World}
-use Rattle.tcl_meaning.specs.State.{Store, State}
+use Rattle.tcl_first_path.specs.State.{Store, State}
 use Rattle.tcl_interp.specs.declared.evaluation.Evaluation.{Evaluation}
 
 -- the state with these channels, whose devices tell their bytes by `out` and `err`, and what else there is

@@ -4,10 +4,10 @@ use Rattle.std.specs.FinMap as map
 use Rattle.std.specs.declared.rc.RcStr.{RcStr}
 use Rattle.std.specs.declared.alloc.Global.{Global}
 use Rattle.tcl_names.specs.Named.{Named, text_of}
-use Rattle.tcl_meaning.specs.State.{Variable, text, array, Variables}
-use Rattle.tcl_meaning.specs.declared.refusal.Refusal.{Refusal}
+use Rattle.tcl_first_path.specs.State.{Variable, text, array, Variables}
+use Rattle.tcl_first_path.specs.declared.refusal.Refusal.{Refusal}
 use Rattle.tcl_interp.specs.declared.host.HostVar.{HostVar}
-use Rattle.tcl_meaning.specs.declared.refusal.Refusal.TheVariants as refusal
+use Rattle.tcl_first_path.specs.declared.refusal.Refusal.TheVariants as refusal
 use Rattle.tcl_interp.specs.declared.host.VarFault.{VarFault}
 use Rattle.tcl_interp.specs.declared.host.VarFault.TheVariants as var
 use Rattle.tcl_interp.specs.declared.host.HostFault.{HostFault}

@@ -4,7 +4,7 @@ use Rattle.std.specs.Coded.{Coded, code_by, coded×, coded_bool}
 use Rattle.tcl_chars.specs.declared.numbers.Dialect.{Dialect}
 use Rattle.tcl_chars.specs.contracts.numbers.Dialect as dialect
 use Rattle.tcl_names.specs.Named.{Named, named_code}
-use Rattle.tcl_meaning.specs.State.{Variable}
+use Rattle.tcl_first_path.specs.State.{Variable}
 use Rattle.tcl_interp.specs.VariableCode.{variable_code}
 
 -- its dialect, the global variables, and whether it has failed

@@ -1,7 +1,7 @@
 -- Names, divided.
 use Rattle.std.specs.Prelude.{option_map}
 use Rattle.std.specs.Str.{chars}
-use Rattle.tcl_meaning.specs.Variables.{Name}
+use Rattle.tcl_first_path.specs.Variables.{Name}
 use Rattle.tcl_interp.specs.declared.names.Divided.{Divided}
 
 -- the characters of a divided name

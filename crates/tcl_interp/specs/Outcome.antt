@@ -1,11 +1,11 @@
 -- How an evaluation ended, as a host sees it.
 use Rattle.std.specs.Prelude.{◌≡◌, ℕ, Bool, true, false, List, Option, Result, Ok, Err}
 use Rattle.tcl_names.specs.Named.{text_of}
-use Rattle.tcl_meaning.specs.State.{Variables, state_with}
-use Rattle.tcl_meaning.specs.Completions as meaning
-use Rattle.tcl_meaning.specs.Effects.{Got, Gives, Broke}
-use Rattle.tcl_meaning.specs.Beginnings.{state_of, OutputsBegin}
-use Rattle.tcl_meaning.specs.Run.{code_number, options_text}
+use Rattle.tcl_first_path.specs.State.{Variables, state_with}
+use Rattle.tcl_first_path.specs.Completions as meaning
+use Rattle.tcl_first_path.specs.Effects.{Got, Gives, Broke}
+use Rattle.tcl_first_path.specs.Beginnings.{state_of, OutputsBegin}
+use Rattle.tcl_first_path.specs.Run.{code_number, options_text}
 use Rattle.tcl_interp.specs.Completion.{completion_of}
 use Rattle.tcl_interp.specs.declared.completion.Completion.{Completion}
 use Rattle.tcl_interp.specs.declared.fault.EvalFault.{EvalFault}

@@ -2,8 +2,8 @@
 use Rattle.std.specs.Prelude.{◌≡◌, ℕ, List, Result, Ok, Err}
 use Rattle.tcl_chan.specs.declared.fault.Out.{Out}
 use Rattle.tcl_chan.specs.declared.fault.Out.TheVariants as out
-use Rattle.tcl_meaning.specs.State.{Output, stdout, stderr}
-use Rattle.tcl_meaning.specs.Completions.{failure}
+use Rattle.tcl_first_path.specs.State.{Output, stdout, stderr}
+use Rattle.tcl_first_path.specs.Completions.{failure}
 use Rattle.tcl_interp.specs.Completion.{completion_of}
 use Rattle.tcl_interp.specs.declared.pages.Destination.{Destination}
 use Rattle.tcl_interp.specs.declared.pages.Destination.TheVariants as destination

@@ -1,8 +1,8 @@
 -- What a whole run reports.
 use Rattle.std.specs.Prelude.{◌≡◌, ℕ, List, Option, Some, None}
-use Rattle.tcl_meaning.specs.Completions as meaning
-use Rattle.tcl_meaning.specs.Effects.{Got}
-use Rattle.tcl_meaning.specs.Beginnings.{state_of, OutBegins}
+use Rattle.tcl_first_path.specs.Completions as meaning
+use Rattle.tcl_first_path.specs.Effects.{Got}
+use Rattle.tcl_first_path.specs.Beginnings.{state_of, OutBegins}
 use Rattle.tcl_interp.specs.Interp.{Shows}
 use Rattle.tcl_interp.specs.Outcome.{Ends, outcome_fails}
 use Rattle.tcl_interp.specs.declared.host.Outcome.{Outcome}

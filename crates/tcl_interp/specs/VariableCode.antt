@@ -3,7 +3,7 @@ use Rattle.std.specs.Prelude.{ℕ, List, ◌⊎◌, refl, ◌≡◌}
 use Rattle.std.proofs.Common.{inl, inr}
 use Rattle.std.specs.Coded.{Coded, code_by, coded⊎, coded_list, coded_ℕ}
 use Rattle.tcl_names.specs.Named.{Named, named_code}
-use Rattle.tcl_meaning.specs.State.{Variable, text, array}
+use Rattle.tcl_first_path.specs.State.{Variable, text, array}
 
 abbrev pub to_sum : Variable → List ℕ ⊎ Named (List ℕ)
 to_sum (text t) = inl t

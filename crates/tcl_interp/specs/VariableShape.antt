@@ -1,6 +1,6 @@
 -- What the code of a variable stands for.
 
-use Rattle.tcl_meaning.specs.State.{Variable, text, array}
+use Rattle.tcl_first_path.specs.State.{Variable, text, array}
 use Rattle.tcl_interp.specs.declared.variables.Held.{Held}
 use Rattle.tcl_interp.specs.declared.variables.Held.TheVariants as held
 

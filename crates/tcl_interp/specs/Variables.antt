@@ -1,6 +1,6 @@
 -- Why a value wasn't put into a variable.
 use Rattle.std.specs.Prelude.{◌≡◌, Result, Err}
-use Rattle.tcl_meaning.specs.declared.refusal.Refusal.{Refusal}
+use Rattle.tcl_first_path.specs.declared.refusal.Refusal.{Refusal}
 use Rattle.tcl_interp.specs.declared.variables.PutFault.{PutFault}
 use Rattle.tcl_interp.specs.declared.variables.PutFault.TheVariants as fault
 

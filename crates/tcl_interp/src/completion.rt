@@ -2,17 +2,17 @@
 ghost use Rattle.std.specs.Prelude.{◌≡◌, IfOk};
 ghost use Rattle.std.specs.Str.{chars};
 ghost use Rattle.tcl_chars.specs.Messages.{about};
-ghost use Rattle.tcl_meaning.specs.Completions.{normal, failure, wrong_words, too_deep};
-ghost use Rattle.tcl_meaning.specs.Substitution.{no_expansion};
-ghost use Rattle.tcl_meaning.specs.Variables.{because, cant_read, cant_set};
-ghost use Rattle.tcl_meaning.specs.Pages.{unknown_channel};
-ghost use Rattle.tcl_meaning.specs.Script.{unknown_command};
+ghost use Rattle.tcl_first_path.specs.Completions.{normal, failure, wrong_words, too_deep};
+ghost use Rattle.tcl_first_path.specs.Substitution.{no_expansion};
+ghost use Rattle.tcl_first_path.specs.Variables.{because, cant_read, cant_set};
+ghost use Rattle.tcl_first_path.specs.Pages.{unknown_channel};
+ghost use Rattle.tcl_first_path.specs.Script.{unknown_command};
 ghost use Rattle.tcl_interp.specs.Completion.{completion_of};
 
 use crate::value::Value;
 use std::alloc::{AllocError, Global};
 use tcl_chars::about;
-use tcl_meaning::{Code, Refusal};
+use tcl_first_path::{Code, Refusal};
 
 /// How a command ended: a code, and a result or a message. return(n), RETURN CODES.
 #[derive(Drop)]

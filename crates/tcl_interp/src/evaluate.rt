@@ -3,12 +3,12 @@ ghost use Rattle.std.specs.Prelude.{◌≡◌, ◌≤◌, ◌++◌, ◌∷◌, [
 ghost use Rattle.std.specs.Str.{chars};
 ghost use Rattle.std.specs.String.{string_bytes};
 ghost use Rattle.tcl_words.specs.Parts.{shape_of, part_of, parts_of};
-ghost use Rattle.tcl_meaning.specs.Nesting.{PartNests, PartsNest, WordsNest};
-ghost use Rattle.tcl_meaning.specs.Completions.{normal};
-ghost use Rattle.tcl_meaning.specs.Effects.{Script, exec};
-ghost use Rattle.tcl_meaning.specs.Substitution.{piece_text, pieces_text, one_word, words_text};
-ghost use Rattle.tcl_meaning.specs.Value.{behind};
-ghost use Rattle.tcl_meaning.specs.Script.{Run, most_depth, levels_read, run_command};
+ghost use Rattle.tcl_first_path.specs.Nesting.{PartNests, PartsNest, WordsNest};
+ghost use Rattle.tcl_first_path.specs.Completions.{normal};
+ghost use Rattle.tcl_first_path.specs.Effects.{Script, exec};
+ghost use Rattle.tcl_first_path.specs.Substitution.{piece_text, pieces_text, one_word, words_text};
+ghost use Rattle.tcl_first_path.specs.Value.{behind};
+ghost use Rattle.tcl_first_path.specs.Script.{Run, most_depth, levels_read, run_command};
 ghost use Rattle.tcl_interp.specs.Evaluate.{Follows, ValueFollows, stopped};
 ghost use Rattle.tcl_interp.specs.Fault.{is_io, value_is_io};
 ghost use Rattle.tcl_interp.specs.Evaluation.{shown_state};
@@ -24,7 +24,7 @@ use std::rc::RcStr;
 use tcl_chan::device::{Input, Output};
 use tcl_chan::world::World;
 use tcl_chars::{push, push_text};
-use tcl_meaning::Code;
+use tcl_first_path::Code;
 use tcl_words::{Parsed, Piece, Word, parse_first};
 
 // Scripts may stand in one another this deep.

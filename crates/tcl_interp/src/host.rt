@@ -7,7 +7,7 @@ ghost use Rattle.tcl_interp.specs.declared.host.HostFault.TheVariants as host;
 use std::alloc::AllocError;
 use std::rc::RcStr;
 use tcl_chars::Dialect;
-use tcl_meaning::Refusal;
+use tcl_first_path::Refusal;
 
 /// Why a variable can't be read, written or linked: set(n), upvar(n).
 #[derive(Clone, Copy, Debug, PartialEq, Eq)]

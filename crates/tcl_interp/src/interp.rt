@@ -3,11 +3,11 @@ ghost use Rattle.std.specs.Prelude.{◌≡◌, ◌↔◌, true, false, IsTrue, I
 ghost use Rattle.std.specs.FinMap as map;
 ghost use Rattle.std.specs.Str.{chars};
 ghost use Rattle.tcl_chan.specs.Worlds.{stdout, stderr};
-ghost use Rattle.tcl_meaning.specs.Run.{run_script};
+ghost use Rattle.tcl_first_path.specs.Run.{run_script};
 ghost use Rattle.tcl_interp.specs.Outcome.{Ends, outcome_fails, outcome_is_io};
 ghost use Rattle.tcl_interp.specs.Channels.{Leaves};
-ghost use Rattle.tcl_meaning.specs.State.{text, state_with};
-ghost use Rattle.tcl_meaning.specs.Variables.{get, put};
+ghost use Rattle.tcl_first_path.specs.State.{text, state_with};
+ghost use Rattle.tcl_first_path.specs.Variables.{get, put};
 ghost use Rattle.tcl_names.specs.Named.{text_of};
 ghost use Rattle.tcl_interp.specs.Host.{IsRefusal, RefusesPut};
 ghost use Rattle.tcl_interp.specs.Host.{host_text, AreAll};

@@ -2,15 +2,15 @@
 ghost use Rattle.std.specs.Prelude.{◌≡◌, ℕ, List, map, Option, false};
 ghost use Rattle.std.specs.Str.{chars};
 ghost use Rattle.std.specs.String.{string_bytes};
-ghost use Rattle.tcl_meaning.specs.Effects.{exec};
-ghost use Rattle.tcl_meaning.specs.Substitution.{read};
-ghost use Rattle.tcl_meaning.specs.Value.{behind};
-ghost use Rattle.tcl_meaning.specs.Script.{Run, invoke, looked_up, page_of};
+ghost use Rattle.tcl_first_path.specs.Effects.{exec};
+ghost use Rattle.tcl_first_path.specs.Substitution.{read};
+ghost use Rattle.tcl_first_path.specs.Value.{behind};
+ghost use Rattle.tcl_first_path.specs.Script.{Run, invoke, looked_up, page_of};
 ghost use Rattle.tcl_interp.specs.Evaluate.{Follows, ValueFollows};
 ghost use Rattle.tcl_interp.specs.Fault.{is_io, value_is_io};
 ghost use Rattle.tcl_interp.specs.Evaluation.{shown_state};
 ghost use Rattle.tcl_interp.specs.Channels.{Leaves};
-ghost use Rattle.tcl_meaning.specs.State.{state_with};
+ghost use Rattle.tcl_first_path.specs.State.{state_with};
 
 use crate::completion::Completion;
 use crate::evaluation::Evaluation;
@@ -23,7 +23,7 @@ use std::alloc::Global;
 use tcl_chan::device::{Input, Output};
 use tcl_chan::world::World;
 use tcl_chars::{is_text, push_text};
-use tcl_meaning::Page;
+use tcl_first_path::Page;
 
 /// Adds the text of a variable to a text.
 pub(crate) fn add_variable(

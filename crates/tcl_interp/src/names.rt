@@ -1,13 +1,13 @@
 //! The names of variables and commands.
 ghost use Rattle.std.specs.Prelude.{◌≡◌};
 ghost use Rattle.std.specs.Str.{chars};
-ghost use Rattle.tcl_meaning.specs.Variables as spec;
+ghost use Rattle.tcl_first_path.specs.Variables as spec;
 ghost use Rattle.tcl_interp.specs.Names.{name_of};
 
 use tcl_chars::{before, begins, split_first, tail};
 
 // What follows the colons at the front.
-#[tactic(auto, unfolding(tcl_meaning::specs::Variables::after_colons))]
+#[tactic(auto, unfolding(tcl_first_path::specs::Variables::after_colons))]
 fn after_colons(text: &str) -> &str
     ensures { chars result.now ≡ spec.after_colons (chars text.now) }
 {
@@ -33,7 +33,7 @@ pub(crate) fn without_colons(name: &str) -> &str
 }
 
 // From the first `(` on.
-#[tactic(auto, unfolding(tcl_meaning::specs::Variables::from_paren))]
+#[tactic(auto, unfolding(tcl_first_path::specs::Variables::from_paren))]
 fn from_paren(text: &str) -> &str
     ensures { chars result.now ≡ spec.from_paren (chars text.now) }
 {
@@ -48,7 +48,7 @@ fn from_paren(text: &str) -> &str
 }
 
 // The last character.
-#[tactic(auto, unfolding(tcl_meaning::specs::Variables::last_part))]
+#[tactic(auto, unfolding(tcl_first_path::specs::Variables::last_part))]
 fn last_part(text: &str) -> &str
     ensures { chars result.now ≡ spec.last_part (chars text.now) }
 {
@@ -80,7 +80,7 @@ fn whole_name(name: &str) -> Divided<'_>
 }
 
 /// The name of a variable, divided.
-#[tactic(auto, unfolding(tcl_meaning::specs::Variables::divided_name))]
+#[tactic(auto, unfolding(tcl_first_path::specs::Variables::divided_name))]
 pub(crate) fn divide(name: &str) -> Divided<'_>
     ensures { name_of result ≡ spec.divided_name (chars name.now) }
 {

@@ -1,7 +1,7 @@
 //! How an evaluation ended, as a host sees it.
 ghost use Rattle.std.specs.Prelude.{◌≡◌, false, IfOk};
 ghost use Rattle.std.specs.Str.{chars};
-ghost use Rattle.tcl_meaning.specs.Run.{code_number, options_text, args_error};
+ghost use Rattle.tcl_first_path.specs.Run.{code_number, options_text, args_error};
 ghost use Rattle.tcl_interp.specs.Completion.{completion_of};
 ghost use Rattle.tcl_interp.specs.Outcome.{IsOutcome, IsOutcomeOf, outcome_fails, outcome_is_io};
 
@@ -10,7 +10,7 @@ use crate::fault::EvalFault;
 use crate::host::Outcome;
 use std::alloc::{AllocError, Global};
 use std::rc::RcStr;
-use tcl_meaning::Code;
+use tcl_first_path::Code;
 
 // The number of a return code.
 fn code_number(code: Code) -> i64

@@ -1,12 +1,12 @@
 //! The commands that run no script: set(n), puts(n).
 ghost use Rattle.std.specs.Prelude.{◌≡◌, ℕ, List, Option, Ok, false, IfOk, if◌then◌else◌};
 ghost use Rattle.std.specs.Str.{chars};
-ghost use Rattle.tcl_meaning.specs.Effects.{exec};
-ghost use Rattle.tcl_meaning.specs.Completions.{failure, wrong_words};
-ghost use Rattle.tcl_meaning.specs.Pages.{set_usage, set_page, after_get, after_put, puts_usage, puts_page, put_text, input_only, output_of, line_of, is_nonewline};
-ghost use Rattle.tcl_meaning.specs.State.{Store, state_with};
-ghost use Rattle.tcl_meaning.specs.Variables.{get, put};
-ghost use Rattle.tcl_meaning.specs.Script.{Run};
+ghost use Rattle.tcl_first_path.specs.Effects.{exec};
+ghost use Rattle.tcl_first_path.specs.Completions.{failure, wrong_words};
+ghost use Rattle.tcl_first_path.specs.Pages.{set_usage, set_page, after_get, after_put, puts_usage, puts_page, put_text, input_only, output_of, line_of, is_nonewline};
+ghost use Rattle.tcl_first_path.specs.State.{Store, state_with};
+ghost use Rattle.tcl_first_path.specs.Variables.{get, put};
+ghost use Rattle.tcl_first_path.specs.Script.{Run};
 ghost use Rattle.tcl_interp.specs.Evaluate.{Follows};
 ghost use Rattle.tcl_interp.specs.Fault.{is_io};
 ghost use Rattle.tcl_interp.specs.Completion.{completion_of};
@@ -25,7 +25,7 @@ use tcl_chan::world::World;
 use tcl_chars::{is_text, push, push_text};
 
 /// set varName ?newValue?
-#[tactic(auto, unfolding(tcl_meaning::specs::Pages::set_page))]
+#[tactic(auto, unfolding(tcl_first_path::specs::Pages::set_page))]
 pub(crate) fn set_page(
     alloc: Global,
     variables: &mut Variables,
@@ -100,7 +100,7 @@ fn puts_usage(alloc: Global) -> Result<Completion, AllocError>
 }
 
 // The output of a name.
-#[tactic(auto, unfolding(tcl_meaning::specs::Pages::output_of))]
+#[tactic(auto, unfolding(tcl_first_path::specs::Pages::output_of))]
 fn output_named(alloc: Global, name: &str) -> Result<Destination, AllocError>
     ensures { IfOk result (λ to. IsDestination to (output_of (chars name.now))) }
 {
@@ -169,7 +169,7 @@ fn write_named<R: Input, W: Output, E: Output>(
 }
 
 /// puts ?-nonewline? ?channelId? string
-#[tactic(auto, unfolding(tcl_meaning::specs::Pages::puts_page))]
+#[tactic(auto, unfolding(tcl_first_path::specs::Pages::puts_page))]
 pub(crate) fn puts_page<R: Input, W: Output, E: Output>(
     alloc: Global,
     world: &mut World<'_, '_, '_, R, W, E>,

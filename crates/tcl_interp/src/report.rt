@@ -3,9 +3,9 @@ ghost use Rattle.std.specs.Prelude.{◌≡◌, IfOk, false, ℕ, List, Option, i
 ghost use Rattle.std.specs.FinMap as map;
 ghost use Rattle.std.specs.Str.{chars};
 ghost use Rattle.tcl_chan.specs.Worlds.{stdin, stdout, stderr, SameDevices};
-ghost use Rattle.tcl_meaning.specs.Effects.{Gives};
-ghost use Rattle.tcl_meaning.specs.Run.{run_script, run_with_args, args_put, args_error};
-ghost use Rattle.tcl_meaning.specs.State.{state_with};
+ghost use Rattle.tcl_first_path.specs.Effects.{Gives};
+ghost use Rattle.tcl_first_path.specs.Run.{run_script, run_with_args, args_put, args_error};
+ghost use Rattle.tcl_first_path.specs.State.{state_with};
 ghost use Rattle.tcl_interp.specs.Outcome.{Ends, outcome_is_io, outcome_fails};
 ghost use Rattle.tcl_interp.specs.Report.{Reports};
 ghost use Rattle.tcl_interp.specs.Channels.{RunCounted};

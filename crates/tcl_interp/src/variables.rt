@@ -3,8 +3,8 @@ ghost use Rattle.std.specs.Prelude.{◌≡◌, Some, None, Ok, Err, IfOk, IfErr,
 ghost use Rattle.std.specs.FinMap as map;
 ghost use Rattle.std.specs.Str.{chars};
 ghost use Rattle.std.specs.Option.{option_copied};
-ghost use Rattle.tcl_meaning.specs.Variables.{get, get_in, put, put_in, put_named};
-ghost use Rattle.tcl_meaning.specs.State.{text, array};
+ghost use Rattle.tcl_first_path.specs.Variables.{get, get_in, put, put_in, put_named};
+ghost use Rattle.tcl_first_path.specs.State.{text, array};
 ghost use Rattle.tcl_interp.specs.Variables.{Refuses};
 ghost use Rattle.tcl_interp.specs.Names.{name_of};
 ghost use Rattle.tcl_interp.specs.Host.{AreElements, IsVar, AreAll};
@@ -15,7 +15,7 @@ use crate::value::Value;
 use std::alloc::{AllocError, Global};
 use std::marker::Model;
 use std::rc::RcStr;
-use tcl_meaning::Refusal;
+use tcl_first_path::Refusal;
 use tcl_names::NameMap;
 
 /// Why a value wasn't put into a variable.
@@ -49,7 +49,7 @@ pub(crate) struct Variable {
 }
 
 impl Model for Variable {
-    ghost use Rattle.tcl_meaning.specs.State.{Variable};
+    ghost use Rattle.tcl_first_path.specs.State.{Variable};
     ghost use Rattle.tcl_interp.specs.VariableCode.{variable_code};
 
     ghost Value = { Variable };
@@ -132,7 +132,7 @@ pub(crate) struct Variables {
 
 impl Model for Variables {
     ghost use Rattle.tcl_names.specs.Named.{Named, named_code};
-    ghost use Rattle.tcl_meaning.specs.State.{Variable};
+    ghost use Rattle.tcl_first_path.specs.State.{Variable};
     ghost use Rattle.tcl_interp.specs.VariableCode.{variable_code};
 
     ghost Value = { Named Variable };
@@ -153,7 +153,7 @@ impl Variables {
     }
 
     /// The value of a variable or an element: set(n).
-    #[tactic(auto, unfolding(tcl_meaning::specs::Variables::get))]
+    #[tactic(auto, unfolding(tcl_first_path::specs::Variables::get))]
     pub(crate) fn find(&self, name: &str) -> Result<&Value, Refusal>
         ensures found { IfOk result (λ value. get self.now (chars name.now) ≡ Ok value.now) }
         ensures refused { IfErr result (λ refusal. get self.now (chars name.now) ≡ Err refusal) }
@@ -179,7 +179,7 @@ impl Variables {
     }
 
     /// Puts a value under the name of a variable or an element, which is made where it is missing: set(n).
-    #[tactic(auto, unfolding(tcl_meaning::specs::Variables::put))]
+    #[tactic(auto, unfolding(tcl_first_path::specs::Variables::put))]
     pub(crate) fn put(&mut self, alloc: Global, name: &str, value: Value) -> Result<(), PutFault>
         ensures done { OnOk result (put self.old (chars name.now) value ≡ Ok self.new) }
         ensures refused { IfErr result (Refuses (put self.old (chars name.now) value)) }

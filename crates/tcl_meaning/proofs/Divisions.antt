@@ -1,11 +1,11 @@
--- A name is divided at its first parenthesis, if its last character is the closing one.
+-- A name is divided_name at its first parenthesis, if its last character is the closing one.
 use Rattle.std.proofs.Common.{◌≡◌, ℕ, zero, suc, ◌+◌, ◌-◌, ◌<◌, Bool, true, false, cond, ◌==◌, List, [], ◌∷◌, ◌++◌, length, take, refl, sym, ap, ◌∙◌, subst, arith, inl, inr, length-append}
 use Rattle.std.specs.Prelude.{Contains}
 use Rattle.std.proofs.Math.Seq.{take-append_seam}
 use Rattle.std.proofs.lemmas.Bool.{cases_Bool, cond-true, cond-false, eqb-true, eqb-false, ne_eqb}
 use Rattle.tcl_chars.specs.Characters.{open_paren, close_paren}
 use Rattle.tcl_chars.specs.Place.{begins, before}
-use Rattle.tcl_meaning.specs.Variables.{from_paren, last_part, Name, whole_name, element_name, by_paren, divided_name}
+use Rattle.tcl_meaning.specs.Names.{from_paren, last_part, Name, whole_name, element_name, by_paren, divided_name}
 use Rattle.tcl_meaning.specs.Laws.{IsElement}
 
 abbrev Lacks : List ℕ → ℕ → Type 0

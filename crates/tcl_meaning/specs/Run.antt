@@ -1,37 +1,37 @@
--- A whole run: the arguments are put into variables, and the script is run.
-use Rattle.std.specs.Prelude.{ℕ, ℤ, pos, List, [], ◌∷◌, Option}
-use Rattle.tcl_chars.specs.Texts.{literal}
+-- A whole run: the arguments are put into variables, and the script is run. In a dialect of numbers.
+use Rattle.std.specs.Prelude.{ℕ, false, List, [], ◌∷◌, length, Option}
 use Rattle.std.specs.FinMap as map
-use Rattle.tcl_meaning.specs.declared.code.Code.{Code}
-use Rattle.tcl_meaning.specs.declared.code.Code.TheVariants as code
-use Rattle.tcl_meaning.specs.Completions.{Completion, normal, failure}
-use Rattle.tcl_meaning.specs.State.{text, Variables, State, state_with}
-use Rattle.tcl_meaning.specs.Effects.{Script, Got, Gives}
-use Rattle.tcl_meaning.specs.Script.{Run}
-
--- the number of a return code: return(n), RETURN CODES
-abbrev pub code_number : Code → ℤ
-code_number code.Ok = pos 0
-code_number code.Error = pos 1
-
--- the return options of a completion: catch(n)
-abbrev pub options_text : Code → List ℕ
-options_text code.Ok = literal "-code 0 -level 0"
-options_text code.Error = literal "-code 1 -level 0"
-
--- what a script comes to that nothing runs
-abbrev pub run_script : List ℕ → State → Got Completion
-run_script script s = Run (Script 1 (normal []) script) s
-
-abbrev pub args_error : Completion
-args_error = failure (literal "script arguments come with lists")
+use Rattle.tcl_chars.specs.declared.numbers.Dialect.{Dialect}
+use Rattle.tcl_chars.specs.Texts.{literal}
+use Rattle.tcl_list.specs.Written.{written}
+use Rattle.tcl_pages.specs.Texts.{Text, count_text}
+use Rattle.tcl_meaning.specs.Completions.{Completion, nothing, top}
+use Rattle.tcl_meaning.specs.Frames.{text, Variables, global_frame}
+use Rattle.tcl_meaning.specs.State.{Store, Channels, State}
+use Rattle.tcl_meaning.specs.Effects.{Got, Gives, on_got}
+use Rattle.tcl_meaning.specs.Tasks.{Script}
+use Rattle.tcl_meaning.specs.Pages.{first_commands}
+use Rattle.tcl_meaning.specs.Script as meaning
 
 -- `argv0` is the first word, `argv` the list of the others, `argc` their count: tclsh(1), VARIABLES.
-abbrev pub args_put : List ℕ → Variables
-args_put name = map.insert (map.insert (map.insert map.empty (literal "argv0") (text name)) (literal "argv") (text (literal ""))) (literal "argc") (text (literal "0"))
+abbrev pub args_put : Text → List Text → Variables
+args_put name args =
+    map.insert (map.insert (map.insert map.empty (literal "argv0") (text name)) (literal "argv") (text (written args))) (literal "argc") (text (count_text (length args)))
 
--- More than one word is refused until tclint writes lists.
-abbrev pub run_with_args : List ℕ → List (List ℕ) → Option (List ℕ) → Option (List ℕ) → ℕ → Got Completion
-run_with_args script [] out err budget = run_script script (state_with (args_put (literal "")) out err budget)
-run_with_args script (name ∷ []) out err budget = run_script script (state_with (args_put name) out err budget)
-run_with_args script (name ∷ more ∷ others) out err budget = Gives args_error (state_with map.empty out err budget)
+abbrev pub argument_variables : List Text → Variables
+argument_variables [] = args_put [] []
+argument_variables (name ∷ args) = args_put name args
+
+abbrev pub first_store : Variables → Store
+first_store vs = record { frames = global_frame vs ∷ []; active = 0; commands = first_commands }
+
+abbrev pub first_channels : Option Text → Option (List ℕ) → Option (List ℕ) → Channels
+first_channels input out err = record { input = input; met_end = false; out = out; err = err }
+
+module _ (dialect : Dialect) where
+  -- what a script comes to that nothing runs
+  abbrev pub run_script : Text → State → Got Completion
+  run_script script s = on_got (meaning.Run dialect (Script 1 nothing script) s) (λ c after. Gives (top c) after)
+
+  abbrev pub run_with_args : Text → List Text → Channels → ℕ → Got Completion
+  run_with_args script args channels budget = run_script script (record { store = first_store (argument_variables args); channels = channels; units = budget })

@@ -4,5 +4,7 @@
 
 pub mod laws;
 mod lists;
+mod pages;
 
 pub use lists::{ListPage, SearchOptions, SortOptions};
+pub use pages::{DictPage, PurePage, StringPage, UpdatePage};

@@ -4,14 +4,14 @@ use Rattle.std.specs.FinMap as finmap
 use Rattle.std.specs.Str.{chars, IsUtf8}
 use Rattle.std.proofs.lemmas.List.{length-drop}
 use Rattle.std.proofs.Math.Seq.{take-length}
-use Rattle.tcl_meaning.specs.Beginnings.{state_of, OutputsBegin}
-use Rattle.tcl_meaning.specs.Completions.{Completion, normal}
-use Rattle.tcl_meaning.specs.Effects.{Got, Script}
+use Rattle.tcl_first_path.specs.Beginnings.{state_of, OutputsBegin}
+use Rattle.tcl_first_path.specs.Completions.{Completion, normal}
+use Rattle.tcl_first_path.specs.Effects.{Got, Script}
 use Rattle.tcl_chars.specs.Texts.{literal}
-use Rattle.tcl_meaning.specs.Run.{run_with_args, args_put}
-use Rattle.tcl_meaning.specs.State.{state_with}
-use Rattle.tcl_meaning.proofs.Rules.{begins_run}
-use Rattle.tcl_meaning.proofs.Runs.{out_same}
+use Rattle.tcl_first_path.specs.Run.{run_with_args, args_put}
+use Rattle.tcl_first_path.specs.State.{state_with}
+use Rattle.tcl_first_path.proofs.Rules.{begins_run}
+use Rattle.tcl_first_path.proofs.Runs.{out_same}
 use Rattle.tcl_interp.specs.Interp.{Shows}
 use Rattle.tcl_interp.specs.Outcome.{outcome_is_io}
 use Rattle.tcl_interp.specs.Report.{Reports, ReportsBy}

@@ -3,10 +3,10 @@ use Rattle.std.specs.Prelude.{◌≡◌, ℕ, zero, suc, Bool, ◌&&◌, ◌==�
 use Rattle.std.specs.Rc.{rc_str_bytes}
 use Rattle.std.specs.Str.{chars, IsUtf8}
 use Rattle.tcl_chan.specs.Newlines.{joined_newlines}
-use Rattle.tcl_meaning.specs.Completions.{Completion}
-use Rattle.tcl_meaning.specs.Effects.{Got}
-use Rattle.tcl_meaning.specs.Run.{run_with_args}
-use Rattle.tcl_meaning.specs.State.{Variables}
+use Rattle.tcl_first_path.specs.Completions.{Completion}
+use Rattle.tcl_first_path.specs.Effects.{Got}
+use Rattle.tcl_first_path.specs.Run.{run_with_args}
+use Rattle.tcl_first_path.specs.State.{Variables}
 use Rattle.tcl_interp.specs.Outcome.{Ends, outcome_is_io}
 use Rattle.tcl_interp.specs.Channels.{RunCounted}
 use Rattle.tcl_interp.specs.declared.host.Outcome.{Outcome}

@@ -4,15 +4,15 @@ use Rattle.std.proofs.lemmas.List.{length-map}
 use Rattle.std.specs.Str.{chars}
 use Rattle.std.specs.String.{string_bytes}
 use Rattle.tcl_words.specs.Parts.{shape_of, part_of, parts_of, stretch_of}
-use Rattle.tcl_meaning.specs.Completions.{failure}
-use Rattle.tcl_meaning.specs.Effects.{Script, Gives}
-use Rattle.tcl_meaning.specs.Nesting.{PartNests, PartsNest, WordsNest}
-use Rattle.tcl_meaning.specs.Substitution.{piece_text, pieces_text, read}
-use Rattle.tcl_meaning.specs.Value.{Has, behind}
-use Rattle.tcl_meaning.specs.Script.{Run, levels_read, run_command, rest_by}
-use Rattle.tcl_meaning.proofs.Nests.{first_nests, parts_nest_at, words_nest_at}
-use Rattle.tcl_meaning.proofs.Runs.{outputs_same}
-use Rattle.tcl_meaning.proofs.Rules.{begins_run, begins_of, begins_here, script_deep, script_end, script_bad, script_broke, script_paid, sequence_next, sequence_ends, shape_text, words_start, word_after, word_at, words_after, words_at, reach_value}
+use Rattle.tcl_first_path.specs.Completions.{failure}
+use Rattle.tcl_first_path.specs.Effects.{Script, Gives}
+use Rattle.tcl_first_path.specs.Nesting.{PartNests, PartsNest, WordsNest}
+use Rattle.tcl_first_path.specs.Substitution.{piece_text, pieces_text, read}
+use Rattle.tcl_first_path.specs.Value.{Has, behind}
+use Rattle.tcl_first_path.specs.Script.{Run, levels_read, run_command, rest_by}
+use Rattle.tcl_first_path.proofs.Nests.{first_nests, parts_nest_at, words_nest_at}
+use Rattle.tcl_first_path.proofs.Runs.{outputs_same}
+use Rattle.tcl_first_path.proofs.Rules.{begins_run, begins_of, begins_here, script_deep, script_end, script_bad, script_broke, script_paid, sequence_next, sequence_ends, shape_text, words_start, word_after, word_at, words_after, words_at, reach_value}
 use Rattle.tcl_interp.specs.Completion.{completion_of}
 use Rattle.tcl_interp.specs.Evaluation.{shown_state}
 use Rattle.tcl_interp.proofs.EvaluateLemmas.{fault_bind, halt_value, command_invokes, command_stopped, parsed_end, parsed_bad, parsed_command, map_at, part-var, part-elem, element_reach, element_front, element_adds, word_reach}

@@ -4,13 +4,13 @@ use denote.Shadow.{shadow}
 use Rattle.std.specs.Str.{chars}
 use Rattle.std.specs.String.{string_bytes}
 use Rattle.tcl_words.specs.Parts.{shape_of, part_of, parts_of}
-use Rattle.tcl_meaning.specs.Completions.{normal}
-use Rattle.tcl_meaning.specs.Effects.{Script, exec}
-use Rattle.tcl_meaning.specs.Nesting.{PartsNest, WordsNest}
-use Rattle.tcl_meaning.specs.Substitution.{pieces_text, words_text}
-use Rattle.tcl_meaning.specs.Value.{behind}
-use Rattle.tcl_meaning.specs.Script.{Run, most_depth, levels_read}
-use Rattle.tcl_meaning.proofs.Rules.{word_after, words_after}
+use Rattle.tcl_first_path.specs.Completions.{normal}
+use Rattle.tcl_first_path.specs.Effects.{Script, exec}
+use Rattle.tcl_first_path.specs.Nesting.{PartsNest, WordsNest}
+use Rattle.tcl_first_path.specs.Substitution.{pieces_text, words_text}
+use Rattle.tcl_first_path.specs.Value.{behind}
+use Rattle.tcl_first_path.specs.Script.{Run, most_depth, levels_read}
+use Rattle.tcl_first_path.proofs.Rules.{word_after, words_after}
 use Rattle.tcl_interp.specs.Completion.{completion_of}
 use Rattle.tcl_interp.specs.Evaluation.{shown_state}
 use Rattle.tcl_interp.specs.Channels.{Leaves}

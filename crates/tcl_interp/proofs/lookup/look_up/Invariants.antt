@@ -1,6 +1,6 @@
 use Rattle.std.proofs.Common.{◌≡◌, map, length}
 use Rattle.std.specs.Str.{chars}
-use Rattle.tcl_meaning.specs.Script.{looked_up}
+use Rattle.tcl_first_path.specs.Script.{looked_up}
 use Rattle.tcl_interp.proofs.lookup.look_up.Given as goal
 
 -- the name stands in what is left as it does in the table

@@ -1,5 +1,5 @@
 use Rattle.std.proofs.Common.{ap, ◌∙◌}
-use Rattle.tcl_meaning.specs.Script.{page_names, looked_up}
+use Rattle.tcl_first_path.specs.Script.{page_names, looked_up}
 use Rattle.tcl_interp.proofs.lookup.page_of.Goals as goal
 
 -- the table is the definition's, whatever names it has

@@ -1,7 +1,7 @@
 use Rattle.std.proofs.Common.{sym, subst, ap, ◌∙◌}
 use Rattle.std.specs.Str.{chars}
 use Rattle.tcl_chars.specs.Place.{EndsWith}
-use Rattle.tcl_meaning.specs.Variables.{without_colons}
+use Rattle.tcl_first_path.specs.Variables.{without_colons}
 use Rattle.tcl_interp.proofs.NamesLemmas.{from_paren-ends, last_part-ends, element_is}
 use Rattle.tcl_interp.proofs.names.divide.Goals as goal
 

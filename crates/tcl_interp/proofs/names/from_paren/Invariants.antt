@@ -2,7 +2,7 @@ use Rattle.std.proofs.Common.{◌≡◌, length}
 use denote.Text.{Utf8}
 use denote.Shadow.{shadow}
 use Rattle.std.specs.Str.{chars}
-use Rattle.tcl_meaning.specs.Variables.{from_paren}
+use Rattle.tcl_first_path.specs.Variables.{from_paren}
 use Rattle.tcl_interp.proofs.names.from_paren.Given as goal
 
 abbrev pub invariant-scan : goal.invariant-scan

@@ -2,7 +2,7 @@ use Rattle.std.proofs.Common.{◌≡◌, length}
 use denote.Text.{Utf8}
 use denote.Shadow.{shadow}
 use Rattle.std.specs.Str.{chars}
-use Rattle.tcl_meaning.specs.Variables.{last_part}
+use Rattle.tcl_first_path.specs.Variables.{last_part}
 use Rattle.tcl_interp.proofs.names.last_part.Given as goal
 
 abbrev pub invariant-scan : goal.invariant-scan

@@ -1,13 +1,13 @@
 use Rattle.std.proofs.Common.{◌≡◌, ℕ, List, [], ◌∷◌, ◌++◌, Result, subst, ap, ◌∙◌}
 use Rattle.std.specs.Str.{chars, encode_utf8_all}
 use Rattle.std.proofs.lemmas.Str.{chars-nil}
-use Rattle.tcl_meaning.specs.Completions.{normal}
-use Rattle.tcl_meaning.specs.Effects.{Gives}
+use Rattle.tcl_first_path.specs.Completions.{normal}
+use Rattle.tcl_first_path.specs.Effects.{Gives}
 use Rattle.tcl_chan.specs.declared.fault.Out.{Out}
-use Rattle.tcl_meaning.specs.State.{State, wrote}
+use Rattle.tcl_first_path.specs.State.{State, wrote}
 use Rattle.tcl_interp.specs.declared.completion.Completion.{Completion}
 use Rattle.tcl_interp.specs.declared.fault.EvalFault.{EvalFault}
-use Rattle.tcl_meaning.specs.Pages.{line_of}
+use Rattle.tcl_first_path.specs.Pages.{line_of}
 use Rattle.tcl_interp.specs.Evaluate.{Follows}
 use Rattle.tcl_interp.specs.Pages.{output_at}
 use Rattle.tcl_interp.specs.Evaluation.{world_state}

@@ -1,7 +1,7 @@
 use Rattle.std.proofs.Common.{[], sym, ap, ◌∙◌}
 use Rattle.std.proofs.lemmas.Result.{err_from_is_err_and}
-use Rattle.tcl_meaning.specs.Completions.{normal}
-use Rattle.tcl_meaning.specs.Effects.{Gives}
+use Rattle.tcl_first_path.specs.Completions.{normal}
+use Rattle.tcl_first_path.specs.Effects.{Gives}
 use Rattle.tcl_interp.specs.Evaluation.{world_state}
 use Rattle.tcl_interp.proofs.PagesLemmas.{err_same, wrote_whole, wrote_front}
 use Rattle.tcl_interp.proofs.pages.write_text.Goals as goal

@@ -1,10 +1,10 @@
 use Rattle.std.proofs.Common.{[], refl}
 use Rattle.std.specs.Str.{chars}
-use Rattle.tcl_meaning.specs.Completions.{normal}
-use Rattle.tcl_meaning.specs.Effects.{Script}
-use Rattle.tcl_meaning.specs.Run.{args_put}
-use Rattle.tcl_meaning.specs.State.{state_with}
-use Rattle.tcl_meaning.proofs.Rules.{begins_run}
+use Rattle.tcl_first_path.specs.Completions.{normal}
+use Rattle.tcl_first_path.specs.Effects.{Script}
+use Rattle.tcl_first_path.specs.Run.{args_put}
+use Rattle.tcl_first_path.specs.State.{state_with}
+use Rattle.tcl_first_path.proofs.Rules.{begins_run}
 use Rattle.tcl_interp.proofs.report.run_named.Goals as goal
 
 pub returns-in_default-clause-report : goal.returns-in_default-clause-report

@@ -1,0 +1,4 @@
+pub mod Divisions
+pub mod Nests
+pub mod Rules
+pub mod Runs

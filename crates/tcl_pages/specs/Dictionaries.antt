@@ -1,0 +1,35 @@
+-- The pairs of a dictionary: dict(n), DESCRIPTION.
+use Rattle.std.specs.Prelude.{List, [], ◌∷◌, Ok, Err, if◌then◌else◌}
+use Rattle.tcl_chars.specs.Texts.{literal}
+use Rattle.tcl_list.specs.Elements.{elements_of}
+use Rattle.tcl_pages.specs.Answers.{Answer, ◌>>=◌}
+use Rattle.tcl_pages.specs.Texts.{Text, same_text}
+
+abbrev pub Pairs : Type 0
+Pairs = List (Text × Text)
+
+-- with this value under the key: a key that is there keeps its place
+abbrev pub put_key : Pairs → Text → Text → Pairs
+put_key [] key value = (key, value) ∷ []
+put_key (p ∷ ps) key value = if same_text p.0 key then (key, value) ∷ ps else p ∷ put_key ps key value
+
+-- with these pairs, one after another
+abbrev pub put_keys : Pairs → Pairs → Pairs
+put_keys found [] = found
+put_keys found (p ∷ ps) = put_keys (put_key found p.0 p.1) ps
+
+abbrev pub with_pair : Text → Text → Answer Pairs → Answer Pairs
+with_pair key value ps = ps >>= λ more. Ok ((key, value) ∷ more)
+
+-- keys and values in turn
+abbrev pub in_pairs : List Text → Answer Pairs
+in_pairs [] = Ok []
+in_pairs (t ∷ []) = Err (literal "missing value to go with key")
+in_pairs (key ∷ value ∷ ts) = with_pair key value (in_pairs ts)
+
+-- A list of even length is a dictionary. A repeated key keeps its first place and its last value.
+unfoldable pub pairs_of : Text → Answer Pairs
+pairs_of t = do
+  es ← elements_of t
+  ps ← in_pairs es
+  Ok (put_keys [] ps)
