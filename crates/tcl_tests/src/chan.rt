@@ -3,5 +3,4 @@ mod callers;
 mod cuts;
 mod devices;
 mod input;
-mod large;
 mod output;

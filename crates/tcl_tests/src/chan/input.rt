@@ -10,7 +10,6 @@ use tcl_chan::fault::ChanFault;
 use tcl_chan::faulty::FaultyInput;
 use tcl_chan::memory::{MemoryInput, MemoryOutput};
 use tcl_chan::pieces::OneByte;
-use tcl_chan::standard::StandardInput;
 use tcl_chan::world::World;
 
 /// What four calls of `gets` answer, each with `!` where the end was met by then and `;` else.
@@ -236,88 +235,5 @@ fn long_lines(rt: HostRuntime) -> Result<(), Fail> {
         weighed_lengths(rt.alloc(), &mut MemoryInput::new(&bytes))?,
         want
     );
-    Ok(())
-}
-
-/// What one `gets`, or a `read` of so many characters, answers.
-fn taken<R: Input>(
-    alloc: Global,
-    input: &mut R,
-    count: Option<u64>,
-) -> Result<RcStr<Global>, ChanFault> {
-    let mut out = MemoryOutput::new(alloc, 0)?;
-    let mut err = MemoryOutput::new(alloc, 0)?;
-    let mut world = World::new(alloc, input, &mut out, &mut err);
-    match count {
-        Some(_) => world.read(count),
-        None => Ok(world.gets()?.ok_or(ChanFault::Write)?),
-    }
-}
-
-/// Rows of bytes of which one read of a terminal gives the front, and another one would not return: it fails here.
-#[test]
-fn no_more_is_asked_than_needed(rt: HostRuntime) -> Result<(), Fail> {
-    let alloc = rt.alloc();
-    let rows: [(&[u8], usize, Option<u64>, &str); 18] = [
-        (b"ab\ncd\n", 3, None, "ab"),
-        (b"ab\ncd\n", 5, None, "ab"),
-        (b"ab\r\ncd\n", 4, None, "ab"),
-        (b"\nb", 1, None, ""),
-        (b"\xFF\nb", 2, None, "\u{FFFD}"),
-        (b"abc", 2, Some(0), ""),
-        (b"abc", 2, Some(1), "a"),
-        (b"abc", 2, Some(2), "ab"),
-        (b"\r\nb", 2, Some(1), "\n"),
-        (b"\rab", 2, Some(1), "\r"),
-        (b"\xFFab", 1, Some(1), "\u{FFFD}"),
-        (b"\xC1ab", 1, Some(1), "\u{FFFD}"),
-        (b"\x80ab", 1, Some(1), "\u{FFFD}"),
-        (b"\xF5ab", 1, Some(1), "\u{FFFD}"),
-        (b"\xE2ab", 2, Some(1), "\u{FFFD}"),
-        (b"\xE2\x82ab", 3, Some(1), "\u{FFFD}"),
-        (b"\xF0\x80ab", 2, Some(2), "\u{FFFD}\u{FFFD}"),
-        (b"\xE2\x82\xAC", 3, Some(1), "\u{20AC}"),
-    ];
-    for (bytes, front, count, want) in rows {
-        let inner = MemoryInput::new(bytes);
-        let mut input = FaultyInput::new(CutInput { inner, front }, 2);
-        let text = taken(alloc, &mut input, count)?;
-        assert_eq!(rt; text.as_str(), want, "up to {front}");
-        assert_eq!(rt; input.failures(), 0);
-    }
-    Ok(())
-}
-
-/// Rows of bytes that what follows may change: another read is asked for.
-#[test]
-fn more_is_asked_where_it_is_needed(rt: HostRuntime) -> Result<(), Fail> {
-    let rows: [(&[u8], Option<u64>); 6] = [
-        (b"ab", None),
-        (b"ab\r", None),
-        (b"ab", Some(3)),
-        (b"\r", Some(1)),
-        (b"\xE2\x82", Some(1)),
-        (b"\xF0\x9F\x98", Some(1)),
-    ];
-    for (bytes, count) in rows {
-        let mut input = FaultyInput::new(MemoryInput::new(bytes), 2);
-        let text = taken(rt.alloc(), &mut input, count);
-        assert!(rt; matches!(text, Err(ChanFault::Read)));
-    }
-    Ok(())
-}
-
-/// Standard input with bytes in place of the process's own.
-#[test]
-fn standard_input_gives_its_bytes(rt: HostRuntime) -> Result<(), Fail> {
-    let alloc = rt.alloc();
-    let mut input = StandardInput::new(b"ab\r\n\xFF\nc".as_slice());
-    let read = lines(alloc, &mut input)?;
-    assert_eq!(rt; read.as_str(), "ab;\u{FFFD};c!none!");
-    assert_eq!(rt; input.failures(), 0);
-    let mut input = OneByte::new(StandardInput::new(b"a\r\n\xE2\x82\xACb".as_slice()));
-    let read = texts(alloc, &mut input, [Some(2), Some(1), None])?;
-    assert_eq!(rt; read.as_str(), "a\n;\u{20AC};b!");
-    assert_eq!(rt; input.failures(), 0);
     Ok(())
 }

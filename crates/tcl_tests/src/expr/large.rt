@@ -47,18 +47,3 @@ fn a_long_run(rt: HostRuntime) -> Result<(), Fail> {
     assert!(rt; parse_expr(rt.alloc(), &text, Dialect::Tcl86)?.is_err());
     Ok(())
 }
-
-#[test]
-fn a_thousand_arguments(rt: HostRuntime) -> Result<(), Fail> {
-    let mut text = String::new(rt.alloc());
-    text.push_str("max(1")?;
-    for _ in 0..999u32 {
-        text.push_str(", $a")?;
-    }
-    text.push_str(")")?;
-    match parse_expr(rt.alloc(), &text, Dialect::Tcl86)? {
-        Ok(Tree::Call(_, _, arguments)) => assert_eq!(rt; arguments.len(), 1000),
-        _ => assert!(rt; false, "no call"),
-    }
-    Ok(())
-}
