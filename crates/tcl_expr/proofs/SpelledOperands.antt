@@ -12,6 +12,7 @@ use Rattle.tcl_words.specs.declared.fault.Syntax.{Syntax}
 use Rattle.tcl_words.specs.First.{operand, begins_operand}
 use Rattle.tcl_words.specs.Parts.{Stretch, Shape}
 use Rattle.tcl_words.specs.Words.{stretch, begins_variable}
+use Rattle.tcl_words.proofs.OperandSpelled.{operand_is_spelled}
 use Rattle.tcl_expr.specs.declared.token.UnaryOp.{UnaryOp}
 use Rattle.tcl_expr.specs.declared.token.UnaryOp.TheVariants as unary
 use Rattle.tcl_expr.specs.declared.token.BinaryOp.{BinaryOp}
@@ -269,8 +270,8 @@ module _ (dialect : Dialect) (size levels : ℕ) where
       third (begins_signed (c ∷ cs)) (begins_run (c ∷ cs)) (begins_operand (c ∷ cs)) _ _ _ _ (and_false (c == minus) _ n.1) n.0 b
 
   operand_spelled_word : (here : List ℕ) (r : Result (Shape × List ℕ) Syntax) → begins_operand here ≡ true → operand size levels here ≡ r → SpellsOperand dialect size levels here (word_token r).0 (word_token r).1
-  operand_spelled_word here (Ok x) b e = spelling.quoted x.0 x.1 b e
-  operand_spelled_word here (Err m) b e = spelling.malformed m b e
+  operand_spelled_word here (Ok x) b e = spelling.quoted x.0 x.1 b (((operand_is_spelled size levels here b).0 x.0 x.1).0 e)
+  operand_spelled_word here (Err m) b e = spelling.malformed m b (((operand_is_spelled size levels here b).1 m).0 e)
 
   character_read : (c : ℕ) (rest : List ℕ) → begins_run (c ∷ rest) ≡ false → begins_operand (c ∷ rest) ≡ false → c ≢ open_paren → ((u : UnaryOp) → c ∷ [] ≢ unary_text u) → symbol_at (c ∷ rest) ≡ None
       → operand_token dialect size levels (c ∷ rest) ≡ Some (Bareword (stretch size (c ∷ rest) rest), rest)
@@ -362,8 +363,8 @@ module _ (dialect : Dialect) (size levels : ℕ) where
       run_read here s rest r ∙ ap Some (plain_token dialect s rest n ∙ ap (λ (b : Bool). (if b then Operand (literal s) else Bareword s, rest)) e)
   operand_read here _ _ (spelling.other_run s rest r n e) =
       run_read here s rest r ∙ ap Some (plain_token dialect s rest n ∙ ap (λ (b : Bool). (if b then Operand (literal s) else Bareword s, rest)) e)
-  operand_read here _ _ (spelling.quoted w rest b e) = operand_here here b ∙ ap (λ r. Some (word_token r)) e
-  operand_read here _ _ (spelling.malformed m b e) = operand_here here b ∙ ap (λ r. Some (word_token r)) e
+  operand_read here _ _ (spelling.quoted w rest b e) = operand_here here b ∙ ap (λ r. Some (word_token r)) (((operand_is_spelled size levels here b).0 w rest).1 e)
+  operand_read here _ _ (spelling.malformed m b e) = operand_here here b ∙ ap (λ r. Some (word_token r)) (((operand_is_spelled size levels here b).1 m).1 e)
   operand_read here _ _ (spelling.parenthesis rest e) = ap (operand_token dialect size levels) e ∙ parenthesis_read rest
   operand_read here _ _ (spelling.unary u rest e d w) = unary_at here u rest e d w
   operand_read here _ _ (spelling.symbol y rest i u) = symbol_operand here y rest i u

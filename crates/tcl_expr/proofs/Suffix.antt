@@ -10,7 +10,7 @@ use Rattle.tcl_words.specs.declared.fault.Syntax.{Syntax}
 use Rattle.tcl_words.specs.First.{operand, begins_operand}
 use Rattle.tcl_words.specs.Parts.{Shape, Stretch}
 use Rattle.tcl_words.specs.Words.{stretch, Inner, inner_at, at_variable_brace, after_name, named, variable_at, bracket_at, braced_at, quoted_at, operand_at}
-use Rattle.tcl_words.proofs.Ends.{IsPast, ends_self, ends_more, ends_trans, ends_tail, past_more, past_then, then_past, if_cond, if_bind, if_weak, Ends, Past}
+use Rattle.tcl_chars.proofs.Ends.{IsPast, ends_self, ends_more, ends_trans, ends_tail, past_more, past_then, then_past, if_cond, if_bind, if_weak, Ends, Past}
 use Rattle.tcl_words.proofs.Forward.{Inside, inner_inside, variable_brace_end, name_end, named_end, braced_end, quoted_end}
 use Rattle.tcl_expr.proofs.LongestFronts.{branch, space_gap, run_front}
 use Rattle.tcl_expr.specs.declared.token.Symbol.{Symbol}

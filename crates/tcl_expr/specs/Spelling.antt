@@ -1,5 +1,5 @@
 -- When a text is spelled by tokens, said by its parts rather than by a reader: expr(n), Operands and Operators.
-use Rattle.std.specs.Prelude.{◌≡◌, ◌≢◌, ℕ, ◌≤◌, ◌-◌, Bool, true, false, List, [], ◌∷◌, ◌++◌, length, Some, None, Ok, Err, ◌⊎◌}
+use Rattle.std.specs.Prelude.{◌≡◌, ◌≢◌, ℕ, ◌≤◌, ◌-◌, Bool, true, false, List, [], ◌∷◌, ◌++◌, length, Some, None, ◌⊎◌}
 use Rattle.std.specs.List.{list_all}
 use Rattle.tcl_chars.specs.Characters.{open_paren}
 use Rattle.tcl_chars.specs.Classes.{is_list_space}
@@ -7,8 +7,10 @@ use Rattle.tcl_chars.specs.Place.{bytes, place}
 use Rattle.tcl_chars.specs.Truth.{truth_of}
 use Rattle.tcl_chars.specs.declared.numbers.Dialect.{Dialect}
 use Rattle.tcl_words.specs.declared.fault.Syntax.{Syntax}
-use Rattle.tcl_words.specs.First.{operand, begins_operand, most_levels}
+use Rattle.tcl_words.specs.Faults.{BadOperand}
+use Rattle.tcl_words.specs.First.{begins_operand, most_levels}
 use Rattle.tcl_words.specs.Parts.{Stretch, Shape}
+use Rattle.tcl_words.specs.Spelling.{OperandWord}
 use Rattle.tcl_expr.specs.declared.state.Wanted.{Wanted}
 use Rattle.tcl_expr.specs.declared.state.Wanted.TheVariants as wanted
 use Rattle.tcl_expr.specs.declared.token.UnaryOp.{UnaryOp}
@@ -100,10 +102,10 @@ pub data SpellsOperand (dialect : Dialect) (size levels : ℕ) (here : List ℕ)
       → SpellsOperand dialect size levels here (Bareword s) rest
   -- a word in quotes or braces, a bracket or a variable, or its fault
   quoted : (w : Shape) (rest : List ℕ)
-      → begins_operand here ≡ true → operand size levels here ≡ Ok (w, rest)
+      → begins_operand here ≡ true → OperandWord size levels here w rest
       → SpellsOperand dialect size levels here (Operand (word w)) rest
   malformed : (m : Syntax)
-      → begins_operand here ≡ true → operand size levels here ≡ Err m
+      → begins_operand here ≡ true → BadOperand size levels here m
       → SpellsOperand dialect size levels here (Malformed m) []
   parenthesis : (rest : List ℕ)
       → here ≡ open_paren ∷ rest

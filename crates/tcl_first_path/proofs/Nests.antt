@@ -11,7 +11,7 @@ use Rattle.tcl_words.specs.declared.word.Form.TheVariants as form
 use Rattle.tcl_words.specs.Parts.{Part, Parts, parts_of, Shape}
 use Rattle.tcl_words.specs.Words.{after_blanks, after_command, ends_word, after_name, begins_variable, ends_pieces, kind_of, at_variable_brace, at_brace, begins_hidden_newline, marked, form_of, closed, verbatim_at, braced_at, Inner, named, variable_at, bracket_at, piece_of, piece_at, pieces_at, quoted_at, word_of, word_at, next_word, words_at, first_at, inner_at}
 use Rattle.tcl_words.specs.First.{command, first_of, first, first_command}
-use Rattle.tcl_words.proofs.Ends.{if_cond, if_bind, always}
+use Rattle.tcl_chars.proofs.Ends.{if_cond, if_bind, always}
 use Rattle.tcl_first_path.specs.Nesting.{PartNests, PartsNest, WordsNest}
 
 -- ---- what each turn gives holds of all that the turns give

@@ -15,7 +15,7 @@ use Rattle.tcl_words.specs.declared.fault.Syntax.{Syntax}
 use Rattle.tcl_words.specs.declared.word.Form.TheVariants as form
 use Rattle.tcl_words.specs.Parts.{Stretch, Part, text, escape}
 use Rattle.tcl_words.specs.Words.{after_plain, ends_word, inner_at, kind_of, piece_at, pieces_at, stretch, word_at, word_of}
-use Rattle.tcl_words.proofs.Ends.{forward_shrinks, if_ok}
+use Rattle.tcl_chars.proofs.Ends.{forward_shrinks, if_ok}
 use Rattle.tcl_words.proofs.Forward.{inner_inside, piece_forward, plain_end}
 
 -- ---- the first character

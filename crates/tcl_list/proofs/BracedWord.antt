@@ -1,9 +1,10 @@
 -- An element in braces, read as a word.
-use Rattle.std.proofs.Common.{◌≡◌, ℕ, zero, suc, ◌==◌, Bool, true, false, ◌&&◌, ◌||◌, List, [], ◌∷◌, ◌++◌, Option, Some, None, Result, Ok, Err, sym, ap, ◌∙◌, subst, refl, arith, inl, inr}
+use Rattle.std.proofs.Common.{◌≡◌, ℕ, zero, suc, ◌==◌, Bool, true, false, ◌&&◌, List, [], ◌∷◌, ◌++◌, Option, Some, None, Result, Ok, Err, sym, ap, ◌∙◌, subst, refl, arith, inl, inr}
 use Rattle.std.specs.Prelude.{◌↔◌}
 use Rattle.std.specs.Option.{option_map_or}
-use Rattle.std.proofs.lemmas.Bool.{cases_Bool, eqb-true, ne_eqb, false≢true, true≢false}
+use Rattle.std.proofs.lemmas.Bool.{cases_Bool, eqb-true, ne_eqb, false≢true, or_parts}
 use Rattle.std.proofs.lemmas.List.{append-nil}
+use Rattle.std.proofs.Math.Bool.{and-false}
 use Rattle.tcl_chars.specs.Characters.{newline, star, backslash, open_brace, close_brace}
 use Rattle.tcl_chars.specs.Place.{before, place}
 use Rattle.tcl_chars.specs.Reading.{with_front, all_turns}
@@ -18,8 +19,7 @@ use Rattle.tcl_words.specs.declared.fault.Syntax.TheVariants.{MissingBrace}
 use Rattle.tcl_words.specs.declared.word.Form.TheVariants as form
 use Rattle.tcl_words.specs.Parts.{Part, text, Shape}
 use Rattle.tcl_words.specs.Words.{after_verbatim, at_brace, begins_hidden_newline, braced_at, ends_word, inner_at, marked, stretch, verbatim_at, word_at}
-use Rattle.tcl_words.proofs.Bracketed.{and_false}
-use Rattle.tcl_words.proofs.Ends.{forward_shrinks}
+use Rattle.tcl_chars.proofs.Ends.{forward_shrinks}
 use Rattle.tcl_words.proofs.Forward.{verbatim_forward}
 
 -- ---- the brace that matches
@@ -73,10 +73,6 @@ at_end e rest h = same_brace false 0 (e ++ close_brace ∷ rest) ∙ ap or_missi
 
 -- ---- what stands inside
 
-pub or_no : (a b : Bool) → (a || b) ≡ false → (a ≡ false) × (b ≡ false)
-or_no true b h = absurd (true≢false h)
-or_no false b h = (refl, h)
-
 and_no : (a b : Bool) → a ≡ true → (a && b) ≡ false → b ≡ false
 and_no a b t h = sym (ap (λ x. x && b) t) ∙ h
 
@@ -86,14 +82,14 @@ unfolding after_verbatim
 all_verbatim [] h = refl
 all_verbatim (c ∷ []) h = refl
 all_verbatim (c ∷ d ∷ cs) h =
-    let here = or_no ((c == backslash) && (d == newline)) _ h in
+    let here = or_parts ((c == backslash) && (d == newline)) _ h in
     elim (cases_Bool (c == backslash)) [
-      | inl b ↦ rw (b, and_no (c == backslash) (d == newline) b here.0) (all_verbatim cs (or_no _ (is_continued cs) here.1).1)
+      | inl b ↦ rw (b, and_no (c == backslash) (d == newline) b here.0) (all_verbatim cs (or_parts _ (is_continued cs) here.1).1)
       | inr b ↦ rw b (all_verbatim (d ∷ cs) here.1)
     ]
 
 not_hidden : (c : ℕ) (cs : List ℕ) → is_continued (c ∷ cs) ≡ false → begins_hidden_newline (c ∷ cs) ≡ false
-not_hidden c cs h = (or_no _ (is_continued cs) h).0
+not_hidden c cs h = (or_parts _ (is_continued cs) h).0
 
 -- what a word's pieces are read as, and what they say
 record Inside (size : ℕ) (e : List ℕ) : Type 0 where
@@ -119,7 +115,7 @@ inside size (c ∷ cs) h =
 -- `{*}` stands in front of a word only where more of it follows
 not_marked : (nested : Bool) (e rest : List ℕ) → is_balanced e ≡ true → ends_word nested rest ≡ true → marked nested (open_brace ∷ (e ++ close_brace ∷ rest)) ≡ false
 not_marked nested [] rest b h = refl
-not_marked nested (c ∷ []) rest b h = rw h (and_false _)
+not_marked nested (c ∷ []) rest b h = rw h (and-false _)
 not_marked nested (c ∷ d ∷ e) rest b h = elim (cases_Bool (d == close_brace)) [
   | inl k ↦ elim (cases_Bool (c == star)) [
     | inl s ↦
@@ -128,7 +124,7 @@ not_marked nested (c ∷ d ∷ e) rest b h = elim (cases_Bool (d == close_brace)
         absurd (false≢true (subst Q (eqb-true d close_brace k) (subst P (eqb-true c star s) b)))
     | inr s ↦ rw s refl
   ]
-  | inr k ↦ rw (k, and_false (c == star)) refl
+  | inr k ↦ rw (k, and-false (c == star)) refl
 ]
 
 module _ (size levels : ℕ) (nested : Bool) where

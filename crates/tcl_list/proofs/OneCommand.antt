@@ -1,24 +1,25 @@
 -- A written list is one command, whose words are its elements.
 use Rattle.std.proofs.Common.{◌≡◌, ℕ, Bool, true, false, not, ◌&&◌, ◌||◌, ◌==◌, List, [], ◌∷◌, ◌++◌, Option, Some, None, Ok, sym, ap, ◌∙◌, subst, refl, arith, append_assoc}
-use Rattle.std.proofs.lemmas.Bool.{cond_both, and_parts, eqb-true, false≢true, true≢false}
+use Rattle.std.proofs.lemmas.Bool.{cond_both, and_parts, eqb-true, true≢false, or_parts, not-true}
 use Rattle.std.proofs.lemmas.Bool.Decides.{nat_tests}
 use Rattle.std.proofs.lemmas.List.{append-nil}
+use Rattle.std.proofs.Math.Bool.{and-false}
 use Rattle.tcl_chars.specs.Characters.{newline, semicolon, space, backslash, number_sign, open_brace, close_brace, close_bracket}
 use Rattle.tcl_chars.specs.Classes.{is_word_space, is_list_space}
 use Rattle.tcl_chars.specs.Place.{begins}
 use Rattle.tcl_chars.specs.Reading.{Reading, with_front}
 use Rattle.tcl_chars.proofs.Turns.{last_turn, one_turn}
+use Rattle.tcl_words.proofs.ScansSpelled.{solid_blanks}
 use Rattle.tcl_list.specs.Braces.{is_balanced}
 use Rattle.tcl_list.specs.OneCommand.{AreWords, ends_command, OneCommand, NextCommand}
 use Rattle.tcl_list.specs.Written.{is_special, needs_no_backslash, is_continued, is_comment, element_form, behind_backslash, backslashed, all_escaped, spelled, written_element, appended, written_behind, written}
 use Rattle.tcl_list.proofs.BareWord.{backslash_no_end, bare_word, sign_word, starts}
-use Rattle.tcl_list.proofs.BracedWord.{Word, braced_word, or_no}
+use Rattle.tcl_list.proofs.BracedWord.{Word, braced_word}
 use Rattle.tcl_words.specs.declared.fault.Syntax.{Syntax}
 use Rattle.tcl_words.specs.First.{command, first}
 use Rattle.tcl_words.specs.Parts.{Shape}
 use Rattle.tcl_words.specs.Words.{after_blanks, after_command, after_gaps, ends_word, first_at, inner_at, next_word, words_at}
-use Rattle.tcl_words.proofs.Bracketed.{and_false}
-use Rattle.tcl_words.proofs.Ends.{forward_shrinks}
+use Rattle.tcl_chars.proofs.Ends.{forward_shrinks}
 use Rattle.tcl_words.proofs.Forward.{inner_inside, word_forward}
 
 -- ---- blanks
@@ -32,22 +33,16 @@ record Solid (c : ℕ) (cs : List ℕ) : Type 0 where
 
 solid : (nested : Bool) (c : ℕ) (cs : List ℕ) → ends_word nested (c ∷ cs) ≡ false → Solid c cs
 solid nested c cs h =
-    let last = or_no (is_word_space c || c == newline || c == semicolon || (nested && c == close_bracket)) (c == backslash && begins newline cs) h in
-    let third = or_no (is_word_space c || c == newline || c == semicolon) (nested && c == close_bracket) last.0 in
-    let second = or_no (is_word_space c || c == newline) (c == semicolon) third.0 in
-    let first = or_no (is_word_space c) (c == newline) second.0 in
+    let last = or_parts (is_word_space c || c == newline || c == semicolon || (nested && c == close_bracket)) (c == backslash && begins newline cs) h in
+    let third = or_parts (is_word_space c || c == newline || c == semicolon) (nested && c == close_bracket) last.0 in
+    let second = or_parts (is_word_space c || c == newline) (c == semicolon) third.0 in
+    let first = or_parts (is_word_space c) (c == newline) second.0 in
     record { blank = first.0; line = first.1; semi = second.1; hidden = last.1 }
-
-no_blanks : (nested : Bool) (cs : List ℕ) → ends_word nested cs ≡ false → after_blanks cs ≡ cs
-unfolding after_blanks
-no_blanks nested [] h = refl
-no_blanks nested (c ∷ []) h = rw (solid nested c [] h).blank refl
-no_blanks nested (c ∷ d ∷ cs) h = let s = solid nested c (d ∷ cs) h in rw (s.blank, s.hidden) refl
 
 one_space : (nested : Bool) (cs : List ℕ) → ends_word nested cs ≡ false → after_blanks (space ∷ cs) ≡ cs
 unfolding after_blanks
 one_space nested [] h = absurd (true≢false h)
-one_space nested (c ∷ cs) h = no_blanks nested (c ∷ cs) h
+one_space nested (c ∷ cs) h = solid_blanks nested (c ∷ cs) h
 
 -- where a command ends, a word ends, and no blanks follow
 end_char : (nested : Bool) (c : ℕ) (cs : List ℕ) → ends_command nested (c ∷ cs) ≡ true → (is_word_space c ≡ false) × ((c == backslash) ≡ false) × (ends_word nested (c ∷ cs) ≡ true)
@@ -63,10 +58,6 @@ command_end nested (c ∷ d ∷ cs) h = let e = end_char nested c (d ∷ cs) h i
 brace_no_end : (nested : Bool) (cs : List ℕ) → ends_word nested (open_brace ∷ cs) ≡ false
 brace_no_end true cs = refl
 brace_no_end false cs = refl
-
-isnt : (b : Bool) → not b ≡ true → b ≡ false
-isnt true h = absurd (false≢true h)
-isnt false h = refl
 
 -- ---- a plain element is written as it would be with backslashes
 
@@ -91,7 +82,7 @@ module _ (size levels : ℕ) (nested : Bool) where
   braces : (at_first : Bool) (e rest : List ℕ) → is_balanced e ≡ true → is_continued e ≡ false → ends_word nested rest ≡ true → Element at_first ((open_brace ∷ (e ++ close_brace ∷ [])) ++ rest) e rest
   braces at_first e rest b n h =
       let P : List ℕ → Type 0 = λ t. Element at_first (open_brace ∷ t) e rest in
-      subst P (sym (append_assoc e (close_brace ∷ []) rest)) (record { read = braced_word size levels nested e rest b n h; goes_on = brace_no_end nested (e ++ close_brace ∷ rest); no_comment = and_false at_first })
+      subst P (sym (append_assoc e (close_brace ∷ []) rest)) (record { read = braced_word size levels nested e rest b n h; goes_on = brace_no_end nested (e ++ close_brace ∷ rest); no_comment = and-false at_first })
 
   letters : (at_first : Bool) (c : ℕ) (cs rest : List ℕ) → (at_first && begins number_sign (all_escaped (c ∷ cs) ++ rest)) ≡ false → ends_word nested rest ≡ true
       → Element at_first (all_escaped (c ∷ cs) ++ rest) (c ∷ cs) rest
@@ -99,7 +90,7 @@ module _ (size levels : ℕ) (nested : Bool) where
 
   sign : (at_first : Bool) (cs rest : List ℕ) → ends_word nested rest ≡ true → Element at_first (backslash ∷ (all_escaped (number_sign ∷ cs) ++ rest)) (number_sign ∷ cs) rest
   sign at_first cs rest h =
-      record { read = sign_word size levels nested cs rest h; goes_on = backslash_no_end nested number_sign (all_escaped cs ++ rest) refl; no_comment = and_false at_first }
+      record { read = sign_word size levels nested cs rest h; goes_on = backslash_no_end nested number_sign (all_escaped cs ++ rest) refl; no_comment = and-false at_first }
 
   bare : (at_first : Bool) (c : ℕ) (cs rest : List ℕ) → needs_no_backslash (c ∷ cs) ≡ true → is_comment at_first (c ∷ cs) ≡ false → ends_word nested rest ≡ true → Element at_first ((c ∷ cs) ++ rest) (c ∷ cs) rest
   bare at_first c cs rest p n h =
@@ -108,7 +99,7 @@ module _ (size levels : ℕ) (nested : Bool) where
 
   escaped_begins : (at_first : Bool) (c : ℕ) (cs : List ℕ) (o : Option ℕ) → is_comment at_first (c ∷ cs) ≡ false → (at_first && begins number_sign (backslashed c o ++ cs)) ≡ false
   escaped_begins at_first c cs None n = n
-  escaped_begins at_first c cs (Some b) n = and_false at_first
+  escaped_begins at_first c cs (Some b) n = and-false at_first
 
   escaped : (at_first : Bool) (c : ℕ) (cs rest : List ℕ) → is_comment at_first (c ∷ cs) ≡ false → ends_word nested rest ≡ true → Element at_first (all_escaped (c ∷ cs) ++ rest) (c ∷ cs) rest
   escaped at_first c cs rest n h =
@@ -124,9 +115,9 @@ module _ (size levels : ℕ) (nested : Bool) where
   form_read at_first [] rest h = braces at_first [] rest refl refl h
   form_read at_first (c ∷ cs) rest h =
       cond_both (needs_no_backslash (c ∷ cs) && not (is_comment at_first (c ∷ cs))) _ _ (λ f. Element at_first (spelled f at_first (c ∷ cs) ++ rest) (c ∷ cs) rest)
-      (λ b. let both = and_parts _ _ b in bare at_first c cs rest both.0 (isnt (is_comment at_first (c ∷ cs)) both.1) h)
+      (λ b. let both = and_parts _ _ b in bare at_first c cs rest both.0 (not-true (is_comment at_first (c ∷ cs)) both.1) h)
       (λ _. cond_both (is_balanced (c ∷ cs) && not (is_continued (c ∷ cs))) _ _ (λ f. Element at_first (spelled f at_first (c ∷ cs) ++ rest) (c ∷ cs) rest)
-      (λ b. let both = and_parts _ _ b in braces at_first (c ∷ cs) rest both.0 (isnt (is_continued (c ∷ cs)) both.1) h)
+      (λ b. let both = and_parts _ _ b in braces at_first (c ∷ cs) rest both.0 (not-true (is_continued (c ∷ cs)) both.1) h)
       (λ _. cond_both (is_comment at_first (c ∷ cs)) _ _ (λ t. Element at_first (t ++ rest) (c ∷ cs) rest) (λ n. comment at_first c cs rest n h) (λ n. escaped at_first c cs rest n h)))
 
   element_read : (at_first : Bool) (e rest : List ℕ) → ends_word nested rest ≡ true → Element at_first (written_element at_first e ++ rest) e rest
@@ -190,7 +181,7 @@ next_command size levels nested e es rest h =
     let after = written_behind es ++ rest in
     let i = element_read size levels nested true e after (behind_end size levels nested es rest h) in
     let whole = written_element true e ++ after in
-    let r = read_more size levels nested true whole whole e after es rest i (no_blanks nested whole i.goes_on) (behind_read size levels nested es rest h) in
+    let r = read_more size levels nested true whole whole e after es rest i (solid_blanks nested whole i.goes_on) (behind_read size levels nested es rest h) in
     let same : written (e ∷ es) ++ rest ≡ whole = append_assoc (appended true e) (written_behind es) rest in
     (r.words, ap (first size levels nested) same ∙ first_read size levels nested whole r.words rest i.goes_on i.no_comment r.read, r.are)
 

@@ -108,7 +108,7 @@ true_and false b h k = absurd cc
 same_number : (i j : ℕ) → i ≡ j → nat_eq i j ≡ true
 same_number i j e = ⊎_elim (λ y. y.0) (λ n. absurd (n.1 e)) (eqb_tells i j)
 
-not_own : (s : Store) (local : Text) (t : Spot) → is_own s local t ≡ false → (t.frame ≡ s.active) × (t.name ≡ local) → ⊥
+pub not_own : (s : Store) (local : Text) (t : Spot) → is_own s local t ≡ false → (t.frame ≡ s.active) × (t.name ≡ local) → ⊥
 not_own s local t h p = false≢true (sym h ∙ true_and _ _ (same_number t.frame s.active p.0) ((bytes_decides t.name local).1 p.1))
 
 home_down : (i : ℕ) (n : Name) → home i n ≤ i

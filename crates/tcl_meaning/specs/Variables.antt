@@ -1,5 +1,5 @@
 -- Variables by their names: set(n), unset(n), array(n).
-use Rattle.std.specs.Prelude.{List, [], ◌∷◌, ◌++◌, Option, Some, None, Result, Ok, Err}
+use Rattle.std.specs.Prelude.{List, [], ◌∷◌, Option, Some, None, Result, Ok, Err}
 use Rattle.std.specs.FinMap as map
 use Rattle.tcl_chars.specs.Messages.{about}
 use Rattle.tcl_chars.specs.Texts.{literal}
@@ -103,20 +103,20 @@ remove_change s name = remove_named s (divided_name name)
 
 -- ---- what the refusals say
 
-abbrev pub reason : Refusal → Text
-reason NoSuch = literal "no such variable"
-reason IsArray = literal "variable is array"
-reason IsntArray = literal "variable isn't array"
-reason NoElement = literal "no such element in array"
+abbrev pub because : Refusal → Text
+because NoSuch = literal ": no such variable"
+because IsArray = literal ": variable is array"
+because IsntArray = literal ": variable isn't array"
+because NoElement = literal ": no such element in array"
 
 abbrev pub cant_read : Text → Refusal → Completion
-cant_read name refusal = failure (about (literal "can't read") name (literal ": " ++ reason refusal))
+cant_read name refusal = failure (about (literal "can't read") name (because refusal))
 
 abbrev pub cant_set : Text → Refusal → Completion
-cant_set name refusal = failure (about (literal "can't set") name (literal ": " ++ reason refusal))
+cant_set name refusal = failure (about (literal "can't set") name (because refusal))
 
 abbrev pub cant_unset : Text → Refusal → Completion
-cant_unset name refusal = failure (about (literal "can't unset") name (literal ": " ++ reason refusal))
+cant_unset name refusal = failure (about (literal "can't unset") name (because refusal))
 
 -- ---- as programs
 

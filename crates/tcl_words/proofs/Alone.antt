@@ -3,6 +3,7 @@ use Rattle.std.proofs.Common.{◌≡◌, ℕ, zero, suc, ◌+◌, ◌≤◌, Boo
 use Rattle.std.specs.Prelude.{IfOk}
 use Rattle.std.proofs.lemmas.Bool.{cases_Bool, true≢false, eqb-true}
 use Rattle.std.proofs.lemmas.List.{nil_from_length}
+use Rattle.std.proofs.Math.Bool.{and-false}
 use Rattle.tcl_chars.specs.Characters.{star, close_bracket, close_brace, open_brace, open_paren}
 use Rattle.tcl_chars.specs.Escape.{escape as escape_of}
 use Rattle.tcl_chars.specs.Place.{EndsWith, tail, before, place, bytes}
@@ -18,9 +19,9 @@ use Rattle.tcl_words.specs.declared.word.Form.{Form}
 use Rattle.tcl_words.specs.declared.word.Form.TheVariants as form
 use Rattle.tcl_words.specs.Parts.{Part, Shape, parts_of, var, bracket}
 use Rattle.tcl_words.specs.Words.{after_blanks, after_gaps, ends_word, after_name, kind_of, after_plain, at_variable_brace, at_brace, verbatim_at, braced_at, stretch, marked, form_of, closed, after_command, Inner, named, variable_at, bracket_at, piece_of, piece_at, pieces_at, quoted_at, word_of, word_at, next_word, words_at, first_at, commands_at, after_commands, closing, index_of, inner_at}
-use Rattle.tcl_words.proofs.Bracketed.{closed_by, behind, length_closed, place_alone, before_alone, stretch_alone, same_cond, and_false, ends_word_alone, Stays, name_alone, blanks_alone, gaps_alone, CutScan, variable_brace_alone, brace_alone, escape_alone}
+use Rattle.tcl_words.proofs.Bracketed.{closed_by, behind, length_closed, place_alone, before_alone, stretch_alone, same_cond, ends_word_alone, Stays, name_alone, blanks_alone, gaps_alone, CutScan, variable_brace_alone, brace_alone, escape_alone}
 use Rattle.tcl_words.proofs.BracketedTurns.{Cut, cut_of, of_cut, turns_alone}
-use Rattle.tcl_words.proofs.Ends.{always, ends_le, if_bind, if_cond, forward_shrinks}
+use Rattle.tcl_chars.proofs.Ends.{always, ends_le, if_bind, if_cond, forward_shrinks}
 use Rattle.tcl_words.proofs.Forward.{Inside, plain_past, piece_forward, word_forward, first_forward, words_end, command_end, inner_inside}
 use Rattle.tcl_words.proofs.BracketedKinds.{tail_le, tail_lt, Clear, no_bracket, kind_bare, kind_quoted, kind_index, kind_at_bracket, plain_bare, plain_same, was_closed, closed_is_le, shape_rest, word_rest, and_true, ends_at_bracket, word_from, bracket_or_clear, no_blanks_at, command_from, command_rest, command_clear, command_alone, scan_of}
 
@@ -221,7 +222,7 @@ module _ (n : ℕ) (y : List ℕ) (inner alone : Inner) (inside : Inside inner) 
       → Cut y (Clear b y) (word_of whole inner true false (form_of (c ∷ d ∷ e ∷ f ∷ r)) (closed_by (c ∷ d ∷ e ∷ f ∷ r) y)) (word_at n alone b (c ∷ d ∷ e ∷ f ∷ r))
   unfolding word_at
   marked_late true c d e f r here =
-      rw (ends_at_bracket f r here, and_false) (word_of_alone true false (form_of (c ∷ d ∷ e ∷ f ∷ r)) c (d ∷ e ∷ f ∷ r))
+      rw (ends_at_bracket f r here, and-false) (word_of_alone true false (form_of (c ∷ d ∷ e ∷ f ∷ r)) c (d ∷ e ∷ f ∷ r))
   marked_late false c d e f r here =
       elim (cases_Bool (marked false (c ∷ d ∷ e ∷ f ∷ r))) [
         | inr plain ↦ rw plain (word_of_alone false false (form_of (c ∷ d ∷ e ∷ f ∷ r)) c (d ∷ e ∷ f ∷ r))
@@ -241,11 +242,11 @@ module _ (n : ℕ) (y : List ℕ) (inner alone : Inner) (inside : Inside inner) 
 
   word_alone : (b : Bool) (c : ℕ) (t : List ℕ) → Cut y (Clear b y) (word_at whole inner true (closed_by (c ∷ t) y)) (word_at n alone b (c ∷ t))
   unfolding word_at
-  word_alone b c [] = rw (and_false (c == open_brace)) (word_of_alone b false (form_of (c ∷ [])) c [])
-  word_alone b c (d ∷ []) = rw (and_false (c == open_brace && d == star)) (word_of_alone b false (form_of (c ∷ d ∷ [])) c (d ∷ []))
-  word_alone b c (d ∷ e ∷ []) = rw (and_false (c == open_brace && d == star && e == close_brace)) (word_of_alone b false (form_of (c ∷ d ∷ e ∷ [])) c (d ∷ e ∷ []))
+  word_alone b c [] = rw (and-false (c == open_brace)) (word_of_alone b false (form_of (c ∷ [])) c [])
+  word_alone b c (d ∷ []) = rw (and-false (c == open_brace && d == star)) (word_of_alone b false (form_of (c ∷ d ∷ [])) c (d ∷ []))
+  word_alone b c (d ∷ e ∷ []) = rw (and-false (c == open_brace && d == star && e == close_brace)) (word_of_alone b false (form_of (c ∷ d ∷ e ∷ [])) c (d ∷ e ∷ []))
   word_alone b c (d ∷ e ∷ f ∷ r) = elim (cases_Bool (f == close_bracket)) [
-    | inl here ↦ rw (ends_at_bracket f (closed_by r y) here, and_false (c == open_brace && d == star && e == close_brace)) (marked_late b c d e f r here)
+    | inl here ↦ rw (ends_at_bracket f (closed_by r y) here, and-false (c == open_brace && d == star && e == close_brace)) (marked_late b c d e f r here)
     | inr other ↦ rw (ends_word_alone f r y b (λ off. other))
         (same_cond (Cut y (Clear b y)) (marked b (c ∷ d ∷ e ∷ f ∷ r)) _ _ _ _ (word_of_alone b true (form_of (f ∷ r)) f r) (word_of_alone b false (form_of (c ∷ d ∷ e ∷ f ∷ r)) c (d ∷ e ∷ f ∷ r)))
   ]

@@ -1,7 +1,8 @@
 -- What stands at the front before a `]`, and what is put together of it, where the text ends there.
-use Rattle.std.proofs.Common.{◌≡◌, ℕ, suc, ◌<◌, ◌≤◌, Bool, true, false, cond, ◌&&◌, ◌||◌, ◌==◌, List, [], ◌∷◌, length, Option, Some, None, Result, Ok, Err, refl, sym, ap, subst, ◌∙◌, arith, inl, inr, ◌⊎◌}
+use Rattle.std.proofs.Common.{◌≡◌, ℕ, suc, ◌<◌, ◌≤◌, Bool, true, false, cond, ◌&&◌, ◌==◌, List, [], ◌∷◌, length, Option, Some, None, Result, Ok, Err, refl, sym, ap, subst, ◌∙◌, arith, inl, inr, ◌⊎◌}
 use Rattle.std.specs.Prelude.{IfOk, if◌then◌else◌}
 use Rattle.std.proofs.lemmas.Bool.{cases_Bool, true≢false, eqb-true}
+use Rattle.std.proofs.Math.Bool.{or-true}
 use Rattle.tcl_chars.specs.Characters.{close_bracket}
 use Rattle.tcl_chars.specs.Place.{begins, tail}
 use Rattle.tcl_chars.specs.Reading.{◌>>=◌}
@@ -13,7 +14,7 @@ use Rattle.tcl_words.specs.Parts.{Shape}
 use Rattle.tcl_words.specs.Words.{after_blanks, ends_word, kind_of, is_plain, after_plain, closed, after_command, Inner, word_at, words_at}
 use Rattle.tcl_words.proofs.Bracketed.{closed_by, behind, length_closed, same_cond, variable_alone, ends_word_alone, Stays, CutScan}
 use Rattle.tcl_words.proofs.BracketedTurns.{Cut}
-use Rattle.tcl_words.proofs.Ends.{ends_le, if_cond}
+use Rattle.tcl_chars.proofs.Ends.{ends_le, if_cond}
 use Rattle.tcl_words.proofs.Forward.{plain_end}
 
 pub tail_le : (cs : List ℕ) → length (tail cs) ≤ length cs
@@ -54,13 +55,9 @@ pub kind_index : (c : ℕ) (t y : List ℕ) → kind_of mode.Index (closed_by (c
 unfolding kind_of
 kind_index c t y = rw (variable_alone t y) refl
 
-pub or_true : (a : Bool) → (a || true) ≡ true
-or_true true = refl
-or_true false = refl
-
 pub kind_at_bracket : (c : ℕ) (rest : List ℕ) → (c == close_bracket) ≡ true → kind_of (mode.Bare true) (c ∷ rest) ≡ kind.Ends
 unfolding kind_of
-kind_at_bracket c rest here = rw (here, or_true) refl
+kind_at_bracket c rest here = rw (here, or-true) refl
 
 pub at_bracket : (b : Bool) (c : ℕ) (t y : List ℕ) → (c == close_bracket) ≡ true → Clear b y (c ∷ closed_by t y) → Stays y (c ∷ closed_by t y) (after_plain (mode.Bare b) (c ∷ t))
 unfolding after_plain
@@ -103,7 +100,7 @@ and_true true b e = (refl, e)
 and_true false b e = absurd cc
 
 pub ends_at_bracket : (c : ℕ) (rest : List ℕ) → (c == close_bracket) ≡ true → ends_word true (c ∷ rest) ≡ true
-ends_at_bracket c rest here = rw (here, or_true) refl
+ends_at_bracket c rest here = rw (here, or-true) refl
 
 -- the next word, behind the blanks
 abbrev pub word_from : ℕ → Inner → Bool → List ℕ → Result (Option Shape × List ℕ) Syntax

@@ -4,7 +4,7 @@ use Rattle.std.proofs.lemmas.Bool.{and_parts, true≢false}
 use Rattle.tcl_chars.specs.Place.{bytes}
 use Rattle.tcl_chars.specs.Reading.{◌>>=◌}
 use Rattle.tcl_words.specs.declared.fault.Syntax.{Syntax}
-use Rattle.tcl_words.specs.Complete.{ends_hidden, is_open, ends_open, after_all, is_complete}
+use Rattle.tcl_words.specs.Complete.{ends_hidden, is_open, ends_open, after_all}
 use Rattle.tcl_words.specs.Faults.{BadCommands}
 use Rattle.tcl_words.specs.First.{most_levels}
 use Rattle.tcl_words.specs.Laws.{CompleteIsClosed}

@@ -1,11 +1,9 @@
 -- The laws of fronts, said of what a text spells.
-use Rattle.std.proofs.Common.{◌≡◌, ℕ, Bool, true, List, ◌++◌, inl, inr, ◌⊎◌}
+use Rattle.std.proofs.Common.{◌≡◌, ℕ, Bool, true, List, ◌++◌, inl, inr}
 use Rattle.std.proofs.lemmas.Bool.{true≢false}
 use Rattle.std.proofs.Common.{refl, sym}
-use Rattle.tcl_words.specs.declared.fault.Syntax.{Syntax}
-use Rattle.tcl_words.specs.Faults.{BadCommand}
 use Rattle.tcl_words.specs.First.{First, first, none, malformed, command}
-use Rattle.tcl_words.specs.Fronts.{FaultStays, GoesOn, Always, OpenGoesOn, FaultAtFront}
+use Rattle.tcl_words.specs.Fronts.{FaultStays, GoesOn, OpenGoesOn, FaultAtFront}
 use Rattle.tcl_words.specs.Spelling.{IsWellFormed}
 use Rattle.tcl_words.proofs.Fronts as read
 use Rattle.tcl_words.proofs.Fronts.{is_well}

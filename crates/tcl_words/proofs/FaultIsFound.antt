@@ -1,30 +1,27 @@
 -- The fault that stands in a text is the one that is found.
-use Rattle.std.proofs.Common.{◌≡◌, ℕ, zero, suc, Bool, true, false, not, ◌&&◌, ◌==◌, List, [], ◌∷◌, ◌++◌, Option, Some, None, Result, Ok, Err, refl, sym, ap, subst, ◌∙◌, arith, inl, inr, ◌⊎◌}
+use Rattle.std.proofs.Common.{◌≡◌, ℕ, zero, suc, Bool, true, false, not, ◌==◌, List, [], ◌∷◌, ◌++◌, Result, Ok, Err, refl, sym, ap, subst, ◌∙◌, arith, inl, inr}
 use Rattle.std.specs.Prelude.{IfErr}
 use Rattle.std.proofs.lemmas.Bool.{cases_Bool, and_parts, true≢false}
-use Rattle.tcl_chars.specs.Characters.{number_sign, dollar, quote, open_bracket, close_bracket, open_brace, close_brace, open_paren, close_paren, star}
-use Rattle.tcl_chars.specs.Place.{begins, tail}
-use Rattle.tcl_chars.specs.Reading.{◌>>=◌, with_front, all_turns}
+use Rattle.tcl_chars.specs.Characters.{dollar, quote, open_bracket, open_brace, close_brace, open_paren, close_paren}
+use Rattle.tcl_chars.specs.Place.{begins}
+use Rattle.tcl_chars.specs.Reading.{with_front}
 use Rattle.tcl_chars.proofs.Turns.{bad_turn, one_turn}
-use Rattle.tcl_words.specs.declared.blanks.Gap.TheVariants as gap
 use Rattle.tcl_words.specs.declared.fault.Syntax.{Syntax}
-use Rattle.tcl_words.specs.declared.fault.Syntax.TheVariants.{AfterBrace, AfterQuote, MissingBrace, MissingBracket, MissingQuote, MissingParen, MissingVariableBrace, TooDeep}
-use Rattle.tcl_words.specs.declared.front.Kind.{Kind}
+use Rattle.tcl_words.specs.declared.fault.Syntax.TheVariants.{MissingBrace, MissingBracket, MissingQuote, MissingParen, MissingVariableBrace, TooDeep}
 use Rattle.tcl_words.specs.declared.front.Kind.TheVariants as kind
 use Rattle.tcl_words.specs.declared.front.Mode.{Mode}
 use Rattle.tcl_words.specs.declared.front.Mode.TheVariants as mode
 use Rattle.tcl_words.specs.declared.word.Form.{Form}
-use Rattle.tcl_words.specs.declared.word.Form.TheVariants as form
 use Rattle.tcl_words.specs.Faults.{NeverCloses, Unended, IsExtra, BadPiece, BadPieces, BadBody, BadWord, BadWords, BadCommand, BadCommands}
-use Rattle.tcl_words.specs.Parts.{Part, Parts, Shape}
-use Rattle.tcl_words.specs.Spelling.{Separators, ends_word, marked, begins_variable, IsLongestName, lacks, Balanced, Piece, Body, Word, Command, Commands}
-use Rattle.tcl_words.specs.Words.{after_blanks, after_gaps, after_name, at_variable_brace, at_brace, braced_at, kind_of, ends_pieces, fault_at_end, form_of, Inner, inner_at, variable_at, bracket_at, piece_of, piece_at, pieces_at, quoted_at, word_of, word_at, next_word, words_at, first_at, commands_at, after_commands}
-use Rattle.tcl_words.proofs.Ends.{if_ok, forward_shrinks}
+use Rattle.tcl_words.specs.Parts.{Part, Shape}
+use Rattle.tcl_words.specs.Spelling.{ends_word, begins_variable, IsLongestName, lacks, Balanced, Body, Commands}
+use Rattle.tcl_words.specs.Words.{after_blanks, after_name, at_variable_brace, at_brace, braced_at, kind_of, ends_pieces, fault_at_end, form_of, Inner, inner_at, variable_at, bracket_at, piece_at, pieces_at, quoted_at, word_of, word_at, next_word, words_at, first_at, commands_at, after_commands}
+use Rattle.tcl_chars.proofs.Ends.{if_ok, forward_shrinks}
 use Rattle.tcl_words.proofs.Forward.{piece_forward, word_forward, first_forward, inner_inside}
 use Rattle.tcl_words.proofs.Levels.{no_bracket, no_index}
 use Rattle.tcl_words.proofs.FoundIsFault.{brace_errs}
 use Rattle.tcl_words.proofs.ScansSpelled.{name_read, blanks_read, separators_read, braces_spelled, solid_blanks, solid_gaps}
-use Rattle.tcl_words.proofs.SpelledIsRead.{kind_bracket, kind_variable, paren_variable, NestRead, nest_read, piece_by_err, piece_read, braced_read, quoted_read, pieces_read, word_read, one_word, command_read, commands_read}
+use Rattle.tcl_words.proofs.SpelledIsRead.{kind_bracket, kind_variable, paren_variable, nest_read, piece_by_err, piece_read, braced_read, quoted_read, word_read, one_word, command_read, commands_read}
 
 -- ---- scans
 

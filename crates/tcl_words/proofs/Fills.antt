@@ -56,24 +56,24 @@ pub bind_err : {A B : Type 0} (r : Result A Syntax) (h : A → B) (f : Syntax) �
 bind_err (Ok x) h f e = absurd cc
 bind_err (Err m) h f e = cc
 
--- ---- before a calm character
+-- ---- before a inert character
 
-abbrev pub Calmly : {A : Type 0} → List ℕ → Result (A × List ℕ) Syntax → Result (A × List ℕ) Syntax → Type 0
-Calmly w (Ok p) long = Leaves (p.1 ++ w) long
-Calmly w (Err m) long = Unit {0}
+abbrev pub Unmoved : {A : Type 0} → List ℕ → Result (A × List ℕ) Syntax → Result (A × List ℕ) Syntax → Type 0
+Unmoved w (Ok p) long = Leaves (p.1 ++ w) long
+Unmoved w (Err m) long = Unit {0}
 
-abbrev pub CalmTurn : {A : Type 0} → List ℕ → Result (Option A × List ℕ) Syntax → Result (Option A × List ℕ) Syntax → Type 0
-CalmTurn w (Ok (None, rest)) long = long ≡ Ok (None, rest ++ w)
-CalmTurn w (Ok (Some x, rest)) long = LeavesSome (rest ++ w) long
-CalmTurn w (Err m) long = Unit {0}
+abbrev pub UnmovedTurn : {A : Type 0} → List ℕ → Result (Option A × List ℕ) Syntax → Result (Option A × List ℕ) Syntax → Type 0
+UnmovedTurn w (Ok (None, rest)) long = long ≡ Ok (None, rest ++ w)
+UnmovedTurn w (Ok (Some x, rest)) long = LeavesSome (rest ++ w) long
+UnmovedTurn w (Err m) long = Unit {0}
 
-pub calm_bind : {A B : Type 0} (w : List ℕ) (r long : Result (A × List ℕ) Syntax) (f g : A × List ℕ → Result (B × List ℕ) Syntax) → Calmly w r long → ((p : A × List ℕ) (x : A) → Calmly w (f p) (g (x, p.1 ++ w))) → Calmly w (r >>= f) (long >>= g)
-calm_bind w (Err m) long f g h k = tt
-calm_bind {A = A} {B = B} w (Ok p) long f g h k =
+pub unmoved_bind : {A B : Type 0} (w : List ℕ) (r long : Result (A × List ℕ) Syntax) (f g : A × List ℕ → Result (B × List ℕ) Syntax) → Unmoved w r long → ((p : A × List ℕ) (x : A) → Unmoved w (f p) (g (x, p.1 ++ w))) → Unmoved w (r >>= f) (long >>= g)
+unmoved_bind w (Err m) long f g h k = tt
+unmoved_bind {A = A} {B = B} w (Ok p) long f g h k =
     let (x, e) = leaves_ok (p.1 ++ w) long h in
-    let P : Result (A × List ℕ) Syntax → Type 0 = λ l. Calmly w (f p) (l >>= g) in
+    let P : Result (A × List ℕ) Syntax → Type 0 = λ l. Unmoved w (f p) (l >>= g) in
     subst P (sym e) (k p x)
 
-pub calm_some : {A : Type 0} (w : List ℕ) (r long : Result (A × List ℕ) Syntax) → Calmly w r long → CalmTurn w (r >>= λ x. Ok (Some x.0, x.1)) (long >>= λ x. Ok (Some x.0, x.1))
-calm_some w (Err m) long h = tt
-calm_some w (Ok p) long h = some_bind (p.1 ++ w) long h
+pub unmoved_some : {A : Type 0} (w : List ℕ) (r long : Result (A × List ℕ) Syntax) → Unmoved w r long → UnmovedTurn w (r >>= λ x. Ok (Some x.0, x.1)) (long >>= λ x. Ok (Some x.0, x.1))
+unmoved_some w (Err m) long h = tt
+unmoved_some w (Ok p) long h = some_bind (p.1 ++ w) long h

@@ -12,11 +12,11 @@ use Rattle.tcl_words.specs.declared.fault.Syntax.{Syntax}
 use Rattle.tcl_words.specs.Complete.{is_open}
 use Rattle.tcl_words.specs.Parts.{Shape}
 use Rattle.tcl_words.specs.Words.{after_blanks, after_gaps, ends_word, after_command, Inner, inner_at, word_at, next_word, words_at, first_at}
-use Rattle.tcl_words.proofs.Calm.{calm_backslash, blanks_calm, gaps_calm}
-use Rattle.tcl_words.proofs.Ends.{forward_shrinks, if_ok}
+use Rattle.tcl_words.proofs.BeforeInert.{inert_backslash, blanks_before, gaps_before}
+use Rattle.tcl_chars.proofs.Ends.{forward_shrinks}
 use Rattle.tcl_words.proofs.Fills.{Leaves, LeavesSome, some_bind, some_ok, turn_then, turn_last}
 use Rattle.tcl_words.proofs.FillsPieces.{Filled, over_same, over_behind, kept_turn}
-use Rattle.tcl_words.proofs.FillsWords.{Stop, stop_calm, stop_ends, stop_blanks, backslash_blanks, ends_colon, ends_backslash, WordFills, word_fill, colon_at, backslash_at}
+use Rattle.tcl_words.proofs.FillsWords.{Stop, stop_before, stop_ends, stop_blanks, backslash_blanks, ends_colon, ends_backslash, WordFills, word_fill, colon_at, backslash_at}
 use Rattle.tcl_words.proofs.Forward.{word_forward, inner_inside}
 use Rattle.tcl_words.proofs.Longer.{some, firm, blanks_longer, gaps_longer, ends_longer}
 use Rattle.tcl_words.proofs.LongerPieces.{firm_some}
@@ -154,13 +154,13 @@ module _ (n levels : ℕ) (below : Filled n levels) where
   next_mere nested cs _ e mere_colon = (
     [],
     λ big d z s.
-        let blanks : after_blanks (cs ++ d ∷ z) ≡ 58 ∷ d ∷ z = blanks_calm cs d z (stop_calm nested d s) (stop_blanks nested d z s) ∙ ap (λ (x : List ℕ). x ++ d ∷ z) e in
+        let blanks : after_blanks (cs ++ d ∷ z) ≡ 58 ∷ d ∷ z = blanks_before cs d z (stop_before nested d s) (stop_blanks nested d z s) ∙ ap (λ (x : List ℕ). x ++ d ∷ z) e in
         rw (blanks, ends_colon nested (d ∷ z)) (some_bind (d ∷ z) (word_at big (long big) nested (58 ∷ d ∷ z)) (colon_at n levels below nested big d z s)),
   )
   next_mere nested cs _ e mere_backslash = (
     92 ∷ [],
     λ big d z s.
-        let blanks : after_blanks (cs ++ 92 ∷ d ∷ z) ≡ 92 ∷ 92 ∷ d ∷ z = blanks_calm cs 92 (d ∷ z) calm_backslash (backslash_blanks nested d z s) ∙ ap (λ (x : List ℕ). x ++ 92 ∷ d ∷ z) e in
+        let blanks : after_blanks (cs ++ 92 ∷ d ∷ z) ≡ 92 ∷ 92 ∷ d ∷ z = blanks_before cs 92 (d ∷ z) inert_backslash (backslash_blanks nested d z s) ∙ ap (λ (x : List ℕ). x ++ 92 ∷ d ∷ z) e in
         rw (blanks, ends_backslash nested d z s) (some_bind (d ∷ z) (word_at big (long big) nested (92 ∷ 92 ∷ d ∷ z)) (backslash_at n levels below nested big d z s)),
   )
 
@@ -210,7 +210,7 @@ module _ (n levels : ℕ) (below : Filled n levels) where
   only_blank_fill nested t e = (
     [],
     λ big d z s.
-        let blanks : after_blanks (t ++ d ∷ z) ≡ d ∷ z = blanks_calm t d z (stop_calm nested d s) (stop_blanks nested d z s) ∙ ap (λ (x : List ℕ). x ++ d ∷ z) e in
+        let blanks : after_blanks (t ++ d ∷ z) ≡ d ∷ z = blanks_before t d z (stop_before nested d s) (stop_blanks nested d z s) ∙ ap (λ (x : List ℕ). x ++ d ∷ z) e in
         turn_last (next_word big (long big) nested) (t ++ d ∷ z) (d ∷ z) (rw (blanks, stop_ends nested d z s) refl),
   )
 
@@ -273,13 +273,13 @@ module _ (n levels : ℕ) (below : Filled n levels) where
   first_mere nested cs _ e mere_colon = (
     [],
     λ big d z s.
-        let gaps : after_gaps gap.Between (cs ++ d ∷ z) ≡ 58 ∷ d ∷ z = gaps_calm gap.Between cs d z (stop_calm nested d s) (ap some e) ∙ ap (λ (x : List ℕ). x ++ d ∷ z) e in
+        let gaps : after_gaps gap.Between (cs ++ d ∷ z) ≡ 58 ∷ d ∷ z = gaps_before gap.Between cs d z (stop_before nested d s) (ap some e) ∙ ap (λ (x : List ℕ). x ++ d ∷ z) e in
         rw (gaps, ends_colon nested (d ∷ z)) (command_bind (d ∷ z) (words_at big (long big) nested (58 ∷ d ∷ z)) (colon_words nested big d z s)),
   )
   first_mere nested cs _ e mere_backslash = (
     92 ∷ [],
     λ big d z s.
-        let gaps : after_gaps gap.Between (cs ++ 92 ∷ d ∷ z) ≡ 92 ∷ 92 ∷ d ∷ z = gaps_calm gap.Between cs 92 (d ∷ z) calm_backslash (ap some e) ∙ ap (λ (x : List ℕ). x ++ 92 ∷ d ∷ z) e in
+        let gaps : after_gaps gap.Between (cs ++ 92 ∷ d ∷ z) ≡ 92 ∷ 92 ∷ d ∷ z = gaps_before gap.Between cs 92 (d ∷ z) inert_backslash (ap some e) ∙ ap (λ (x : List ℕ). x ++ 92 ∷ d ∷ z) e in
         rw (gaps, ends_backslash nested d z s) (command_bind (d ∷ z) (words_at big (long big) nested (92 ∷ 92 ∷ d ∷ z)) (backslash_words nested big d z s)),
   )
 

@@ -12,8 +12,8 @@ use Rattle.tcl_words.specs.declared.front.Mode.TheVariants as mode
 use Rattle.tcl_words.specs.Complete.{is_open}
 use Rattle.tcl_words.specs.Parts.{Part, Parts, Shape}
 use Rattle.tcl_words.specs.Words.{after_gaps, ends_word, after_command, Inner, inner_at, pieces_at, words_at, first_at, commands_at, after_commands, closing, index_of}
-use Rattle.tcl_words.proofs.Ends.{forward_shrinks, if_ok}
-use Rattle.tcl_words.proofs.Fills.{Leaves, LeavesSome, Fills, leaves_bind, some_ok, turn_then, turn_last, Calmly}
+use Rattle.tcl_chars.proofs.Ends.{forward_shrinks, if_ok}
+use Rattle.tcl_words.proofs.Fills.{Leaves, LeavesSome, Fills, leaves_bind, some_ok, turn_then, turn_last, Unmoved}
 use Rattle.tcl_words.proofs.FillsCommands.{from_none, from_some, command_bind, gaps_fill, first_fill, first_open}
 use Rattle.tcl_words.proofs.FillsPieces.{ends_index, Filled, over_same, over_behind, pieces_fill}
 use Rattle.tcl_words.proofs.FillsWords.{at_bracket, kept_leaves, long_pieces}
@@ -44,7 +44,7 @@ index_over (Ok p) f e o = absurd cc
 
 -- an index that ends has its `)`
 index_whole : (w t : List ℕ) (r l : Result (List Part × List ℕ) Syntax) → ((ps : List Part) (rest : List ℕ) → r ≡ Ok (ps, rest) → begins close_paren rest ≡ true) → Kept some w t r l
-    → Calmly w (r >>= λ found. Ok (index_of found)) (l >>= λ found. Ok (index_of found))
+    → Unmoved w (r >>= λ found. Ok (index_of found)) (l >>= λ found. Ok (index_of found))
 index_whole w t (Err m) l h k = tt
 index_whole w t (Ok (ps, [])) l h k = absurd (let e = h ps [] refl in cc)
 index_whole w t (Ok (ps, c ∷ rest)) l h k =
@@ -163,8 +163,8 @@ module _ (n levels : ℕ) (below : Filled n levels) where
             subst P (ended t more z 41) (leaves_bind (41 ∷ z) z (pieces_at big (long big) mode.Index (t ++ (more ++ 41 ∷ z))) _ (fills big 41 z ends_index) (λ x. refl)),
       )
 
-  pub index_calmly : (t w : List ℕ) (big : ℕ) → Calmly w (pieces_at n inner mode.Index t >>= λ found. Ok (index_of found)) (pieces_at big (long big) mode.Index (t ++ w) >>= λ found. Ok (index_of found))
-  index_calmly t w big =
+  pub index_unmoved : (t w : List ℕ) (big : ℕ) → Unmoved w (pieces_at n inner mode.Index t >>= λ found. Ok (index_of found)) (pieces_at big (long big) mode.Index (t ++ w) >>= λ found. Ok (index_of found))
+  index_unmoved t w big =
       index_whole w t (pieces_at n inner mode.Index t) (pieces_at big (long big) mode.Index (t ++ w))
       (λ ps rest e. pieces_end_there n levels (begins close_paren) t ps rest (if_ok (λ x. Pieces n levels (begins close_paren) t x.0 x.1) (pieces_at n inner mode.Index t) (ps, rest) (pieces_spelled n levels (nest_spelled n levels) mode.Index t) e))
       (long_pieces n levels below big w t mode.Index)
@@ -175,4 +175,4 @@ too_deep f e o = let same : TooDeep ≡ f = cc in absurd (true≢false (sym o �
 pub filled : (n levels : ℕ) → Filled n levels
 unfolding inner_at
 filled n zero = record { bracket = λ t f e o. absurd (too_deep f e o); index = λ t f e o. absurd (too_deep f e o); whole_index = λ t w big. tt }
-filled n (suc levels) = let below = filled n levels in record { bracket = bracket_fill n levels below; index = index_fill n levels below; whole_index = index_calmly n levels below }
+filled n (suc levels) = let below = filled n levels in record { bracket = bracket_fill n levels below; index = index_fill n levels below; whole_index = index_unmoved n levels below }

@@ -15,9 +15,9 @@ use Rattle.tcl_words.specs.Complete.{is_open}
 use Rattle.tcl_words.specs.Parts.{Part, Parts, var}
 use Rattle.tcl_words.specs.Words.{after_name, kind_of, after_plain, at_variable_brace, Inner, inner_at, named, variable_at, bracket_at, piece_of, piece_at, pieces_at, stretch}
 use Rattle.tcl_words.proofs.Bracketed.{same_cond}
-use Rattle.tcl_words.proofs.Calm.{Calm, calm_quote, calm_paren, calm_semicolon, calm_backslash, calm_bracket, no_brace, no_paren, kind_calm, plain_calm, name_calm, escape_calm, double_backslash}
-use Rattle.tcl_words.proofs.Ends.{forward_shrinks, always, if_bind, if_ok}
-use Rattle.tcl_words.proofs.Fills.{Leaves, LeavesSome, Fills, FillsSome, leaves_bind, some_bind, some_ok, turn_then, turn_last, bind_err, Calmly, CalmTurn, calm_bind, calm_some}
+use Rattle.tcl_words.proofs.BeforeInert.{Inert, inert_quote, inert_paren, inert_semicolon, inert_backslash, inert_bracket, no_brace, no_paren, kind_before, plain_before, name_before, escape_rest_before, double_backslash}
+use Rattle.tcl_chars.proofs.Ends.{forward_shrinks, always, if_bind, if_ok}
+use Rattle.tcl_words.proofs.Fills.{Leaves, LeavesSome, Fills, FillsSome, leaves_bind, some_bind, some_ok, turn_then, turn_last, bind_err, Unmoved, UnmovedTurn, unmoved_bind, unmoved_some}
 use Rattle.tcl_words.proofs.Forward.{piece_forward, inner_inside}
 use Rattle.tcl_words.proofs.Levels.{backslashed_begins}
 use Rattle.tcl_words.proofs.Longer.{some, firm, Scanned, name_longer, variable_brace_longer}
@@ -33,11 +33,11 @@ pub data Ender : Mode → ℕ → Type 0 where
   ends_bare : (nested : Bool) → Ender (mode.Bare nested) 59
   ends_bracket : Ender (mode.Bare true) 93
 
-pub ender_calm : (m : Mode) (d : ℕ) → Ender m d → Calm d
-ender_calm _ _ ends_quoted = calm_quote
-ender_calm _ _ ends_index = calm_paren
-ender_calm _ _ (ends_bare nested) = calm_semicolon
-ender_calm _ _ ends_bracket = calm_bracket
+pub ender_inert : (m : Mode) (d : ℕ) → Ender m d → Inert d
+ender_inert _ _ ends_quoted = inert_quote
+ender_inert _ _ ends_index = inert_paren
+ender_inert _ _ (ends_bare nested) = inert_semicolon
+ender_inert _ _ ends_bracket = inert_bracket
 
 ender_kind : (m : Mode) (d : ℕ) (y : List ℕ) → Ender m d → kind_of m (d ∷ y) ≡ kind.Ends
 unfolding kind_of
@@ -121,24 +121,24 @@ firm_paren : (r : List ℕ) → firm (40 ∷ r) ≡ true
 firm_paren [] = refl
 firm_paren (c ∷ r) = refl
 
-abbrev ScanCalm : List ℕ → Result (List ℕ) Syntax → Result (List ℕ) Syntax → Type 0
-ScanCalm w (Ok rest) long = (some rest ≡ true) × (long ≡ Ok (rest ++ w))
-ScanCalm w (Err m) long = Unit {0}
+abbrev ScanBefore : List ℕ → Result (List ℕ) Syntax → Result (List ℕ) Syntax → Type 0
+ScanBefore w (Ok rest) long = (some rest ≡ true) × (long ≡ Ok (rest ++ w))
+ScanBefore w (Err m) long = Unit {0}
 
 -- where the scan ends what was read of the text is no matter
-scan_any : (w t : List ℕ) (r l : Result (List ℕ) Syntax) → KeptScan w t r l → ScanCalm w r l
+scan_any : (w t : List ℕ) (r l : Result (List ℕ) Syntax) → KeptScan w t r l → ScanBefore w r l
 scan_any w t (Ok rest) l h = h
 scan_any w t (Err m) l h = tt
 
-pub scan_brace : (w : List ℕ) (r l : Result (List ℕ) Syntax) → Scanned w r l → ScanCalm w r l
+pub scan_brace : (w : List ℕ) (r l : Result (List ℕ) Syntax) → Scanned w r l → ScanBefore w r l
 scan_brace w (Ok rest) l h = h
 scan_brace w (Err m) l h = tt
 
-pub scan_calm : {B : Type 0} (w : List ℕ) (r l : Result (List ℕ) Syntax) (f g : List ℕ → Result (B × List ℕ) Syntax) → ScanCalm w r l → ((d : ℕ) (s : List ℕ) → Calmly w (f (d ∷ s)) (g (d ∷ (s ++ w)))) → Calmly w (r >>= f) (l >>= g)
-scan_calm w (Err m) l f g h k = tt
-scan_calm w (Ok []) l f g h k = absurd (let e = h.0 in cc)
-scan_calm {B = B} w (Ok (d ∷ s)) l f g h k =
-    let P : Result (List ℕ) Syntax → Type 0 = λ q. Calmly w (f (d ∷ s)) (q >>= g) in
+pub scan_before : {B : Type 0} (w : List ℕ) (r l : Result (List ℕ) Syntax) (f g : List ℕ → Result (B × List ℕ) Syntax) → ScanBefore w r l → ((d : ℕ) (s : List ℕ) → Unmoved w (f (d ∷ s)) (g (d ∷ (s ++ w)))) → Unmoved w (r >>= f) (l >>= g)
+scan_before w (Err m) l f g h k = tt
+scan_before w (Ok []) l f g h k = absurd (let e = h.0 in cc)
+scan_before {B = B} w (Ok (d ∷ s)) l f g h k =
+    let P : Result (List ℕ) Syntax → Type 0 = λ q. Unmoved w (f (d ∷ s)) (q >>= g) in
     subst P (sym h.1) (k d s)
 
 abbrev NoneSome : {A : Type 0} → Option A → List ℕ → Type 0
@@ -169,7 +169,7 @@ lone c (d ∷ t) = false
 pub record Filled (n levels : ℕ) : Type 0 where
   pub bracket : (t : List ℕ) (f : Syntax) → (inner_at n levels).bracket t ≡ Err f → is_open f ≡ true → (more : List ℕ) × ((big : ℕ) (z : List ℕ) → (inner_at big levels).bracket (t ++ (more ++ z)) ≡ Ok (93 ∷ z))
   pub index : (t : List ℕ) (f : Syntax) → (inner_at n levels).index t ≡ Err f → is_open f ≡ true → (let F : ℕ → List ℕ → Result (Parts × List ℕ) Syntax = λ big w. (inner_at big levels).index (t ++ w) in Fills F)
-  pub whole_index : (t w : List ℕ) (big : ℕ) → Calmly w ((inner_at n levels).index t) ((inner_at big levels).index (t ++ w))
+  pub whole_index : (t w : List ℕ) (big : ℕ) → Unmoved w ((inner_at n levels).index t) ((inner_at big levels).index (t ++ w))
 
 module _ (n levels : ℕ) (below : Filled n levels) where
   abbrev inner : Inner
@@ -227,41 +227,41 @@ module _ (n levels : ℕ) (below : Filled n levels) where
       let (inside, filled) = piece_of_open m (kind_of m (c ∷ t)) c t f refl e o in
       (filled.0, λ big z. rw (kind_longer m c t (filled.0 ++ z) (nests_settled m c t inside)) (filled.1 big z))
 
-  -- ---- what is read before a calm character
+  -- ---- what is read before a inert character
 
-  bracket_calmly : (big : ℕ) (w : List ℕ) (c : ℕ) (t : List ℕ) → Calmly w (bracket_at n inner (c ∷ t)) (bracket_at big (long big) (c ∷ (t ++ w)))
-  bracket_calmly big w c t = scan_calm w (inner.bracket t) ((long big).bracket (t ++ w)) _ _ (scan_any w t _ _ ((inner_nested n big w levels).bracket t)) (λ d s. refl)
+  bracket_unmoved : (big : ℕ) (w : List ℕ) (c : ℕ) (t : List ℕ) → Unmoved w (bracket_at n inner (c ∷ t)) (bracket_at big (long big) (c ∷ (t ++ w)))
+  bracket_unmoved big w c t = scan_before w (inner.bracket t) ((long big).bracket (t ++ w)) _ _ (scan_any w t _ _ ((inner_nested n big w levels).bracket t)) (λ d s. refl)
 
-  named_calmly : (big : ℕ) (cs name csl namel rest : List ℕ) (d : ℕ) (y : List ℕ) → Calm d → Calmly (d ∷ y) (named n inner cs name rest) (named big (long big) csl namel (rest ++ d ∷ y))
-  named_calmly big cs name csl namel [] d y h = rw (no_paren d h) refl
-  named_calmly big cs name csl namel (c ∷ rest) d y h =
-      same_cond (Calmly {A = Part} (d ∷ y)) (c == open_paren) _ _ _ _
-      (calm_bind (d ∷ y) (inner.index rest) ((long big).index (rest ++ d ∷ y)) _ _ (below.whole_index rest (d ∷ y) big) (λ p x. refl)) refl
+  named_unmoved : (big : ℕ) (cs name csl namel rest : List ℕ) (d : ℕ) (y : List ℕ) → Inert d → Unmoved (d ∷ y) (named n inner cs name rest) (named big (long big) csl namel (rest ++ d ∷ y))
+  named_unmoved big cs name csl namel [] d y h = rw (no_paren d h) refl
+  named_unmoved big cs name csl namel (c ∷ rest) d y h =
+      same_cond (Unmoved {A = Part} (d ∷ y)) (c == open_paren) _ _ _ _
+      (unmoved_bind (d ∷ y) (inner.index rest) ((long big).index (rest ++ d ∷ y)) _ _ (below.whole_index rest (d ∷ y) big) (λ p x. refl)) refl
 
-  variable_calmly : (big c : ℕ) (t : List ℕ) (d : ℕ) (y : List ℕ) → Calm d → Calmly (d ∷ y) (variable_at n inner (c ∷ t)) (variable_at big (long big) (c ∷ (t ++ d ∷ y)))
+  variable_unmoved : (big c : ℕ) (t : List ℕ) (d : ℕ) (y : List ℕ) → Inert d → Unmoved (d ∷ y) (variable_at n inner (c ∷ t)) (variable_at big (long big) (c ∷ (t ++ d ∷ y)))
   unfolding variable_at after_name
-  variable_calmly big c [] d y h = rw (no_brace d h, name_calm false [] d y h) (named_calmly big (c ∷ []) [] (c ∷ d ∷ y) (d ∷ y) [] d y h)
-  variable_calmly big c (e ∷ t) d y h =
-      rw (name_calm false (e ∷ t) d y h)
-      (same_cond (Calmly {A = Part} (d ∷ y)) (e == open_brace) _ _ _ _
-      (scan_calm (d ∷ y) (at_variable_brace t) (at_variable_brace (t ++ d ∷ y)) (λ close. Ok (var (stretch n (c ∷ e ∷ t) (tail close)) (stretch n t close), tail close))
+  variable_unmoved big c [] d y h = rw (no_brace d h, name_before false [] d y h) (named_unmoved big (c ∷ []) [] (c ∷ d ∷ y) (d ∷ y) [] d y h)
+  variable_unmoved big c (e ∷ t) d y h =
+      rw (name_before false (e ∷ t) d y h)
+      (same_cond (Unmoved {A = Part} (d ∷ y)) (e == open_brace) _ _ _ _
+      (scan_before (d ∷ y) (at_variable_brace t) (at_variable_brace (t ++ d ∷ y)) (λ close. Ok (var (stretch n (c ∷ e ∷ t) (tail close)) (stretch n t close), tail close))
       (λ close. Ok (var (stretch big (c ∷ e ∷ (t ++ d ∷ y)) (tail close)) (stretch big (t ++ d ∷ y) close), tail close)) (scan_brace (d ∷ y) _ _ (variable_brace_longer t (d ∷ y))) (λ u s. refl))
-      (named_calmly big (c ∷ e ∷ t) (e ∷ t) _ _ (after_name false (e ∷ t)) d y h))
+      (named_unmoved big (c ∷ e ∷ t) (e ∷ t) _ _ (after_name false (e ∷ t)) d y h))
 
-  piece_of_calmly : (m : Mode) (k : Kind) (big c : ℕ) (t : List ℕ) (d : ℕ) (y : List ℕ) → kind_of m (c ∷ t) ≡ k → lone c t ≡ false → Calm d → after_plain m (d ∷ y) ≡ d ∷ y
-      → CalmTurn (d ∷ y) (piece_of n inner m k (c ∷ t)) (piece_of big (long big) m k (c ∷ (t ++ d ∷ y)))
-  piece_of_calmly m kind.Ends big c t d y e l h stops = refl
-  piece_of_calmly m kind.Open big c t d y e l h stops = tt
-  piece_of_calmly m kind.Backslashed big c [] d y e l h stops = absurd (true≢false (sym (backslashed_begins m (c ∷ []) e) ∙ l))
-  piece_of_calmly m kind.Backslashed big c (a ∷ t) d y e l h stops = escape_calm c a t d y h
-  piece_of_calmly m kind.Opening big c t d y e l h stops = calm_some (d ∷ y) (bracket_at n inner (c ∷ t)) (bracket_at big (long big) (c ∷ (t ++ d ∷ y))) (bracket_calmly big (d ∷ y) c t)
-  piece_of_calmly m kind.Variable big c t d y e l h stops = calm_some (d ∷ y) (variable_at n inner (c ∷ t)) (variable_at big (long big) (c ∷ (t ++ d ∷ y))) (variable_calmly big c t d y h)
-  piece_of_calmly m kind.Plain big c t d y e l h stops = plain_calm m (c ∷ t) d y h stops
+  piece_of_unmoved : (m : Mode) (k : Kind) (big c : ℕ) (t : List ℕ) (d : ℕ) (y : List ℕ) → kind_of m (c ∷ t) ≡ k → lone c t ≡ false → Inert d → after_plain m (d ∷ y) ≡ d ∷ y
+      → UnmovedTurn (d ∷ y) (piece_of n inner m k (c ∷ t)) (piece_of big (long big) m k (c ∷ (t ++ d ∷ y)))
+  piece_of_unmoved m kind.Ends big c t d y e l h stops = refl
+  piece_of_unmoved m kind.Open big c t d y e l h stops = tt
+  piece_of_unmoved m kind.Backslashed big c [] d y e l h stops = absurd (true≢false (sym (backslashed_begins m (c ∷ []) e) ∙ l))
+  piece_of_unmoved m kind.Backslashed big c (a ∷ t) d y e l h stops = escape_rest_before c a t d y h
+  piece_of_unmoved m kind.Opening big c t d y e l h stops = unmoved_some (d ∷ y) (bracket_at n inner (c ∷ t)) (bracket_at big (long big) (c ∷ (t ++ d ∷ y))) (bracket_unmoved big (d ∷ y) c t)
+  piece_of_unmoved m kind.Variable big c t d y e l h stops = unmoved_some (d ∷ y) (variable_at n inner (c ∷ t)) (variable_at big (long big) (c ∷ (t ++ d ∷ y))) (variable_unmoved big c t d y h)
+  piece_of_unmoved m kind.Plain big c t d y e l h stops = plain_before m (c ∷ t) d y h stops
 
-  pub piece_calmly : (m : Mode) (big c : ℕ) (t : List ℕ) (d : ℕ) (y : List ℕ) → lone c t ≡ false → Calm d → after_plain m (d ∷ y) ≡ d ∷ y
-      → CalmTurn (d ∷ y) (piece_at n inner m (c ∷ t)) (piece_at big (long big) m (c ∷ (t ++ d ∷ y)))
+  pub piece_unmoved : (m : Mode) (big c : ℕ) (t : List ℕ) (d : ℕ) (y : List ℕ) → lone c t ≡ false → Inert d → after_plain m (d ∷ y) ≡ d ∷ y
+      → UnmovedTurn (d ∷ y) (piece_at n inner m (c ∷ t)) (piece_at big (long big) m (c ∷ (t ++ d ∷ y)))
   unfolding piece_at
-  piece_calmly m big c t d y l h stops = rw (kind_calm m c t d y h) (piece_of_calmly m (kind_of m (c ∷ t)) big c t d y refl l h stops)
+  piece_unmoved m big c t d y l h stops = rw (kind_before m c t d y h) (piece_of_unmoved m (kind_of m (c ∷ t)) big c t d y refl l h stops)
 
   -- ---- pieces one after another
 
@@ -289,25 +289,25 @@ module _ (n levels : ℕ) (below : Filled n levels) where
   plain_colon_fill : (m : Mode) (big d : ℕ) (z : List ℕ) → Ender m d → LeavesSome (d ∷ z) (piece_at big (long big) m (58 ∷ d ∷ z))
   unfolding piece_at
   plain_colon_fill m big d z e =
-      let calm = ender_calm m d e in
-      rw (kind_calm m 58 [] d z calm, colon_plain m) (plain_calm m (58 ∷ []) d z calm (ender_stops m d z e) ∙ ap (λ (x : List ℕ). x ++ d ∷ z) (plain_colon m))
+      let inert = ender_inert m d e in
+      rw (kind_before m 58 [] d z inert, colon_plain m) (plain_before m (58 ∷ []) d z inert (ender_stops m d z e) ∙ ap (λ (x : List ℕ). x ++ d ∷ z) (plain_colon m))
 
   pub colon_fill : (m : Mode) (big d : ℕ) (z : List ℕ) → Ender m d → Leaves (d ∷ z) (pieces_at big (long big) m (58 ∷ d ∷ z))
   colon_fill m big d z e = then_pieces m big (58 ∷ d ∷ z) (d ∷ z) (d ∷ z) (plain_colon_fill m big d z e) (at_ender m big d z e)
 
-  calm_turn : {A : Type 0} (w : List ℕ) (r l : Result (Option A × List ℕ) Syntax) (x : A) (rest : List ℕ) → CalmTurn w r l → r ≡ Ok (Some x, rest) → LeavesSome (rest ++ w) l
-  calm_turn {A = A} w r l x rest h e = let P : Result (Option A × List ℕ) Syntax → Type 0 = λ q. CalmTurn w q l in subst P e h
+  unmoved_turn : {A : Type 0} (w : List ℕ) (r l : Result (Option A × List ℕ) Syntax) (x : A) (rest : List ℕ) → UnmovedTurn w r l → r ≡ Ok (Some x, rest) → LeavesSome (rest ++ w) l
+  unmoved_turn {A = A} w r l x rest h e = let P : Result (Option A × List ℕ) Syntax → Type 0 = λ q. UnmovedTurn w q l in subst P e h
 
   mere_fill : (m : Mode) (c : ℕ) (t : List ℕ) (x : Part) (rest : List ℕ) → piece_at n inner m (c ∷ t) ≡ Ok (Some x, rest) → lone c t ≡ false → Mere rest → PiecesFill m (c ∷ t)
   mere_fill m c t x _ e l mere_colon = (
     [],
     λ big d z end.
-        then_pieces m big (c ∷ (t ++ d ∷ z)) (58 ∷ d ∷ z) (d ∷ z) (calm_turn (d ∷ z) (piece_at n inner m (c ∷ t)) _ x (58 ∷ []) (piece_calmly m big c t d z l (ender_calm m d end) (ender_stops m d z end)) e) (colon_fill m big d z end),
+        then_pieces m big (c ∷ (t ++ d ∷ z)) (58 ∷ d ∷ z) (d ∷ z) (unmoved_turn (d ∷ z) (piece_at n inner m (c ∷ t)) _ x (58 ∷ []) (piece_unmoved m big c t d z l (ender_inert m d end) (ender_stops m d z end)) e) (colon_fill m big d z end),
   )
   mere_fill m c t x _ e l mere_backslash = (
     92 ∷ [],
     λ big d z end.
-        then_pieces m big (c ∷ (t ++ 92 ∷ d ∷ z)) (92 ∷ 92 ∷ d ∷ z) (d ∷ z) (calm_turn (92 ∷ d ∷ z) (piece_at n inner m (c ∷ t)) _ x (92 ∷ []) (piece_calmly m big c t 92 (d ∷ z) l calm_backslash (backslash_stops m d z end)) e) (lone_fill m big d z end),
+        then_pieces m big (c ∷ (t ++ 92 ∷ d ∷ z)) (92 ∷ 92 ∷ d ∷ z) (d ∷ z) (unmoved_turn (92 ∷ d ∷ z) (piece_at n inner m (c ∷ t)) _ x (92 ∷ []) (piece_unmoved m big c t 92 (d ∷ z) l inert_backslash (backslash_stops m d z end)) e) (lone_fill m big d z end),
   )
 
   -- a piece that leaves too little to be sure
@@ -315,7 +315,7 @@ module _ (n levels : ℕ) (below : Filled n levels) where
   short_fill m c t x [] e l h = (
     [],
     λ big d z end.
-        then_pieces m big (c ∷ (t ++ d ∷ z)) (d ∷ z) (d ∷ z) (calm_turn (d ∷ z) (piece_at n inner m (c ∷ t)) _ x [] (piece_calmly m big c t d z l (ender_calm m d end) (ender_stops m d z end)) e) (at_ender m big d z end),
+        then_pieces m big (c ∷ (t ++ d ∷ z)) (d ∷ z) (d ∷ z) (unmoved_turn (d ∷ z) (piece_at n inner m (c ∷ t)) _ x [] (piece_unmoved m big c t d z l (ender_inert m d end) (ender_stops m d z end)) e) (at_ender m big d z end),
   )
   short_fill m c t x (a ∷ rest) e l h = mere_fill m c t x (a ∷ rest) e l (mere (a ∷ rest) h refl)
 

@@ -13,9 +13,9 @@ use Rattle.tcl_words.specs.declared.word.Form.TheVariants as form
 use Rattle.tcl_words.specs.Complete.{is_open}
 use Rattle.tcl_words.specs.Parts.{Part, Shape}
 use Rattle.tcl_words.specs.Words.{after_blanks, ends_word, at_brace, braced_at, form_of, closed, Inner, inner_at, pieces_at, quoted_at, word_of, word_at}
-use Rattle.tcl_words.proofs.Calm.{Calm, calm_semicolon, calm_bracket}
-use Rattle.tcl_words.proofs.Fills.{Leaves, Fills, leaves_bind, Calmly}
-use Rattle.tcl_words.proofs.FillsPieces.{Ender, ends_quoted, ends_bare, ends_bracket, Filled, scan_calm, scan_brace, over_same, pieces_fill, lone_fill, colon_fill}
+use Rattle.tcl_words.proofs.BeforeInert.{Inert, inert_semicolon, inert_bracket}
+use Rattle.tcl_words.proofs.Fills.{Leaves, Fills, leaves_bind, Unmoved}
+use Rattle.tcl_words.proofs.FillsPieces.{Ender, ends_quoted, ends_bare, ends_bracket, Filled, scan_before, scan_brace, over_same, pieces_fill, lone_fill, colon_fill}
 use Rattle.tcl_words.proofs.Forward.{inner_inside}
 use Rattle.tcl_words.proofs.Longer.{some, firm, brace_longer, ends_longer}
 use Rattle.tcl_words.proofs.LongerPieces.{inside_fine, pieces_kept}
@@ -62,10 +62,10 @@ brace_fill false d (c ∷ t) f e = elim (cases_Bool (c == close_brace)) [
 ]
 
 -- a braced word that ends is read so, whatever follows
-braced_whole : (n big : ℕ) (w : List ℕ) (c : ℕ) (t : List ℕ) → Calmly w (braced_at n (c ∷ t)) (braced_at big (c ∷ (t ++ w)))
+braced_whole : (n big : ℕ) (w : List ℕ) (c : ℕ) (t : List ℕ) → Unmoved w (braced_at n (c ∷ t)) (braced_at big (c ∷ (t ++ w)))
 unfolding braced_at
 braced_whole n big w c t =
-    scan_calm w (at_brace false 0 t) (at_brace false 0 (t ++ w)) _ _ (scan_brace w _ _ (brace_longer false 0 t w)) (λ d s.
+    scan_before w (at_brace false 0 t) (at_brace false 0 (t ++ w)) _ _ (scan_brace w _ _ (brace_longer false 0 t w)) (λ d s.
     let (x, e) = inside_fine (place n (d ∷ s)) (before t (d ∷ s)) in
     let (z, f) = inside_fine (place big (d ∷ (s ++ w))) (before (t ++ w) (d ∷ (s ++ w))) in
     rw (e, f) refl)
@@ -82,16 +82,16 @@ open_braced n c t f (Ok close) e h = absurd (
     let (x, g) = inside_fine (place n close) (before t close) in
     let wrong : Ok (x.0, tail close) ≡ Err f = rw (e, g) at h in cc)
 
-leaves_calm : {A : Type 0} (w : List ℕ) (r l : Result (A × List ℕ) Syntax) (p : A × List ℕ) → Calmly w r l → r ≡ Ok p → p.1 ≡ [] → Leaves w l
-leaves_calm {A = A} w r l p h e none =
-    let P : Result (A × List ℕ) Syntax → Type 0 = λ q. Calmly w q l in
+leaves_before : {A : Type 0} (w : List ℕ) (r l : Result (A × List ℕ) Syntax) (p : A × List ℕ) → Unmoved w r l → r ≡ Ok p → p.1 ≡ [] → Leaves w l
+leaves_before {A = A} w r l p h e none =
+    let P : Result (A × List ℕ) Syntax → Type 0 = λ q. Unmoved w q l in
     let Q : List ℕ → Type 0 = λ t. Leaves (t ++ w) l in
     let there : P (Ok p) = subst P e h in
     subst Q none there
 
 braced_fill : (n : ℕ) (c : ℕ) (t : List ℕ) (r : Result (List Part × List ℕ) Syntax) → braced_at n (c ∷ t) ≡ r → Over r → (let F : ℕ → List ℕ → Result (List Part × List ℕ) Syntax = λ big w. braced_at big (c ∷ (t ++ w)) in Fills F)
 braced_fill n c t (Err f) e over = let (more, h) = open_braced n c t f (at_brace false 0 t) refl e in (more, λ big z. at_close big c (t ++ (more ++ z)) z (h z))
-braced_fill n c t (Ok p) e over = ([], λ big z. leaves_calm z (braced_at n (c ∷ t)) (braced_at big (c ∷ (t ++ z))) p (braced_whole n big z c t) e over)
+braced_fill n c t (Ok p) e over = ([], λ big z. leaves_before z (braced_at n (c ∷ t)) (braced_at big (c ∷ (t ++ z))) p (braced_whole n big z c t) e over)
 
 -- ---- words
 
@@ -104,9 +104,9 @@ pub stop_ender : (nested : Bool) (d : ℕ) → Stop nested d → Ender (mode.Bar
 stop_ender _ _ (at_semicolon nested) = ends_bare nested
 stop_ender _ _ at_bracket = ends_bracket
 
-pub stop_calm : (nested : Bool) (d : ℕ) → Stop nested d → Calm d
-stop_calm _ _ (at_semicolon nested) = calm_semicolon
-stop_calm _ _ at_bracket = calm_bracket
+pub stop_before : (nested : Bool) (d : ℕ) → Stop nested d → Inert d
+stop_before _ _ (at_semicolon nested) = inert_semicolon
+stop_before _ _ at_bracket = inert_bracket
 
 pub stop_ends : (nested : Bool) (d : ℕ) (z : List ℕ) → Stop nested d → ends_word nested (d ∷ z) ≡ true
 stop_ends _ _ z (at_semicolon nested) = refl

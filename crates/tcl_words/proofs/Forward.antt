@@ -1,7 +1,7 @@
 -- What each reading leaves ends its text, and is shorter where the reading gives something.
 use Rattle.std.proofs.Common.{◌≡◌, ℕ, zero, suc, ◌+◌, ◌-◌, ◌≤◌, Bool, true, false, cond, ◌&&◌, ◌||◌, ◌==◌, List, [], ◌∷◌, drop, Option, Some, None, Result, Ok, Err, refl, arith, inl, inr}
 use Rattle.std.specs.Prelude.{IfOk, IsSome, if◌then◌else◌}
-use Rattle.std.proofs.lemmas.Bool.{cases_Bool}
+use Rattle.std.proofs.lemmas.Bool.{cases_Bool, or_parts}
 use Rattle.tcl_chars.specs.Characters.{newline, backslash, semicolon, quote, number_sign, dollar, colon, open_bracket, close_bracket, open_paren, open_brace, close_brace}
 use Rattle.tcl_chars.specs.Classes.{is_word_space, is_name_char}
 use Rattle.tcl_chars.specs.Escape.{escape, escape_of, by_control, by_code_form, control_of, code_form, octal_or_self, longest_run}
@@ -19,7 +19,7 @@ use Rattle.tcl_words.specs.declared.word.Form.{Form}
 use Rattle.tcl_words.specs.declared.word.Form.TheVariants as form
 use Rattle.tcl_words.specs.Parts.{Shape}
 use Rattle.tcl_words.specs.Words.{lone_at, operand_at, after_blanks, after_gaps, ends_word, after_name, begins_variable, kind_of, is_plain, after_plain, at_variable_brace, at_brace, after_verbatim, begins_hidden_newline, marked, form_of, closed, after_command, verbatim_at, braced_at, Inner, named, variable_at, bracket_at, piece_of, piece_at, pieces_at, quoted_at, word_of, word_at, next_word, words_at, first_at, commands_at, after_commands, closing, inner_at}
-use Rattle.tcl_words.proofs.Ends.{IsPast, ends_self, ends_more, ends_trans, ends_tail, past_more, past_then, then_past, past_drop, if_cond, if_bind, if_weak, always, Ends, Past, Moves, Forward, turns_end, turns_past}
+use Rattle.tcl_chars.proofs.Ends.{IsPast, ends_self, ends_more, ends_trans, ends_tail, past_more, past_then, then_past, past_drop, if_cond, if_bind, if_weak, always, Ends, Past, Moves, Forward, turns_end, turns_past}
 
 -- ---- scans
 
@@ -134,16 +134,12 @@ braced_end size cs =
 
 -- ---- pieces and words
 
-or_false : (a b : Bool) → (a || b) ≡ false → (a ≡ false) × (b ≡ false)
-or_false true b e = absurd cc
-or_false false b e = (refl, e)
-
 is_not_blank : (nested : Bool) (c : ℕ) (cs : List ℕ) → ends_word nested (c ∷ cs) ≡ false → (is_word_space c ≡ false) × ((c == backslash && begins newline cs) ≡ false)
 is_not_blank nested c cs e =
-    let last = or_false (is_word_space c || c == newline || c == semicolon || (nested && c == close_bracket)) (c == backslash && begins newline cs) e in
-    let third = or_false (is_word_space c || c == newline || c == semicolon) (nested && c == close_bracket) last.0 in
-    let second = or_false (is_word_space c || c == newline) (c == semicolon) third.0 in
-    let first = or_false (is_word_space c) (c == newline) second.0 in
+    let last = or_parts (is_word_space c || c == newline || c == semicolon || (nested && c == close_bracket)) (c == backslash && begins newline cs) e in
+    let third = or_parts (is_word_space c || c == newline || c == semicolon) (nested && c == close_bracket) last.0 in
+    let second = or_parts (is_word_space c || c == newline) (c == semicolon) third.0 in
+    let first = or_parts (is_word_space c) (c == newline) second.0 in
     (first.0, last.1)
 
 not_ends : (x y z : Bool) → (if x then kind.Backslashed else if y then kind.Opening else if z then kind.Variable else kind.Plain) ≡ kind.Ends → ⊥

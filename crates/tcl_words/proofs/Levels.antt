@@ -14,7 +14,7 @@ use Rattle.tcl_words.specs.declared.front.Mode.{Mode}
 use Rattle.tcl_words.specs.declared.front.Mode.TheVariants as mode
 use Rattle.tcl_words.specs.Parts.{Part, Parts}
 use Rattle.tcl_words.specs.Words.{begins_variable, ends_pieces, kind_of, at_variable_brace, at_brace, after_name, after_plain, pieces_at, after_commands, closing, index_of, inner_at}
-use Rattle.tcl_words.proofs.Ends.{ends_trans, ends_tail, ends_drop, if_ok}
+use Rattle.tcl_chars.proofs.Ends.{ends_trans, ends_tail, ends_drop, if_ok}
 use Rattle.tcl_words.proofs.Forward.{name_end, plain_end, variable_brace_end, brace_end, inner_inside}
 
 -- ---- one level deeper

@@ -1,10 +1,9 @@
 pub mod Alone
+pub mod BeforeInert
 pub mod Bracketed
 pub mod BracketedKinds
 pub mod BracketedTurns
-pub mod Calm
 pub mod CompleteClosed
-pub mod Ends
 pub mod FaultFronts
 pub mod FaultIsFound
 pub mod Fills

@@ -1,6 +1,7 @@
 -- What is looked at and scanned is the same where the text goes on, if enough of it is left.
 use Rattle.std.proofs.Common.{◌≡◌, ℕ, ◌+◌, ◌-◌, Bool, true, false, cond, not, ◌&&◌, ◌||◌, ◌==◌, List, [], ◌∷◌, ◌++◌, Result, Ok, Err, refl, sym, ◌∙◌, inl, inr}
 use Rattle.std.proofs.lemmas.Bool.{cases_Bool}
+use Rattle.std.proofs.Math.Bool.{or-true}
 use Rattle.tcl_chars.specs.Characters.{newline, backslash, semicolon, number_sign, colon, open_brace, close_brace}
 use Rattle.tcl_chars.specs.Classes.{is_word_space, is_name_char}
 use Rattle.tcl_words.specs.declared.blanks.Gap.{Gap}
@@ -9,7 +10,7 @@ use Rattle.tcl_words.specs.declared.fault.Syntax.{Syntax}
 use Rattle.tcl_words.specs.Complete.{is_open}
 use Rattle.tcl_words.specs.Words.{after_blanks, after_gaps, ends_word, after_name, at_variable_brace, at_brace}
 use Rattle.tcl_words.proofs.Bracketed.{same_cond}
-use Rattle.tcl_words.proofs.Ends.{if_cond}
+use Rattle.tcl_chars.proofs.Ends.{if_cond}
 
 abbrev pub some : List ℕ → Bool
 some [] = false
@@ -31,13 +32,9 @@ not_colon c h = elim (cases_Bool (c == colon)) [
   | inr other ↦ other
 ]
 
-pub or_true_right : (a : Bool) → (a || true) ≡ true
-or_true_right true = refl
-or_true_right false = refl
-
 pub not_backslash : (c : ℕ) → firm (c ∷ []) ≡ true → (c == backslash) ≡ false
 not_backslash c h = elim (cases_Bool (c == backslash)) [
-  | inl here ↦ absurd (let e : not (c == colon || true) ≡ true = rw here at h in let f : not true ≡ true = rw (or_true_right (c == colon)) at e in cc)
+  | inl here ↦ absurd (let e : not (c == colon || true) ≡ true = rw here at h in let f : not true ≡ true = rw (or-true (c == colon)) at e in cc)
   | inr other ↦ other
 ]
 

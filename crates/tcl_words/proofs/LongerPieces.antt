@@ -13,7 +13,7 @@ use Rattle.tcl_words.specs.Complete.{is_open}
 use Rattle.tcl_words.specs.Parts.{Part, var}
 use Rattle.tcl_words.specs.Words.{after_name, kind_of, fault_at_end, at_variable_brace, at_brace, begins_hidden_newline, verbatim_at, braced_at, Inner, named, variable_at, bracket_at, piece_of, piece_at, pieces_at, quoted_at, stretch}
 use Rattle.tcl_words.proofs.Bracketed.{same_cond}
-use Rattle.tcl_words.proofs.Ends.{ends_self, ends_more, ends_trans, forward_shrinks}
+use Rattle.tcl_chars.proofs.Ends.{ends_self, ends_more, ends_trans, forward_shrinks}
 use Rattle.tcl_words.proofs.Forward.{Inside, piece_forward, name_end}
 use Rattle.tcl_words.proofs.Longer.{some, firm, Firm, Scanned, name_longer, variable_brace_longer, brace_longer}
 use Rattle.tcl_words.proofs.LongerEscapes.{escape_longer}

@@ -9,7 +9,7 @@ use Rattle.tcl_chars.proofs.Turns.{Shrinks, shorter}
 use Rattle.tcl_words.specs.declared.fault.Syntax.{Syntax}
 use Rattle.tcl_words.specs.Complete.{is_open}
 use Rattle.tcl_words.specs.Fronts.{Hangs}
-use Rattle.tcl_words.proofs.Ends.{Moves, Forward, forward_shrinks}
+use Rattle.tcl_chars.proofs.Ends.{Moves, Forward, forward_shrinks}
 use Rattle.tcl_words.proofs.Longer.{some, firm}
 
 -- The backslash at the end of the text is one of a backslash-newline in the longer text.

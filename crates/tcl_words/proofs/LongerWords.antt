@@ -17,7 +17,7 @@ use Rattle.tcl_words.specs.Parts.{Part, Shape, parts_of}
 use Rattle.tcl_words.specs.Words.{after_blanks, after_gaps, ends_word, at_brace, braced_at, form_of, closed, after_command, Inner, pieces_at, quoted_at, word_of, word_at, next_word, words_at, first_at, commands_at, after_commands, closing, index_of, inner_at}
 use Rattle.tcl_words.proofs.Bracketed.{same_cond}
 use Rattle.tcl_words.proofs.BracketedKinds.{word_from, command_from}
-use Rattle.tcl_words.proofs.Ends.{ends_self, ends_more, if_ok, forward_shrinks}
+use Rattle.tcl_chars.proofs.Ends.{ends_self, ends_more, if_ok, forward_shrinks}
 use Rattle.tcl_words.proofs.Forward.{Inside, blanks_end, gaps_end, word_forward, first_forward, inner_inside}
 use Rattle.tcl_words.proofs.Longer.{some, firm, blanks_longer, gaps_longer, ends_longer}
 use Rattle.tcl_words.proofs.LongerPieces.{KeptScan, Nested, inside_fine, braced_kept, pieces_kept, pieces_over, quoted_kept, tail_kept, tail_loose}

@@ -1,12 +1,12 @@
 -- The name at the front is the longest front that is one.
 use Rattle.std.proofs.Common.{◌≡◌, ℕ, zero, suc, ◌+◌, ◌<◌, ◌≤◌, Bool, true, false, not, ◌&&◌, ◌||◌, ◌==◌, List, [], ◌∷◌, ◌++◌, length, take, refl, sym, ap, ◌∙◌, subst, arith, inl, inr, ◌⊎◌}
 use Rattle.std.proofs.lemmas.Bool.{cases_Bool, eqb-true, ne_eqb, true≢false}
+use Rattle.std.proofs.Math.Bool.{and-false}
 use Rattle.tcl_chars.specs.Characters.{colon}
 use Rattle.tcl_chars.specs.Classes.{is_name_char}
 use Rattle.tcl_chars.specs.Place.{begins}
 use Rattle.tcl_words.specs.Spelling.{is_name}
 use Rattle.tcl_words.specs.Words.{after_name}
-use Rattle.tcl_words.proofs.Bracketed.{and_false}
 
 -- how the flag of the scan fits the colons before the text
 abbrev Fits : Bool → ℕ → List ℕ → Type 0
@@ -36,7 +36,7 @@ longer_colon run cs name h (suc n) l m = h n (omega arith) (omega arith)
 
 longer_char : (run c : ℕ) (cs name : List ℕ) → (c == colon) ≡ false → Longer 0 cs name → Longer run (c ∷ cs) (c ∷ name)
 longer_char run c cs name e h zero l m = absurd (omega arith)
-longer_char run c cs name e h (suc n) l m = rw (e, h n (omega arith) (omega arith)) (and_false (not (run == 1) && is_name_char c))
+longer_char run c cs name e h (suc n) l m = rw (e, h n (omega arith) (omega arith)) (and-false (not (run == 1) && is_name_char c))
 
 -- a colon alone, and what is no colon behind it
 longer_alone : (cs : List ℕ) → begins colon cs ≡ false → Longer 0 (colon ∷ cs) []
@@ -48,7 +48,7 @@ longer_alone (c ∷ cs) e (suc (suc n)) l m = rw e refl
 
 longer_other : (run c : ℕ) (cs : List ℕ) → (c == colon) ≡ false → is_name_char c ≡ false → Longer run (c ∷ cs) []
 longer_other run c cs e n zero l m = absurd (omega arith)
-longer_other run c cs e n (suc k) l m = rw (e, n, and_false (not (run == 1))) refl
+longer_other run c cs e n (suc k) l m = rw (e, n, and-false (not (run == 1))) refl
 
 -- a colon that begins no run
 colon_stops : (f : Bool) (run : ℕ) (cs : List ℕ) → Fits f run (colon ∷ cs) → (f || begins colon cs) ≡ false → (name : List ℕ) × (colon ∷ cs ≡ name ++ colon ∷ cs) × (is_name run name ≡ true) × Longer run (colon ∷ cs) name

@@ -5,7 +5,7 @@ use Rattle.tcl_chars.specs.Reading.{◌>>=◌, Reading, with_front, all_turns}
 use Rattle.tcl_chars.proofs.Turns.{Shrinks, shorter, one_turn, last_turn, bad_turn}
 use Rattle.tcl_words.specs.declared.fault.Syntax.{Syntax}
 use Rattle.tcl_words.specs.Complete.{is_open}
-use Rattle.tcl_words.proofs.Ends.{forward_shrinks}
+use Rattle.tcl_chars.proofs.Ends.{forward_shrinks}
 use Rattle.tcl_words.proofs.Longer.{firm}
 use Rattle.tcl_words.proofs.LongerTurns.{KeptTurn, Over, Loose, true_not_false, Goes, turns_over}
 

@@ -19,7 +19,7 @@ use Rattle.tcl_words.specs.Parts.{Part, Shape, var}
 use Rattle.tcl_words.specs.Words.{after_blanks, after_gaps, ends_word, after_name, kind_of, fault_at_end, at_variable_brace, at_brace, verbatim_at, braced_at, form_of, closed, after_command, Inner, named, variable_at, bracket_at, piece_of, piece_at, pieces_at, quoted_at, word_of, word_at, next_word, words_at, first_at, commands_at, after_commands, closing, index_of, inner_at, stretch}
 use Rattle.tcl_words.proofs.Bracketed.{same_cond}
 use Rattle.tcl_words.proofs.BracketedKinds.{word_from, command_from}
-use Rattle.tcl_words.proofs.Ends.{forward_shrinks}
+use Rattle.tcl_chars.proofs.Ends.{forward_shrinks}
 use Rattle.tcl_words.proofs.Fills.{Leaves, turn_then, turn_last}
 use Rattle.tcl_words.proofs.FillsPieces.{over_same}
 use Rattle.tcl_words.proofs.Forward.{Inside, piece_forward, word_forward, first_forward, inner_inside}

@@ -9,10 +9,10 @@ use Rattle.tcl_words.specs.Faults.{BadCommand}
 use Rattle.tcl_words.specs.First.{First, first, first_of, none, malformed, command}
 use Rattle.tcl_words.specs.Laws.{CommandIsSpelled, NoneIsSpelled, OneCommand, CommandOrNone, FaultIsSpelled, ReadingOrFault, BracketAlone}
 use Rattle.tcl_words.specs.Parts.{Stretch, Part, text, escape, var, elem_, bracket, Shape}
-use Rattle.tcl_words.specs.Spelling.{Stands, Piece, Command, Commands, NoCommand, IsWellFormed}
+use Rattle.tcl_words.specs.Spelling.{Piece, Commands, IsWellFormed}
 use Rattle.tcl_words.specs.Words.{first_at, commands_at, inner_at}
 use Rattle.tcl_words.proofs.Alone.{script_alone}
-use Rattle.tcl_words.proofs.Ends.{if_ok}
+use Rattle.tcl_chars.proofs.Ends.{if_ok}
 use Rattle.tcl_words.proofs.FaultIsFound.{command_found, faults_found}
 use Rattle.tcl_words.proofs.FoundIsFault.{first_bad, nest_found}
 use Rattle.tcl_words.proofs.Fronts.{is_well, was_malformed}

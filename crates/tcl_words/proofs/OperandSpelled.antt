@@ -1,23 +1,22 @@
 -- An operand is read as it is spelled, and so is its fault.
-use Rattle.std.proofs.Common.{◌≡◌, ℕ, Bool, true, false, not, ◌&&◌, ◌||◌, ◌==◌, List, [], ◌∷◌, ◌++◌, Option, Some, None, Result, Ok, Err, refl, sym, ap, subst, ◌∙◌, inl, inr, ◌⊎◌}
+use Rattle.std.proofs.Common.{◌≡◌, ℕ, Bool, true, false, not, ◌&&◌, ◌||◌, ◌==◌, List, [], ◌∷◌, Option, Some, None, Result, Ok, Err, refl, sym, ap, subst, ◌∙◌, inl, inr, ◌⊎◌}
 use Rattle.std.specs.Prelude.{IfOk, IfErr}
 use Rattle.std.proofs.lemmas.Bool.{cases_Bool, and_parts, true≢false}
-use Rattle.tcl_chars.specs.Characters.{backslash, dollar, quote, open_bracket, open_brace, close_brace, open_paren, close_paren}
+use Rattle.tcl_chars.specs.Characters.{backslash, dollar, quote, open_bracket, open_brace, close_paren}
 use Rattle.tcl_chars.specs.Place.{begins, tail}
 use Rattle.tcl_chars.specs.Reading.{◌>>=◌}
 use Rattle.tcl_words.specs.declared.fault.Syntax.{Syntax}
 use Rattle.tcl_words.specs.declared.fault.Syntax.TheVariants.{MissingBrace, MissingQuote}
-use Rattle.tcl_words.specs.declared.front.Kind.TheVariants as kind
 use Rattle.tcl_words.specs.declared.front.Mode.TheVariants as mode
 use Rattle.tcl_words.specs.declared.word.Form.{Form}
 use Rattle.tcl_words.specs.declared.word.Form.TheVariants as form
-use Rattle.tcl_words.specs.Faults.{NeverCloses, Unended, BadPiece, BadPieces, BadOperand}
+use Rattle.tcl_words.specs.Faults.{NeverCloses, BadPiece, BadOperand}
 use Rattle.tcl_words.specs.First.{begins_operand, operand}
 use Rattle.tcl_words.specs.Laws.{OperandIsSpelled}
 use Rattle.tcl_words.specs.Parts.{Part, Shape}
 use Rattle.tcl_words.specs.Spelling.{begins_substitution, begins_variable, stands_for_itself, Piece, Pieces, Body, OperandWord}
-use Rattle.tcl_words.specs.Words.{fault_at_end, kind_of, Inner, inner_at, variable_at, bracket_at, lone_at, piece_of, piece_at, pieces_at, braced_at, quoted_at, operand_at}
-use Rattle.tcl_words.proofs.Ends.{if_bind, if_weak, if_ok}
+use Rattle.tcl_words.specs.Words.{kind_of, Inner, inner_at, variable_at, bracket_at, lone_at, piece_of, piece_at, pieces_at, braced_at, quoted_at, operand_at}
+use Rattle.tcl_chars.proofs.Ends.{if_bind, if_ok}
 use Rattle.tcl_words.proofs.Fills.{bind_err}
 use Rattle.tcl_words.proofs.FaultIsFound.{open_braced, bad_quoted, pieces_found, unended_found, piece_found, faults_found}
 use Rattle.tcl_words.proofs.FoundIsFault.{err_bind, err_weak, braced_errs, PiecesBad, bracket_bad, variable_bad, pieces_bad, nest_found}

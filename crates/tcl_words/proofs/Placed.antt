@@ -10,7 +10,7 @@ use Rattle.tcl_words.specs.declared.fault.Syntax.{Syntax}
 use Rattle.tcl_words.specs.First.{first_of, first, operand, IsRestAt}
 use Rattle.tcl_words.specs.Parts.{Shape}
 use Rattle.tcl_words.specs.Words.{first_at, operand_at, inner_at}
-use Rattle.tcl_words.proofs.Ends.{Forward, Moves, ends_trans, if_ok, if_weak}
+use Rattle.tcl_chars.proofs.Ends.{Forward, Moves, ends_trans, if_ok, if_weak}
 use Rattle.tcl_words.proofs.Forward.{first_forward, operand_end, inner_inside}
 
 -- what follows a place ends the text

@@ -3,8 +3,9 @@ use Rattle.std.proofs.Common.{◌≡◌, ℕ, zero, suc, ◌+◌, ◌-◌, ◌<�
 use Rattle.std.specs.Prelude.{IfOk}
 use Rattle.std.proofs.lemmas.Bool.{cases_Bool, and_parts, eqb-true, true≢false}
 use Rattle.std.proofs.lemmas.List.{take_at}
-use Rattle.tcl_chars.specs.Characters.{newline, space, backslash, semicolon, number_sign, colon, dollar, quote, open_bracket, close_bracket, open_brace, close_brace, open_paren, close_paren, star}
-use Rattle.tcl_chars.specs.Classes.{is_word_space, is_name_char}
+use Rattle.std.proofs.Math.Bool.{and-false}
+use Rattle.tcl_chars.specs.Characters.{newline, space, backslash, semicolon, number_sign, dollar, quote, open_bracket, close_bracket, open_brace, close_brace, open_paren, close_paren, star}
+use Rattle.tcl_chars.specs.Classes.{is_word_space}
 use Rattle.tcl_chars.specs.Escape.{blanks, escape as escape_of, escape_of as escape_by}
 use Rattle.tcl_chars.specs.Place.{EndsWith, begins, tail, before, place}
 use Rattle.tcl_chars.specs.Reading.{◌>>=◌, Reading, with_front, after_turn, turns, all_turns}
@@ -19,12 +20,11 @@ use Rattle.tcl_words.specs.declared.front.Mode.{Mode}
 use Rattle.tcl_words.specs.declared.front.Mode.TheVariants as mode
 use Rattle.tcl_words.specs.declared.word.Form.{Form}
 use Rattle.tcl_words.specs.declared.word.Form.TheVariants as form
-use Rattle.tcl_words.specs.Parts.{Stretch, Part, Parts, parts_of, text, escape, var, elem_, bracket, Shape}
-use Rattle.tcl_words.specs.Spelling.{Stands, Blanks, Separators, CommandEnd, ends_script, ends_word, IsLongestName, begins_name, begins_variable, stands_for_itself, lacks, Balanced, Inside, Piece, Pieces, Body, Word, Words, Command, Commands, NoCommand}
-use Rattle.tcl_words.specs.Words.{after_blanks, after_gaps, after_name, after_plain, after_command, at_variable_brace, at_brace, begins_hidden_newline, verbatim_at, braced_at, kind_of, ends_pieces, marked, form_of, closed as closed_word, stretch, Inner, inner_at, named, variable_at, bracket_at, piece_of, piece_at, pieces_at, quoted_at, word_of, word_at, next_word, words_at, first_at, commands_at, after_commands, closing, index_of}
-use Rattle.tcl_words.proofs.Bracketed.{and_false}
-use Rattle.tcl_words.proofs.Ends.{ends_self, ends_more, ends_trans, ends_tail, ends_drop, if_cond, if_bind, if_weak, if_both, if_ok, forward_shrinks}
-use Rattle.tcl_words.proofs.Forward.{plain_end, name_end, verbatim_end, verbatim_forward, piece_forward, word_forward, first_forward, inner_inside, named_end, variable_brace_end}
+use Rattle.tcl_words.specs.Parts.{Part, Parts, parts_of, escape, var, elem_, bracket, Shape}
+use Rattle.tcl_words.specs.Spelling.{Stands, Blanks, CommandEnd, ends_script, ends_word, IsLongestName, begins_name, begins_variable, lacks, Balanced, Inside, Piece, Pieces, Body, Word, Words, Command, Commands, NoCommand}
+use Rattle.tcl_words.specs.Words.{after_blanks, after_gaps, after_name, after_plain, after_command, at_variable_brace, at_brace, begins_hidden_newline, verbatim_at, braced_at, kind_of, ends_pieces, marked, form_of, closed as closed_word, stretch, Inner, inner_at, named, variable_at, bracket_at, piece_of, piece_at, pieces_at, quoted_at, word_of, word_at, next_word, words_at, first_at, commands_at, after_commands, closing}
+use Rattle.tcl_chars.proofs.Ends.{ends_self, ends_more, ends_trans, ends_tail, ends_drop, if_cond, if_bind, if_weak, if_both, if_ok, forward_shrinks}
+use Rattle.tcl_words.proofs.Forward.{plain_end, name_end, verbatim_end, verbatim_forward, piece_forward, word_forward, first_forward, inner_inside, variable_brace_end}
 use Rattle.tcl_words.proofs.ScansSpelled.{one_is, two_are, blanks_spelled, gaps_spelled, run_spelled, name_spelled, no_name_here, variable_brace_spelled, VariableSpelled, braces_spelled, hidden_spelled}
 
 -- ---- turns
@@ -188,7 +188,7 @@ unfolding after_blanks
 blanks_passed [] = refl
 blanks_passed (c ∷ []) = elim (cases_Bool (is_word_space c)) [
   | inl s ↦ rw s refl
-  | inr s ↦ rw s (or_is_false (is_word_space c) (c == backslash && begins newline []) s (and_false (c == backslash)))
+  | inr s ↦ rw s (or_is_false (is_word_space c) (c == backslash && begins newline []) s (and-false (c == backslash)))
 ]
 blanks_passed (c ∷ d ∷ cs) = elim (cases_Bool (is_word_space c)) [
   | inl s ↦ rw s (blanks_passed (d ∷ cs))

@@ -1,5 +1,5 @@
 -- Scans leave what the relations say: blanks, separators and comments, plain characters, names, braces.
-use Rattle.std.proofs.Common.{◌≡◌, ◌≢◌, ℕ, zero, suc, ◌+◌, ◌-◌, ◌<◌, ◌≤◌, Bool, true, false, cond, not, ◌&&◌, ◌||◌, ◌==◌, List, [], ◌∷◌, ◌++◌, length, take, drop, Result, Ok, Err, refl, sym, ap, subst, ◌∙◌, arith, inl, inr, append_assoc, length-append}
+use Rattle.std.proofs.Common.{◌≡◌, ℕ, zero, suc, ◌+◌, ◌-◌, ◌≤◌, Bool, true, false, cond, not, ◌&&◌, ◌||◌, ◌==◌, List, [], ◌∷◌, ◌++◌, length, take, drop, Ok, refl, sym, ap, subst, ◌∙◌, arith, inl, inr, append_assoc, length-append}
 use Rattle.std.specs.Prelude.{IfOk}
 use Rattle.std.proofs.Math.Seq.{drop-append_seam}
 use Rattle.std.proofs.lemmas.Bool.{cases_Bool, and_parts, eqb-true, eqb-false, ne_eqb, true≢false, cases_lt}
@@ -9,14 +9,11 @@ use Rattle.tcl_chars.specs.Classes.{is_word_space, is_name_char}
 use Rattle.tcl_chars.specs.Place.{begins}
 use Rattle.tcl_words.specs.declared.blanks.Gap.{Gap}
 use Rattle.tcl_words.specs.declared.blanks.Gap.TheVariants as gap
-use Rattle.tcl_words.specs.declared.fault.Syntax.{Syntax}
-use Rattle.tcl_words.specs.declared.front.Kind.{Kind}
 use Rattle.tcl_words.specs.declared.front.Kind.TheVariants as kind
 use Rattle.tcl_words.specs.declared.front.Mode.{Mode}
-use Rattle.tcl_words.specs.declared.front.Mode.TheVariants as mode
-use Rattle.tcl_words.specs.Spelling.{Blanks, Comment, Separators, CommandEnd, ends_script, ends_word, is_name, IsLongestName, begins_name, begins_variable, stands_for_itself, PlainRun, lacks, Balanced, UpToHidden, begins_hidden}
+use Rattle.tcl_words.specs.Spelling.{Blanks, Comment, Separators, CommandEnd, ends_script, ends_word, is_name, IsLongestName, begins_name, begins_variable, stands_for_itself, PlainRun, lacks, Balanced, UpToHidden}
 use Rattle.tcl_words.specs.Words.{after_blanks, after_gaps, after_name, after_plain, after_verbatim, after_command, at_variable_brace, at_brace, kind_of, is_plain, ends_pieces}
-use Rattle.tcl_words.proofs.Ends.{if_cond, if_weak}
+use Rattle.tcl_chars.proofs.Ends.{if_weak}
 use Rattle.tcl_words.proofs.Names.{name_longest}
 
 -- two characters that are tested for

@@ -1,24 +1,21 @@
 -- What is spelled is read so.
-use Rattle.std.proofs.Common.{◌≡◌, ℕ, zero, suc, Bool, true, false, cond, not, ◌&&◌, ◌||◌, ◌==◌, List, [], ◌∷◌, ◌++◌, drop, Option, Some, None, Result, Ok, Err, refl, sym, ap, subst, ◌∙◌, arith, inl, inr}
-use Rattle.std.proofs.lemmas.Bool.{cases_Bool, and_parts, true≢false}
-use Rattle.tcl_chars.specs.Characters.{newline, space, backslash, number_sign, colon, dollar, quote, open_bracket, close_bracket, open_brace, close_brace, open_paren, close_paren, star}
-use Rattle.tcl_chars.specs.Classes.{is_name_char}
+use Rattle.std.proofs.Common.{◌≡◌, ℕ, zero, suc, Bool, true, false, cond, not, ◌&&◌, ◌==◌, List, [], ◌∷◌, ◌++◌, drop, Some, None, Result, Ok, Err, refl, sym, ap, subst, ◌∙◌, arith, inl, inr}
+use Rattle.std.proofs.lemmas.Bool.{cases_Bool, true≢false}
+use Rattle.tcl_chars.specs.Characters.{newline, space, backslash, dollar, quote, open_bracket, close_bracket, open_brace, close_brace, open_paren, close_paren, star}
 use Rattle.tcl_chars.specs.Escape.{blanks, escape as escape_of, escape_of as escape_by}
 use Rattle.tcl_chars.specs.Place.{begins, tail, before, place}
-use Rattle.tcl_chars.specs.Reading.{◌>>=◌, with_front, all_turns}
+use Rattle.tcl_chars.specs.Reading.{with_front, all_turns}
 use Rattle.tcl_chars.proofs.Turns.{last_turn, one_turn}
-use Rattle.tcl_words.specs.declared.blanks.Gap.TheVariants as gap
 use Rattle.tcl_words.specs.declared.fault.Syntax.{Syntax}
 use Rattle.tcl_words.specs.declared.front.Kind.{Kind}
 use Rattle.tcl_words.specs.declared.front.Kind.TheVariants as kind
 use Rattle.tcl_words.specs.declared.front.Mode.{Mode}
 use Rattle.tcl_words.specs.declared.front.Mode.TheVariants as mode
 use Rattle.tcl_words.specs.declared.word.Form.{Form}
-use Rattle.tcl_words.specs.declared.word.Form.TheVariants as form
 use Rattle.tcl_words.specs.Parts.{Stretch, Part, Parts, parts_of, text, escape, var, elem_, bracket, Shape}
-use Rattle.tcl_words.specs.Spelling.{Stands, Blanks, Separators, CommandEnd, ends_script, ends_word, IsLongestName, begins_name, begins_variable, stands_for_itself, PlainRun, Balanced, Inside, Piece, Pieces, Body, Word, Words, Command, Commands, NoCommand}
-use Rattle.tcl_words.specs.Words.{after_blanks, after_gaps, after_name, after_plain, after_command, at_variable_brace, at_brace, verbatim_at, braced_at, kind_of, ends_pieces, marked, form_of, stretch, Inner, inner_at, variable_at, bracket_at, piece_of, piece_at, pieces_at, quoted_at, word_of, word_at, next_word, words_at, first_at, commands_at, after_commands}
-use Rattle.tcl_words.proofs.Ends.{forward_shrinks}
+use Rattle.tcl_words.specs.Spelling.{Stands, ends_word, IsLongestName, begins_name, begins_variable, stands_for_itself, PlainRun, Balanced, Inside, Piece, Pieces, Body, Word, Words, Command, Commands, NoCommand}
+use Rattle.tcl_words.specs.Words.{after_blanks, after_name, at_variable_brace, at_brace, verbatim_at, braced_at, kind_of, ends_pieces, marked, form_of, stretch, Inner, inner_at, variable_at, bracket_at, piece_of, piece_at, pieces_at, quoted_at, word_of, word_at, next_word, words_at, first_at, commands_at, after_commands}
+use Rattle.tcl_chars.proofs.Ends.{forward_shrinks}
 use Rattle.tcl_words.proofs.Forward.{verbatim_forward, piece_forward, word_forward, first_forward, inner_inside}
 use Rattle.tcl_words.proofs.ReadIsSpelled.{front_is, drop_two, mark_parts}
 use Rattle.tcl_words.proofs.ScansSpelled.{one_is, blanks_read, separators_read, run_read, name_read, no_name_here, variable_brace_read, braces_read, hidden_read, solid_blanks, solid_gaps, script_gaps, script_ends_word, end_read}

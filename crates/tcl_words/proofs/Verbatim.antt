@@ -8,7 +8,7 @@ use Rattle.tcl_words.specs.declared.word.Piece.TheVariants.{rolls-Escape, rolls-
 use Rattle.tcl_words.specs.declared.word.Span.{Span}
 use Rattle.std.proofs.lemmas.Bool.{cases_Bool}
 use Rattle.std.specs.Prelude.{IfOk, IsSome}
-use Rattle.tcl_words.proofs.Ends.{if_ok}
+use Rattle.tcl_chars.proofs.Ends.{if_ok}
 use Rattle.tcl_words.specs.Parts.{Stretch, Part, text, escape, part_of, part_step, stretch_of}
 use Rattle.tcl_words.specs.Words.{stretch, begins_hidden_newline, after_verbatim, verbatim_at}
 

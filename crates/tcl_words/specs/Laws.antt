@@ -1,11 +1,11 @@
 -- Laws of the definitions: the reading function is the relations of what is spelled and of its fault.
-use Rattle.std.specs.Prelude.{◌≡◌, ◌⊎◌, ◌↔◌, ℕ, suc, ◌+◌, ◌≤◌, Bool, true, false, List, [], ◌∷◌, ◌++◌, Result, Ok, Err}
+use Rattle.std.specs.Prelude.{◌≡◌, ◌⊎◌, ◌↔◌, ℕ, suc, ◌+◌, ◌≤◌, Bool, true, false, List, [], ◌∷◌, ◌++◌, Ok, Err}
 use Rattle.tcl_chars.specs.Characters.{open_bracket, close_bracket}
 use Rattle.tcl_chars.specs.Place.{bytes}
 use Rattle.tcl_words.specs.declared.fault.Syntax.{Syntax}
 use Rattle.tcl_words.specs.Complete.{ends_hidden, is_open, is_complete}
 use Rattle.tcl_words.specs.Faults.{BadCommand, BadCommands, BadOperand}
-use Rattle.tcl_words.specs.First.{First, first, none, malformed, command, most_levels, begins_operand, operand}
+use Rattle.tcl_words.specs.First.{first, none, malformed, command, most_levels, begins_operand, operand}
 use Rattle.tcl_words.specs.Parts.{Stretch, bracket, Shape}
 use Rattle.tcl_words.specs.Spelling.{Piece, Command, Commands, NoCommand, IsWellFormed, OperandWord}
 

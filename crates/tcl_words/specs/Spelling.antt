@@ -9,7 +9,7 @@ use Rattle.tcl_chars.specs.Escape.{blanks, escape as escape_of}
 use Rattle.tcl_chars.specs.Place.{begins, tail, place}
 use Rattle.tcl_words.specs.declared.word.Form.{Form}
 use Rattle.tcl_words.specs.declared.word.Form.TheVariants.{Bare, Quoted, Braced}
-use Rattle.tcl_words.specs.Parts.{Stretch, Part, text, escape, var, elem_, bracket, Parts, parts_of, Shape}
+use Rattle.tcl_words.specs.Parts.{Stretch, Part, text, escape, var, elem_, bracket, parts_of, Shape}
 
 -- the stretch is the front of the text, before the rest
 pub record Stands (size : ℕ) (cs : List ℕ) (s : Stretch) (rest : List ℕ) : Type 0 where

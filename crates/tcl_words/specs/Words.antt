@@ -1,7 +1,7 @@
 -- The rules of Tcl(n): blanks, comments, pieces, words, the first command. Each reading takes the text that is left,
 -- and gives what it read and the text behind it.
-use Rattle.std.specs.Prelude.{ℕ, zero, suc, ◌+◌, ◌-◌, Bool, true, false, not, ◌&&◌, ◌||◌, ◌==◌, List, [], ◌∷◌, drop, Option, Some, None, Result, Ok, Err, if◌then◌else◌}
-use Rattle.tcl_chars.specs.Characters.{newline, backslash, semicolon, dollar, quote, open_brace, close_brace, open_paren, close_paren, open_bracket, close_bracket, number_sign, colon, star}
+use Rattle.std.specs.Prelude.{ℕ, zero, suc, ◌+◌, ◌-◌, Bool, true, false, ◌&&◌, ◌||◌, ◌==◌, List, [], ◌∷◌, drop, Option, Some, None, Result, Ok, Err, if◌then◌else◌}
+use Rattle.tcl_chars.specs.Characters.{newline, backslash, semicolon, dollar, quote, open_brace, close_brace, open_paren, close_paren, open_bracket, close_bracket, number_sign, colon}
 use Rattle.tcl_chars.specs.Classes.{is_word_space, is_name_char}
 use Rattle.tcl_chars.specs.Escape.{escape as escape_of}
 use Rattle.tcl_chars.specs.Place.{begins, tail, before, place}

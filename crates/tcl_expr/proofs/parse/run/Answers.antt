@@ -7,7 +7,7 @@ use Rattle.tcl_expr.specs.Gives.{state_view}
 use Rattle.tcl_expr.specs.Machine.{expression_of}
 use Rattle.tcl_expr.specs.View.{stack_of, token_of}
 use Rattle.tcl_expr.proofs.Lexing.{run_more, run_stops, ends_parse, state_more, found_by, begins_parse, state_begins}
-use Rattle.tcl_words.proofs.Ends.{ends_self, ends_trans}
+use Rattle.tcl_chars.proofs.Ends.{ends_self, ends_trans}
 use Rattle.tcl_expr.proofs.Suffix.{ends_next, shorter_next}
 use Rattle.tcl_expr.proofs.parse.run.Goals as goal
 

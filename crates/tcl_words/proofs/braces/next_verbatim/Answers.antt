@@ -1,7 +1,7 @@
 use Rattle.std.proofs.Common.{sym, subst}
 use Rattle.std.specs.Str.{chars}
 use Rattle.tcl_chars.specs.Place.{EndsWith}
-use Rattle.tcl_words.proofs.Ends.{ends_drop}
+use Rattle.tcl_chars.proofs.Ends.{ends_drop}
 use Rattle.tcl_words.proofs.Forward.{verbatim_end}
 use Rattle.tcl_words.proofs.Verbatim.{escape_seen, text_seen, verbatim_none, verbatim_escape, verbatim_text}
 use Rattle.tcl_words.proofs.braces.next_verbatim.Goals as goal

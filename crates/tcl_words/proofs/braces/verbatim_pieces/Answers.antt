@@ -5,7 +5,7 @@ use Rattle.tcl_chars.specs.Reading.{all_turns}
 use Rattle.tcl_chars.proofs.Turns.{goes_on, is_done, shorter}
 use Rattle.tcl_words.specs.Parts.{part_of}
 use Rattle.tcl_words.specs.Words.{verbatim_at}
-use Rattle.tcl_words.proofs.Ends.{forward_shrinks}
+use Rattle.tcl_chars.proofs.Ends.{forward_shrinks}
 use Rattle.tcl_words.proofs.Forward.{verbatim_forward}
 use Rattle.tcl_words.proofs.Verbatim.{stops_at_end}
 use Rattle.tcl_words.proofs.braces.verbatim_pieces.Goals as goal

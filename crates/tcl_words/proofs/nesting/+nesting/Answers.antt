@@ -6,7 +6,7 @@ use Rattle.tcl_chars.specs.Reading.{all_turns}
 use Rattle.tcl_chars.proofs.Turns.{goes_on, is_done, ends, shorter, ends_scan, scan_goes_on, scan_done}
 use Rattle.tcl_words.specs.Parts.{part_of, shape_of}
 use Rattle.tcl_words.specs.Words.{piece_at, pieces_at, next_word, words_at, first_at, commands_at, after_commands, inner_at}
-use Rattle.tcl_words.proofs.Ends.{forward_shrinks}
+use Rattle.tcl_chars.proofs.Ends.{forward_shrinks}
 use Rattle.tcl_words.proofs.Forward.{inner_inside, piece_forward, word_forward, first_forward}
 use Rattle.tcl_words.proofs.Levels.{deeper, deeper_err, deeper_index, deeper_index_err, no_bracket, no_index, closing_some, closing_none, close_end, braced_variable_end, name_ends, variable_ends, element_ends, script_ends, bracket_ends, escape_ends, plain_ends, backslashed_begins}
 use Rattle.tcl_words.proofs.nesting.+nesting.Goals as goal
