@@ -1,1 +1,7 @@
+pub mod IndexLemmas
+pub mod Joining
+pub mod LsortLemmas
+pub mod OptionLemmas
+pub mod SearchLemmas
+pub mod SortLemmas
 pub mod WordsLemmas

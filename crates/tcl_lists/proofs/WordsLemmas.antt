@@ -1,12 +1,13 @@
 -- Words by their places.
-use Rattle.std.proofs.Common.{◌≡◌, ◌≢◌, ℕ, zero, suc, ◌+◌, ◌≤◌, ◌<◌, ℤ, pos, List, [], ◌∷◌, length, drop, take, ◌++◌, append_assoc, Ok, sym, ap, ◌∙◌, refl, arith}
-use Rattle.std.specs.Prelude.{◌+ℤ◌}
+use Rattle.std.proofs.Common.{◌≡◌, ◌≢◌, ℕ, zero, suc, ◌+◌, ◌≤◌, ◌<◌, ℤ, pos, negsuc, true, ltb-true, List, [], ◌∷◌, length, drop, take, ◌++◌, append_assoc, Ok, Err, sym, ap, ◌∙◌, refl, arith}
+use Rattle.std.specs.Prelude.{◌+ℤ◌, int_lt}
+use Rattle.tcl_chars.specs.Messages.{about, number}
 use Rattle.std.proofs.lemmas.List.{length-map}
 use Rattle.tcl_lists.specs.WordAt.{word}
 use Rattle.tcl_pages.specs.Answers.{Answer, ◌>>=◌}
 use Rattle.tcl_list.specs.Elements.{elements_of}
 use Rattle.tcl_list.specs.Written.{written}
-use Rattle.tcl_pages.specs.Lists.{index, clamped, replaced, llength, lreverse, lrange, linsert, lreplace}
+use Rattle.tcl_pages.specs.Lists.{index, clamped, replaced, llength, lreverse, lrange, linsert, lreplace, lrepeat, repeated, times}
 use Rattle.tcl_pages.specs.Texts.{Text}
 use Rattle.tcl_pages.specs.Usage.{usage}
 use Rattle.tcl_chars.specs.Texts.{literal}
@@ -60,6 +61,10 @@ lreplace_usage d [] h = refl
 lreplace_usage d (a ∷ []) h = refl
 lreplace_usage d (a ∷ b ∷ []) h = refl
 lreplace_usage d (a ∷ b ∷ c ∷ ws) h = absurd (omega arith)
+
+pub lrepeat_usage : (d : Dialect) (ws : List Text) → length ws ≡ 0 → lrepeat d ws ≡ usage (literal "lrepeat count ?element ...?")
+lrepeat_usage d [] h = refl
+lrepeat_usage d (a ∷ ws) h = absurd (omega arith)
 
 -- ---- elements by their texts
 
@@ -142,3 +147,20 @@ lreplace_is d ws ws1 ws2 ws3 es n f l a b ts v len s1 s2 s3 e0 en e1 e2 ea eb et
   where
     same : written (replaced ts a b (drop 3 ws3)) ≡ written (replaced es (clamped f (length es)) (clamped (l +ℤ pos 1) (length es)) (drop 3 ws))
     same = rw (ea, eb, et, en, s3, s2, s1) refl
+
+abbrev repeated_by : List Text → ℤ → Answer Text
+repeated_by ws z = repeated (word ws 0) z (drop 1 ws)
+
+counted : (d : Dialect) (ws : List Text) (t : Text) (z : ℤ) → length ws ≢ 0 → t ≡ word ws 0 → number d t ≡ Ok z → lrepeat d ws ≡ repeated_by ws z
+counted d [] t z h w e = absurd (h refl)
+counted d (a ∷ ws) t z h w e = ap (λ r. r >>= λ n. repeated a n ws) (ap (number d) (sym w) ∙ e)
+
+pub lrepeat_negative : (d : Dialect) (ws : List Text) (t m : Text) (z : ℤ) → length ws ≢ 0 → t ≡ word ws 0 → number d t ≡ Ok z → int_lt z (pos 0) ≡ true → m ≡ about (literal "bad count") t (literal ": must be integer >= 0") → lrepeat d ws ≡ Err m
+lrepeat_negative d ws t m z h w e l em = counted d ws t z h w e ∙ by_sign z l ∙ ap Err (sym (em ∙ ap (λ u. about (literal "bad count") u (literal ": must be integer >= 0")) w))
+  where
+    by_sign : (z : ℤ) → int_lt z (pos 0) ≡ true → repeated_by ws z ≡ Err (about (literal "bad count") (word ws 0) (literal ": must be integer >= 0"))
+    by_sign (pos n) l = absurd (omega (arith, ltb-true n 0 l))
+    by_sign (negsuc n) l = refl
+
+pub lrepeat_is : (d : Dialect) (ws ws1 : List Text) (t v : Text) (z : ℤ) (n : ℕ) → length ws ≢ 0 → t ≡ word ws 0 → number d t ≡ Ok z → z ≡ pos n → ws1 ≡ ws → v ≡ written (times n (drop 1 ws1)) → lrepeat d ws ≡ Ok v
+lrepeat_is d ws ws1 t v z n h w e ez s ev = counted d ws t z h w e ∙ ap (repeated_by ws) ez ∙ ap Ok (sym (ev ∙ ap (λ us. written (times n (drop 1 us))) s))

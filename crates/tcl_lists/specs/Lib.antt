@@ -1,1 +1,4 @@
+pub mod Joined
+pub mod Options
+pub mod Sorted
 pub mod WordAt

@@ -2,10 +2,20 @@
 //! text: what a command answers is its definition in `tcl_pages`, and the words are left as they were.
 #![tactic(auto)]
 
+mod index;
+mod joined;
 mod message;
 mod range;
+mod repeat;
+mod search;
+mod sort;
 mod whole;
 mod words;
 
+pub use index::lindex;
+pub use joined::concat;
 pub use range::{linsert, lrange, lreplace};
+pub use repeat::lrepeat;
+pub use search::lsearch;
+pub use sort::lsort;
 pub use whole::{list, llength, lreverse};

@@ -34,7 +34,7 @@ fn rest(elements: &[Element], first: usize) -> &[Element]
 }
 
 /// The values from a place on.
-fn values_from(values: &[Value], first: usize) -> &[Value]
+pub(crate) fn values_from(values: &[Value], first: usize) -> &[Value]
     ensures { result.now ≡ drop first values.now }
 {
     match values.get(first..) {

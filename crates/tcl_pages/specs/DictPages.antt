@@ -1,12 +1,13 @@
 -- Commands on dictionaries: dict(n). In a dialect of numbers.
-use Rattle.std.specs.Prelude.{Bool, true, false, ◌||◌, List, [], ◌∷◌, ◌++◌, length, map as each, Option, Some, None, Ok, Err, if◌then◌else◌}
-use Rattle.std.specs.Prelude.{is_some}
+use Rattle.std.specs.Prelude.{Bool, true, false, ◌||◌, List, [], ◌∷◌, ◌++◌, length, Option, Some, None, Ok, Err, if◌then◌else◌}
+use Rattle.std.specs.List.{filter}
 use Rattle.tcl_chars.specs.Messages.{about}
 use Rattle.tcl_chars.specs.Texts.{literal}
 use Rattle.tcl_chars.specs.declared.numbers.Dialect.{Dialect}
 use Rattle.tcl_list.specs.Written.{written}
 use Rattle.tcl_pages.specs.Answers.{Answer, ◌>>=◌}
-use Rattle.tcl_pages.specs.Dictionaries.{Pairs, put_key, put_keys, in_pairs, pairs_of}
+use Rattle.tcl_pages.specs.Arguments.{one_argument, one_or_two}
+use Rattle.tcl_pages.specs.Dictionaries.{Pairs, put_key, put_keys, in_pairs, pairs_of, keys_of, values_of}
 use Rattle.tcl_pages.specs.Glob.{glob}
 use Rattle.tcl_pages.specs.Lists.{lappend}
 use Rattle.tcl_pages.specs.Operators.{truth_text}
@@ -45,26 +46,25 @@ abbrev pub known : Text → Option Text → Answer Text
 known key None = Err (unknown_key key)
 known key (Some t) = Ok t
 
+-- the value of a key that must be there
+abbrev pub inner_of : Text → Text → Answer Text
+inner_of t key = do
+  ps ← pairs_of t
+  known key (value_at key ps)
+
 -- each key is one of the dictionary under the one before
 abbrev pub value_under : Text → List Text → Answer Text
 value_under t [] = Ok t
 value_under t (key ∷ keys) = do
-  ps ← pairs_of t
-  inner ← known key (value_at key ps)
+  inner ← inner_of t key
   value_under inner keys
 
 -- ---- the pages that name no variable
 
-abbrev pub matching_keys : (Text → Bool) → Pairs → List Text
-matching_keys is [] = []
-matching_keys is (p ∷ ps) = if is p.0 then p.0 ∷ matching_keys is ps else matching_keys is ps
-
-abbrev pub matching_values : (Text → Bool) → Pairs → List Text
-matching_values is [] = []
-matching_values is (p ∷ ps) = if is p.1 then p.1 ∷ matching_values is ps else matching_values is ps
-
-abbrev pub any_text : Text → Bool
-any_text t = true
+-- without a pattern each text passes
+abbrev pub passes : Option Text → Text → Bool
+passes None t = true
+passes (Some pattern) t = glob pattern t
 
 -- another count of words than pairs have is the usage's fault
 abbrev pub pairs_or : Text → Answer Pairs → Answer Pairs
@@ -79,29 +79,28 @@ dict_create ws = do
 
 -- dict size dictionary
 abbrev pub dict_size : List Text → Answer Text
-dict_size (t ∷ []) = do
+dict_size ws = do
+  t ← one_argument (literal "dict size dictionary") ws
   ps ← pairs_of t
   Ok (count_text (length ps))
-dict_size _ = usage (literal "dict size dictionary")
+
+-- a dictionary's pairs, and the pattern, if there is one
+abbrev pub dictionary_and_pattern : Text → List Text → Answer (Pairs × Option Text)
+dictionary_and_pattern u ws = do
+  a ← one_or_two u ws
+  ps ← pairs_of a.0
+  Ok (ps, a.1)
 
 -- dict keys dictionary ?pattern?, dict values dictionary ?pattern?
 abbrev pub dict_keys : List Text → Answer Text
-dict_keys (t ∷ []) = do
-  ps ← pairs_of t
-  Ok (written (matching_keys any_text ps))
-dict_keys (t ∷ pattern ∷ []) = do
-  ps ← pairs_of t
-  Ok (written (matching_keys (glob pattern) ps))
-dict_keys _ = usage (literal "dict keys dictionary ?pattern?")
+dict_keys ws = do
+  a ← dictionary_and_pattern (literal "dict keys dictionary ?pattern?") ws
+  Ok (written (filter (passes a.1) (keys_of a.0)))
 
 abbrev pub dict_values : List Text → Answer Text
-dict_values (t ∷ []) = do
-  ps ← pairs_of t
-  Ok (written (matching_values any_text ps))
-dict_values (t ∷ pattern ∷ []) = do
-  ps ← pairs_of t
-  Ok (written (matching_values (glob pattern) ps))
-dict_values _ = usage (literal "dict values dictionary ?pattern?")
+dict_values ws = do
+  a ← dictionary_and_pattern (literal "dict values dictionary ?pattern?") ws
+  Ok (written (filter (passes a.1) (values_of a.0)))
 
 -- dict merge ?dictionary ...?
 abbrev pub merged : Pairs → List Text → Answer Text
@@ -159,16 +158,22 @@ dict_page page.Values ws = dict_values ws
 
 -- ---- what becomes of a variable's dictionary
 
-abbrev pub or_empty : Option Text → Text
-or_empty None = []
-or_empty (Some t) = t
+abbrev pub or_text : Text → Option Text → Text
+or_text first None = first
+or_text first (Some t) = t
+
+-- the value of a key, or the text first where the key isn't there
+abbrev pub value_or : Text → Text → Text → Answer Text
+value_or first t key = do
+  ps ← pairs_of t
+  Ok (or_text first (value_at key ps))
 
 -- a value under the last of some keys: levels that are missing are made
 abbrev pub dict_set : Text → Text → List Text → Answer Text
 dict_set t value [] = Ok value
 dict_set t value (key ∷ keys) = do
   ps ← pairs_of t
-  inner ← dict_set (or_empty (value_at key ps)) value keys
+  inner ← dict_set (or_text [] (value_at key ps)) value keys
   Ok (dictionary (put_key ps key inner))
 
 -- without the last of some keys, which may be missing; one before it may not
@@ -187,12 +192,8 @@ dict_unset t (key ∷ next ∷ keys) = do
 abbrev pub under_key : Text → Text → Text → (Text → Answer Text) → Answer Text
 under_key t key first change = do
   ps ← pairs_of t
-  new ← change (or_first first (value_at key ps))
+  new ← change (or_text first (value_at key ps))
   Ok (dictionary (put_key ps key new))
-  where
-    or_first : Text → Option Text → Text
-    or_first first None = first
-    or_first first (Some t) = t
 
 abbrev pub dict_lappend : Text → Text → List Text → Answer Text
 dict_lappend t key values = under_key t key [] (λ old. lappend old values)

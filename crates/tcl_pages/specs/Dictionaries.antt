@@ -1,5 +1,5 @@
 -- The pairs of a dictionary: dict(n), DESCRIPTION.
-use Rattle.std.specs.Prelude.{List, [], ◌∷◌, Ok, Err, if◌then◌else◌}
+use Rattle.std.specs.Prelude.{List, [], ◌∷◌, map, Ok, Err, if◌then◌else◌}
 use Rattle.tcl_chars.specs.Texts.{literal}
 use Rattle.tcl_list.specs.Elements.{elements_of}
 use Rattle.tcl_pages.specs.Answers.{Answer, ◌>>=◌}
@@ -7,6 +7,12 @@ use Rattle.tcl_pages.specs.Texts.{Text, same_text}
 
 abbrev pub Pairs : Type 0
 Pairs = List (Text × Text)
+
+abbrev pub keys_of : Pairs → List Text
+keys_of ps = map (λ (p : Text × Text). p.0) ps
+
+abbrev pub values_of : Pairs → List Text
+values_of ps = map (λ (p : Text × Text). p.1) ps
 
 -- with this value under the key: a key that is there keeps its place
 abbrev pub put_key : Pairs → Text → Text → Pairs

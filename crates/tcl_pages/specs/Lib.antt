@@ -1,4 +1,5 @@
 pub mod Answers
+pub mod Arguments
 pub mod DictPages
 pub mod Dictionaries
 pub mod Formats

@@ -102,6 +102,31 @@ values_for (suc n) (e ∷ es) = e ∷ values_for n es
 abbrev pub rest_behind : ℕ → List Text → Text
 rest_behind n es = written (drop n es)
 
+-- ---- lrepeat
+
+-- the elements so many times
+abbrev pub times : ℕ → List Text → List Text
+times zero es = []
+times (suc n) es = es ++ times n es
+
+abbrev pub repeated : Text → ℤ → List Text → Answer Text
+repeated count (pos n) es = Ok (written (times n es))
+repeated count (negsuc n) es = Err (about (literal "bad count") count (literal ": must be integer >= 0"))
+
+-- ---- lset
+
+abbrev pub out_of_range : Text
+out_of_range = literal "list index out of range"
+
+-- with the element v at the place k, or behind the last
+abbrev pub with_element : List Text → ℕ → Text → List Text
+with_element es k v = take k es ++ v ∷ drop (k + 1) es
+
+-- a place of an element, or the one behind the last
+abbrev pub place_within : ℤ → ℕ → Answer ℕ
+place_within (pos k) n = if nat_le k n then Ok k else Err out_of_range
+place_within (negsuc k) n = Err out_of_range
+
 module _ (dialect : Dialect) where
   -- a text as an index: a place among n elements, counted from the first
   abbrev pub index : Text → ℕ → Answer ℤ
@@ -161,15 +186,6 @@ module _ (dialect : Dialect) where
 
   -- ---- lrepeat
 
-  -- the elements so many times
-  abbrev pub times : ℕ → List Text → List Text
-  times zero es = []
-  times (suc n) es = es ++ times n es
-
-  abbrev pub repeated : Text → ℤ → List Text → Answer Text
-  repeated count (pos n) es = Ok (written (times n es))
-  repeated count (negsuc n) es = Err (about (literal "bad count") count (literal ": must be integer >= 0"))
-
   -- lrepeat count ?element ...?
   abbrev pub lrepeat : List Text → Answer Text
   lrepeat (count ∷ es) = do
@@ -178,18 +194,6 @@ module _ (dialect : Dialect) where
   lrepeat [] = usage (literal "lrepeat count ?element ...?")
 
   -- ---- lset, lappend: the text of the variable, and what it becomes
-
-  abbrev pub out_of_range : Text
-  out_of_range = literal "list index out of range"
-
-  -- with the element v at the place k, or behind the last
-  abbrev pub with_element : List Text → ℕ → Text → List Text
-  with_element es k v = take k es ++ v ∷ drop (k + 1) es
-
-  -- a place of an element, or the one behind the last
-  abbrev pub place_within : ℤ → ℕ → Answer ℕ
-  place_within (pos k) n = if nat_le k n then Ok k else Err out_of_range
-  place_within (negsuc k) n = Err out_of_range
 
   -- v at the place to which the indices lead, each in the element at the one before
   abbrev pub element_set : Text → List Text → Text → Answer Text

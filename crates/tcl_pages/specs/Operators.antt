@@ -76,6 +76,20 @@ larger a b = if is_lt (int_cmp a b) then b else a
 abbrev pub smaller : ℤ → ℤ → ℤ
 smaller a b = if is_lt (int_cmp b a) then b else a
 
+-- the answer of a function of one number
+abbrev pub of_first : (ℤ → Answer Text) → List ℤ → Answer Text
+of_first f [] = Ok []
+of_first f (z ∷ zs) = f z
+
+-- the greatest or the least, by which of two is chosen
+abbrev pub best : (ℤ → ℤ → ℤ) → ℤ → List ℤ → ℤ
+best choose z [] = z
+best choose z (y ∷ ys) = best choose (choose z y) ys
+
+abbrev pub of_all : (ℤ → ℤ → ℤ) → List ℤ → Answer Text
+of_all choose [] = Ok []
+of_all choose (z ∷ zs) = Ok (number_text (best choose z zs))
+
 module _ (dialect : Dialect) where
   -- the number that an operand of an operator is
   abbrev pub operand_number : Text → Text → Answer ℤ
@@ -155,18 +169,6 @@ module _ (dialect : Dialect) where
     z ← number dialect t
     zs ← numbers ts
     Ok (z ∷ zs)
-
-  abbrev pub of_first : (ℤ → Answer Text) → List ℤ → Answer Text
-  of_first f [] = Ok []
-  of_first f (z ∷ zs) = f z
-
-  abbrev pub best : (ℤ → ℤ → ℤ) → ℤ → List ℤ → ℤ
-  best choose z [] = z
-  best choose z (y ∷ ys) = best choose (choose z y) ys
-
-  abbrev pub of_all : (ℤ → ℤ → ℤ) → List ℤ → Answer Text
-  of_all choose [] = Ok []
-  of_all choose (z ∷ zs) = Ok (number_text (best choose z zs))
 
   abbrev pub truth_of_first : List Text → Answer Text
   truth_of_first [] = Ok []

@@ -1,5 +1,5 @@
 -- string(n), string is. In a dialect of numbers. Letters and digits are those of ASCII (the profile).
-use Rattle.std.specs.Prelude.{ℕ, Bool, true, false, not, ◌||◌, ◌&&◌, ◌==◌, nat_le, nat_lt, List, [], ◌∷◌, ◌++◌, map as each, Option, Some, None, Result, Ok, Err, if◌then◌else◌}
+use Rattle.std.specs.Prelude.{ℕ, Bool, true, false, not, ◌||◌, ◌&&◌, nat_le, nat_lt, List, [], ◌∷◌, Option, Some, None, option_map, unwrap_or, Ok, Err, if◌then◌else◌}
 use Rattle.tcl_chars.specs.Classes.{is_list_space}
 use Rattle.tcl_chars.specs.Messages.{about}
 use Rattle.tcl_chars.specs.Texts.{literal}
@@ -12,9 +12,13 @@ use Rattle.tcl_chars.specs.declared.truths.Truth.{Truth}
 use Rattle.tcl_chars.specs.declared.truths.Truth.TheVariants as truth
 use Rattle.tcl_list.specs.Elements.{elements_of}
 use Rattle.tcl_pages.specs.Answers.{Answer, ◌>>=◌}
+use Rattle.tcl_pages.specs.Arguments.{two_or_three}
 use Rattle.tcl_pages.specs.Operators.{truth_text}
 use Rattle.tcl_pages.specs.Texts.{Text, same_text}
-use Rattle.tcl_pages.specs.Usage.{usage, choices}
+use Rattle.tcl_pages.specs.declared.classes.CharacterClass.{CharacterClass}
+use Rattle.tcl_pages.specs.declared.classes.CharacterClass.TheVariants as character
+use Rattle.tcl_pages.specs.declared.classes.StringClass.{StringClass}
+use Rattle.tcl_pages.specs.declared.classes.StringClass.TheVariants as class
 
 -- ---- characters
 
@@ -66,13 +70,52 @@ abbrev pub is_read : {A : Type 0} → Answer A → Bool
 is_read (Ok a) = true
 is_read (Err message) = false
 
-abbrev pub Class : Type 0
-Class = Text × (Text → Bool)
+-- the characters of a class
+abbrev pub character_is : CharacterClass → ℕ → Bool
+character_is character.Alnum = is_alnum
+character_is character.Alpha = is_alpha
+character_is character.Ascii = is_ascii
+character_is character.Digit = is_digit
+character_is character.Lower = is_lower
+character_is character.Space = is_list_space
+character_is character.Upper = is_upper
+character_is character.Xdigit = is_xdigit
 
--- the class that a word names among these
-abbrev pub class_among : Text → List Class → Option (Text → Bool)
-class_among word [] = None
-class_among word (c ∷ cs) = if same_text c.0 word then Some c.1 else class_among word cs
+-- the class that a word names
+abbrev pub characters_named : Text → Option CharacterClass
+characters_named word =
+    if same_text word (literal "alnum") then Some character.Alnum
+    else if same_text word (literal "alpha") then Some character.Alpha
+    else if same_text word (literal "ascii") then Some character.Ascii
+    else if same_text word (literal "digit") then Some character.Digit
+    else if same_text word (literal "lower") then Some character.Lower
+    else if same_text word (literal "space") then Some character.Space
+    else if same_text word (literal "upper") then Some character.Upper
+    else if same_text word (literal "xdigit") then Some character.Xdigit
+    else None
+
+abbrev pub class_named : Text → Option StringClass
+class_named word =
+    if same_text word (literal "boolean") then Some class.Boolean
+    else if same_text word (literal "false") then Some class.False
+    else if same_text word (literal "integer") then Some class.Integer
+    else if same_text word (literal "list") then Some class.List
+    else if same_text word (literal "true") then Some class.True
+    else if same_text word (literal "wideinteger") then Some class.Wideinteger
+    else option_map class.Characters (characters_named word)
+
+abbrev pub bad_class : Text → Text
+bad_class word = about (literal "bad class") word
+    (literal ": must be alnum, alpha, ascii, boolean, digit, false, integer, list, lower, space, true, upper, wideinteger, or xdigit")
+
+abbrev pub class_or : Text → Option StringClass → Answer StringClass
+class_or word None = Err (bad_class word)
+class_or word (Some named) = Ok named
+
+-- behind the class: the text alone, or `-strict` in front of it
+abbrev pub is_strict : Text → Option Text → Answer Bool
+is_strict t None = Ok false
+is_strict option (Some t) = if same_text option (literal "-strict") then Ok true else Err (about (literal "bad option") option (literal ": must be -strict"))
 
 -- An empty text is of each class, unless `-strict` is given.
 abbrev pub belongs : Bool → (Text → Bool) → Text → Bool
@@ -80,32 +123,20 @@ belongs strict is [] = not strict
 belongs strict is (c ∷ cs) = is (c ∷ cs)
 
 module _ (dialect : Dialect) where
-  abbrev pub classes : List Class
-  classes =
-      (literal "alnum", every is_alnum) ∷ (literal "alpha", every is_alpha) ∷ (literal "ascii", every is_ascii)
-      ∷ (literal "boolean", λ t. is_yes (truth_of dialect t) || is_no (truth_of dialect t)) ∷ (literal "digit", every is_digit)
-      ∷ (literal "false", λ t. is_no (truth_of dialect t)) ∷ (literal "integer", λ t. is_number (whole_of dialect t))
-      ∷ (literal "list", λ t. is_read (elements_of t)) ∷ (literal "lower", every is_lower) ∷ (literal "space", every is_list_space)
-      ∷ (literal "true", λ t. is_yes (truth_of dialect t)) ∷ (literal "upper", every is_upper)
-      ∷ (literal "wideinteger", λ t. is_number (whole_of dialect t)) ∷ (literal "xdigit", every is_xdigit) ∷ []
-
-  abbrev pub bad_class : Text → Text
-  bad_class word = about (literal "bad class") word (literal ": must be " ++ choices (each (λ c. c.0) classes))
-
-  abbrev pub class_or : Text → Option (Text → Bool) → Answer (Text → Bool)
-  class_or word None = Err (bad_class word)
-  class_or word (Some is) = Ok is
-
-  abbrev pub is_strict : Text → Answer Bool
-  is_strict w = if same_text w (literal "-strict") then Ok true else Err (about (literal "bad option") w (literal ": must be -strict"))
+  -- is a text of the class
+  abbrev pub text_is : StringClass → Text → Bool
+  text_is (class.Characters characters) t = every (character_is characters) t
+  text_is class.Boolean t = is_yes (truth_of dialect t) || is_no (truth_of dialect t)
+  text_is class.False t = is_no (truth_of dialect t)
+  text_is class.Integer t = is_number (whole_of dialect t)
+  text_is class.List t = is_read (elements_of t)
+  text_is class.True t = is_yes (truth_of dialect t)
+  text_is class.Wideinteger t = is_number (whole_of dialect t)
 
   -- string is class ?-strict? str
   abbrev pub string_is : List Text → Answer Text
-  string_is (word ∷ t ∷ []) = do
-    is ← class_or word (class_among word classes)
-    Ok (truth_text (belongs false is t))
-  string_is (word ∷ option ∷ t ∷ []) = do
-    is ← class_or word (class_among word classes)
-    strict ← is_strict option
-    Ok (truth_text (belongs strict is t))
-  string_is _ = usage (literal "string is class ?-strict? str")
+  string_is ws = do
+    w ← two_or_three (literal "string is class ?-strict? str") ws
+    named ← class_or w.0 (class_named w.0)
+    strict ← is_strict w.1 w.2
+    Ok (truth_text (belongs strict (text_is named) (unwrap_or w.2 w.1)))

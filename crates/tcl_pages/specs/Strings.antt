@@ -1,21 +1,19 @@
 -- Commands on strings: string(n), split(n), join(n). In a dialect of numbers.
-use Rattle.std.specs.Prelude.{ℕ, zero, suc, ◌+◌, ◌-◌, Bool, true, false, not, ◌||◌, ◌&&◌, ◌==◌, nat_le, nat_lt, ℤ, pos, negsuc, ◌+ℤ◌, List, [], ◌∷◌, ◌++◌, take, drop, length, reverse, map as each, Option, Some, None, Ok, Err, if◌then◌else◌}
-use Rattle.std.specs.Cmp.Lexicographic.{slice_cmp}
+use Rattle.std.specs.Prelude.{◌≡◌, ◌≢◌, ◌≤◌, MatchOption, ℕ, zero, suc, ◌+◌, ◌-◌, ◌%◌, Bool, true, false, ◌||◌, ◌&&◌, ◌==◌, nat_le, nat_lt, ℤ, pos, negsuc, ◌+ℤ◌, List, [], ◌∷◌, ◌++◌, take, drop, length, reverse, map as each, Option, Some, None, unwrap_or, Ok, Err, if◌then◌else◌}
 use Rattle.std.specs.declared.cmp.Ordering.{Ordering}
 use Rattle.std.specs.declared.cmp.Ordering.TheVariants.{Less, Equal, Greater}
-use Rattle.std.specs.Ordering.{nat_cmp}
 use Rattle.tcl_chars.specs.Classes.{is_list_space}
 use Rattle.tcl_chars.specs.Messages.{number}
-use Rattle.tcl_chars.specs.Texts.{literal}
+use Rattle.tcl_chars.specs.Texts.{literal, by_code_point}
 use Rattle.tcl_chars.specs.declared.numbers.Dialect.{Dialect}
 use Rattle.tcl_list.specs.Elements.{elements_of}
 use Rattle.tcl_list.specs.Written.{written}
 use Rattle.tcl_pages.specs.Answers.{Answer, ◌>>=◌}
+use Rattle.tcl_pages.specs.Arguments.{one_argument, two_arguments, three_arguments, one_or_two, two_or_three, three_or_four}
 use Rattle.tcl_pages.specs.Glob.{glob}
 use Rattle.tcl_pages.specs.Lists.{index, clamped}
 use Rattle.tcl_pages.specs.Operators.{truth_text}
 use Rattle.tcl_pages.specs.Texts.{Text, same_text, count_text}
-use Rattle.tcl_pages.specs.Usage.{usage}
 
 -- ---- string compare, equal, length, match, reverse
 
@@ -26,28 +24,33 @@ order_text Greater = literal "1"
 
 -- string compare string1 string2: by code point
 abbrev pub string_compare : List Text → Answer Text
-string_compare (a ∷ b ∷ []) = Ok (order_text (slice_cmp nat_cmp a b))
-string_compare _ = usage (literal "string compare string1 string2")
+string_compare ws = do
+  w ← two_arguments (literal "string compare string1 string2") ws
+  Ok (order_text (by_code_point w.0 w.1))
 
 -- string equal string1 string2
 abbrev pub string_equal : List Text → Answer Text
-string_equal (a ∷ b ∷ []) = Ok (truth_text (same_text a b))
-string_equal _ = usage (literal "string equal string1 string2")
+string_equal ws = do
+  w ← two_arguments (literal "string equal string1 string2") ws
+  Ok (truth_text (same_text w.0 w.1))
 
 -- string length string
 abbrev pub string_length : List Text → Answer Text
-string_length (t ∷ []) = Ok (count_text (length t))
-string_length _ = usage (literal "string length string")
+string_length ws = do
+  t ← one_argument (literal "string length string") ws
+  Ok (count_text (length t))
 
 -- string match pattern string
 abbrev pub string_match : List Text → Answer Text
-string_match (pattern ∷ t ∷ []) = Ok (truth_text (glob pattern t))
-string_match _ = usage (literal "string match pattern string")
+string_match ws = do
+  w ← two_arguments (literal "string match pattern string") ws
+  Ok (truth_text (glob w.0 w.1))
 
 -- string reverse string
 abbrev pub string_reverse : List Text → Answer Text
-string_reverse (t ∷ []) = Ok (reverse t)
-string_reverse _ = usage (literal "string reverse string")
+string_reverse ws = do
+  t ← one_argument (literal "string reverse string") ws
+  Ok (reverse t)
 
 -- ---- string tolower, toupper: letters of ASCII
 
@@ -59,12 +62,14 @@ raised c = if nat_le 97 c && nat_le c 122 then c - 32 else c
 
 -- string tolower string, string toupper string
 abbrev pub string_tolower : List Text → Answer Text
-string_tolower (t ∷ []) = Ok (each lowered t)
-string_tolower _ = usage (literal "string tolower string")
+string_tolower ws = do
+  t ← one_argument (literal "string tolower string") ws
+  Ok (each lowered t)
 
 abbrev pub string_toupper : List Text → Answer Text
-string_toupper (t ∷ []) = Ok (each raised t)
-string_toupper _ = usage (literal "string toupper string")
+string_toupper ws = do
+  t ← one_argument (literal "string toupper string") ws
+  Ok (each raised t)
 
 -- ---- string first, last: places of a text in another
 
@@ -88,35 +93,44 @@ abbrev pub is_before : ℕ → ℤ → Bool
 is_before k (pos n) = nat_lt k n
 is_before k (negsuc n) = false
 
-abbrev pub first_from : ℤ → List ℕ → Text
-first_from start [] = literal "-1"
-first_from start (k ∷ ks) = if is_before k start then first_from start ks else count_text k
+abbrev pub first_from : ℤ → List ℕ → Option ℕ
+first_from start [] = None
+first_from start (k ∷ ks) = if is_before k start then first_from start ks else Some k
 
 abbrev pub ends_by : ℕ → ℤ → ℕ → Bool
 ends_by size (pos n) k = nat_le (k + size) (suc n)
 ends_by size (negsuc n) k = false
 
-abbrev pub last_until : ℕ → ℤ → Text → List ℕ → Text
+abbrev pub last_until : ℕ → ℤ → Option ℕ → List ℕ → Option ℕ
 last_until size end found [] = found
-last_until size end found (k ∷ ks) = last_until size end (if ends_by size end k then count_text k else found) ks
+last_until size end found (k ∷ ks) = last_until size end (if ends_by size end k then Some k else found) ks
+
+abbrev pub place_text : Option ℕ → Text
+place_text None = literal "-1"
+place_text (Some k) = count_text k
 
 -- ---- string map
 
 abbrev pub unbalanced : Text
 unbalanced = literal "char map list unbalanced"
 
-abbrev pub with_mapped : Text → Text → Answer (List (Text × Text)) → Answer (List (Text × Text))
-with_mapped key value ps = ps >>= λ more. Ok ((key, value) ∷ more)
+-- keys and values in turn
+abbrev pub pairs : List Text → List (Text × Text)
+pairs (key ∷ value ∷ ts) = (key, value) ∷ pairs ts
+pairs _ = []
 
 abbrev pub mapping_of : List Text → Answer (List (Text × Text))
-mapping_of [] = Ok []
-mapping_of (t ∷ []) = Err unbalanced
-mapping_of (key ∷ value ∷ ts) = with_mapped key value (mapping_of ts)
+mapping_of ts = if length ts % 2 == 0 then Ok (pairs ts) else Err unbalanced
 
--- the first pair whose key begins the text; an empty key begins none
+-- an empty key begins no text
+abbrev pub key_begins : Text → Text → Bool
+key_begins [] t = false
+key_begins (k ∷ ks) t = begins_with (k ∷ ks) t
+
+-- the first pair whose key begins the text
 abbrev pub pair_for : List (Text × Text) → Text → Option (Text × Text)
 pair_for [] t = None
-pair_for (p ∷ ps) t = if not (length p.0 == 0) && begins_with p.0 t then Some p else pair_for ps t
+pair_for (p ∷ ps) t = if key_begins p.0 t then Some p else pair_for ps t
 
 -- what stands for the next character, and how many characters behind it are of the same key
 abbrev pub said_for : Option (Text × Text) → ℕ → Text
@@ -135,11 +149,11 @@ mapped ps (suc skip) (c ∷ cs) = mapped ps skip cs
 
 -- string map mapping string
 abbrev pub string_map : List Text → Answer Text
-string_map (mapping ∷ t ∷ []) = do
-  es ← elements_of mapping
+string_map ws = do
+  w ← two_arguments (literal "string map mapping string") ws
+  es ← elements_of w.0
   ps ← mapping_of es
-  Ok (mapped ps 0 t)
-string_map _ = usage (literal "string map mapping string")
+  Ok (mapped ps 0 w.1)
 
 -- ---- string trim, trimleft, trimright
 
@@ -157,11 +171,16 @@ trimmed_right goes t = reverse (trimmed_left goes (reverse t))
 abbrev pub trimmed_both : (ℕ → Bool) → Text → Text
 trimmed_both goes t = trimmed_right goes (trimmed_left goes t)
 
--- NAME string ?chars?: list space where no characters are given
+-- what is taken off: list space where no characters are given
+abbrev pub taken_off : Option Text → ℕ → Bool
+taken_off None c = is_list_space c
+taken_off (Some set) c = is_among set c
+
+-- NAME string ?chars?
 abbrev pub trim_by : ((ℕ → Bool) → Text → Text) → Text → List Text → Answer Text
-trim_by trim u (t ∷ []) = Ok (trim is_list_space t)
-trim_by trim u (t ∷ chars ∷ []) = Ok (trim (is_among chars) t)
-trim_by trim u _ = usage u
+trim_by trim u ws = do
+  w ← one_or_two u ws
+  Ok (trim (taken_off w.1) w.0)
 
 -- ---- split, join
 
@@ -180,11 +199,16 @@ split_by [] set = []
 split_by (c ∷ cs) [] = each (λ d. d ∷ []) (c ∷ cs)
 split_by (c ∷ cs) (d ∷ ds) = parts_between (is_among (d ∷ ds)) (c ∷ cs)
 
--- split string ?splitChars?: space, tab, newline and carriage return where none are given
+-- space, tab, newline and carriage return where no characters are given
+abbrev pub separators : Option Text → Text
+separators None = literal " \t\n\r"
+separators (Some set) = set
+
+-- split string ?splitChars?
 abbrev pub split_page : List Text → Answer Text
-split_page (t ∷ []) = Ok (written (split_by t (32 ∷ 9 ∷ 10 ∷ 13 ∷ [])))
-split_page (t ∷ set ∷ []) = Ok (written (split_by t set))
-split_page _ = usage (literal "split string ?splitChars?")
+split_page ws = do
+  w ← one_or_two (literal "split string ?splitChars?") ws
+  Ok (written (split_by w.0 (separators w.1)))
 
 abbrev pub joined_behind : Text → List Text → Text
 joined_behind between [] = []
@@ -194,82 +218,105 @@ abbrev pub joined_by : Text → List Text → Text
 joined_by between [] = []
 joined_by between (t ∷ ts) = t ++ joined_behind between ts
 
-abbrev pub join_with : Text → Text → Answer Text
-join_with list between = do
-  es ← elements_of list
-  Ok (joined_by between es)
+-- one space where nothing is given
+abbrev pub between_of : Option Text → Text
+between_of None = literal " "
+between_of (Some between) = between
 
 -- join list ?joinString?
 abbrev pub join_page : List Text → Answer Text
-join_page (list ∷ []) = join_with list (literal " ")
-join_page (list ∷ between ∷ []) = join_with list between
-join_page _ = usage (literal "join list ?joinString?")
+join_page ws = do
+  w ← one_or_two (literal "join list ?joinString?") ws
+  es ← elements_of w.0
+  Ok (joined_by (between_of w.1) es)
+
+-- ---- string index, range, replace, repeat: characters by their places
+
+abbrev pub at_place : Text → ℤ → Text
+at_place t (pos k) = take 1 (drop k t)
+at_place t (negsuc k) = []
+
+-- the characters from the place `first` on, in front of the place `behind`
+abbrev pub part_of : Text → ℕ → ℕ → Text
+part_of t first behind = drop first (take behind t)
+
+-- what is replaced ends behind its beginning: from `first` up to before `behind`, in place of it `new`
+abbrev pub replaced_text : Text → ℕ → ℕ → Text → Text
+replaced_text t first behind new = if nat_lt first behind then take first t ++ (new ++ drop behind t) else t
+
+abbrev pub repeated_text : ℕ → Text → Text
+repeated_text zero t = []
+repeated_text (suc n) t = t ++ repeated_text n t
+
+abbrev pub times_text : ℤ → Text → Text
+times_text (pos n) t = repeated_text n t
+times_text (negsuc n) t = []
 
 module _ (dialect : Dialect) where
-  -- ---- by places
+  -- where a search begins, and what it may end at: the first and the last character where no index is given
+  abbrev pub start_of : Option Text → ℕ → Answer ℤ
+  start_of None n = Ok (pos 0)
+  start_of (Some i) n = index dialect i n
+
+  abbrev pub end_of : Option Text → ℕ → Answer ℤ
+  end_of None n = Ok (pos n)
+  end_of (Some i) n = index dialect i n
 
   -- string first needleString haystackString ?startIndex?
   abbrev pub string_first : List Text → Answer Text
-  string_first (needle ∷ t ∷ []) = Ok (first_from (pos 0) (found_at needle t))
-  string_first (needle ∷ t ∷ i ∷ []) = do
-    start ← index dialect i (length t)
-    Ok (first_from start (found_at needle t))
-  string_first _ = usage (literal "string first needleString haystackString ?startIndex?")
+  string_first ws = do
+    w ← two_or_three (literal "string first needleString haystackString ?startIndex?") ws
+    start ← start_of w.2 (length w.1)
+    Ok (place_text (first_from start (found_at w.0 w.1)))
 
   -- string last needleString haystackString ?lastIndex?
   abbrev pub string_last : List Text → Answer Text
-  string_last (needle ∷ t ∷ []) = Ok (last_until (length needle) (pos (length t)) (literal "-1") (found_at needle t))
-  string_last (needle ∷ t ∷ i ∷ []) = do
-    end ← index dialect i (length t)
-    Ok (last_until (length needle) end (literal "-1") (found_at needle t))
-  string_last _ = usage (literal "string last needleString haystackString ?lastIndex?")
-
-  abbrev pub at_place : Text → ℤ → Text
-  at_place t (pos k) = take 1 (drop k t)
-  at_place t (negsuc k) = []
+  string_last ws = do
+    w ← two_or_three (literal "string last needleString haystackString ?lastIndex?") ws
+    end ← end_of w.2 (length w.1)
+    Ok (place_text (last_until (length w.0) end None (found_at w.0 w.1)))
 
   -- string index string charIndex: outside there is nothing
   abbrev pub string_index : List Text → Answer Text
-  string_index (t ∷ i ∷ []) = do
-    k ← index dialect i (length t)
-    Ok (at_place t k)
-  string_index _ = usage (literal "string index string charIndex")
+  string_index ws = do
+    w ← two_arguments (literal "string index string charIndex") ws
+    k ← index dialect w.1 (length w.0)
+    Ok (at_place w.0 k)
 
   -- string range string first last
   abbrev pub string_range : List Text → Answer Text
-  string_range (t ∷ first ∷ last ∷ []) = do
-    first ← index dialect first (length t)
-    last ← index dialect last (length t)
-    Ok (drop (clamped first (length t)) (take (clamped (last +ℤ pos 1) (length t)) t))
-  string_range _ = usage (literal "string range string first last")
-
-  -- what is replaced ends behind its beginning: from `first` up to before `behind`, in place of it `new`
-  abbrev pub replaced_text : Text → ℕ → ℕ → Text → Text
-  replaced_text t first behind new = if nat_lt first behind then take first t ++ (new ++ drop behind t) else t
-
-  abbrev pub replace_with : Text → Text → Text → Text → Answer Text
-  replace_with t first last new = do
-    first ← index dialect first (length t)
-    last ← index dialect last (length t)
-    Ok (replaced_text t (clamped first (length t)) (clamped (last +ℤ pos 1) (length t)) new)
+  string_range ws = do
+    w ← three_arguments (literal "string range string first last") ws
+    first ← index dialect w.1 (length w.0)
+    last ← index dialect w.2 (length w.0)
+    Ok (part_of w.0 (clamped first (length w.0)) (clamped (last +ℤ pos 1) (length w.0)))
 
   -- string replace string first last ?string?
   abbrev pub string_replace : List Text → Answer Text
-  string_replace (t ∷ first ∷ last ∷ []) = replace_with t first last []
-  string_replace (t ∷ first ∷ last ∷ new ∷ []) = replace_with t first last new
-  string_replace _ = usage (literal "string replace string first last ?string?")
-
-  abbrev pub repeated_text : ℕ → Text → Text
-  repeated_text zero t = []
-  repeated_text (suc n) t = t ++ repeated_text n t
-
-  abbrev pub times_text : ℤ → Text → Text
-  times_text (pos n) t = repeated_text n t
-  times_text (negsuc n) t = []
+  string_replace ws = do
+    w ← three_or_four (literal "string replace string first last ?string?") ws
+    first ← index dialect w.1 (length w.0)
+    last ← index dialect w.2 (length w.0)
+    Ok (replaced_text w.0 (clamped first (length w.0)) (clamped (last +ℤ pos 1) (length w.0)) (unwrap_or w.3 []))
 
   -- string repeat string count: a count below 0 is as 0
   abbrev pub string_repeat : List Text → Answer Text
-  string_repeat (t ∷ count ∷ []) = do
-    n ← number dialect count
-    Ok (times_text n t)
-  string_repeat _ = usage (literal "string repeat string count")
+  string_repeat ws = do
+    w ← two_arguments (literal "string repeat string count") ws
+    n ← number dialect w.1
+    Ok (times_text n w.0)
+
+-- ---- laws
+
+-- the needle stands at the place k
+pub record StandsAt (needle t : Text) (k : ℕ) : Type 0 where
+  pub front : Text
+  pub rest : Text
+  pub joined : t ≡ front ++ (needle ++ rest)
+  pub place : length front ≡ k
+
+-- The first place is the least at which the needle stands and that isn't before the start.
+abbrev pub FirstIsLeast : Type 0
+FirstIsLeast = (needle t : Text) (start : ℤ) → length needle ≢ 0
+    → MatchOption (first_from start (found_at needle t)) ((j : ℕ) → StandsAt needle t j → is_before j start ≡ true)
+    (λ k. StandsAt needle t k × (is_before k start ≡ false) × ((j : ℕ) → StandsAt needle t j → is_before j start ≡ false → k ≤ j))

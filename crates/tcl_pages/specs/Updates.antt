@@ -89,6 +89,10 @@ dict_set_words t keys [] = Ok t
 dict_set_words t keys (v ∷ []) = dict_set t v keys
 dict_set_words t keys (k ∷ w ∷ ws) = dict_set_words t (keys ++ k ∷ []) (w ∷ ws)
 
+-- dict append dictVarName key ?value ...?
+abbrev pub dict_append : Text → Text → List Text → Answer Text
+dict_append t key values = under_key t key [] (λ old. Ok (text_appended old values))
+
 -- a key, and the words behind it
 abbrev pub by_key : Text → List Text → (Text → List Text → Answer Text) → Answer Text
 by_key t [] change = Ok t
@@ -103,14 +107,18 @@ module _ (dialect : Dialect) where
     b ← number dialect by
     in_decimal (ranged (exact op.Add a b))
 
+  -- dict incr dictVarName key ?increment?
+  abbrev pub dict_incr : Text → Text → List Text → Answer Text
+  dict_incr t key by = under_key t key (literal "0") (λ old. increased old by)
+
   -- the new text of a variable that has this one
   unfoldable pub updated : UpdatePage → Text → List Text → Answer Text
   updated page.Append t ws = Ok (text_appended t ws)
   updated page.Incr t ws = increased t ws
   updated page.Lappend t ws = lappend t ws
   updated page.Lset t ws = lset_words dialect t [] ws
-  updated page.DictAppend t ws = by_key t ws (λ key values. under_key t key [] (λ old. Ok (text_appended old values)))
-  updated page.DictIncr t ws = by_key t ws (λ key by. under_key t key (literal "0") (λ old. increased old by))
-  updated page.DictLappend t ws = by_key t ws (λ key values. dict_lappend t key values)
+  updated page.DictAppend t ws = by_key t ws (dict_append t)
+  updated page.DictIncr t ws = by_key t ws (dict_incr t)
+  updated page.DictLappend t ws = by_key t ws (dict_lappend t)
   updated page.DictSet t ws = dict_set_words t [] ws
   updated page.DictUnset t ws = dict_unset t ws

@@ -6,8 +6,11 @@ use Rattle.tcl_pages.specs.Answers.{Answer}
 use Rattle.tcl_pages.specs.Texts.{Text}
 
 -- another count of words than its usage has
+abbrev pub usage_text : Text → Text
+usage_text u = literal "wrong # args: should be \"" ++ (u ++ literal "\"")
+
 abbrev pub usage : {A : Type 0} → Text → Answer A
-usage u = Err (literal "wrong # args: should be \"" ++ (u ++ literal "\""))
+usage u = Err (usage_text u)
 
 -- choices in a sentence, as `a, b, or c`
 abbrev pub choices : List Text → Text

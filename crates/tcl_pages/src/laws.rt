@@ -2,6 +2,7 @@
 ghost use Rattle.std.specs.Prelude.{ℤ};
 ghost use Rattle.tcl_pages.specs.Glob.{GlobIsMatch};
 ghost use Rattle.tcl_pages.specs.Sorting.{SortedIsStable};
+ghost use Rattle.tcl_pages.specs.Strings.{FirstIsLeast};
 ghost use Rattle.tcl_pages.specs.Texts.{Text};
 
 /// A text matches a pattern just where the test says so.
@@ -13,4 +14,9 @@ pub fn glob_is_match()
 pub fn sorted_is_stable()
     ensures texts { SortedIsStable Text }
     ensures numbers { SortedIsStable (ℤ × Text) }
+{}
+
+/// Where a text is sought in another, the first place is the least.
+pub fn first_is_least()
+    ensures { FirstIsLeast }
 {}

@@ -1,1 +1,3 @@
 pub mod Glob
+pub mod Shown
+pub mod Taken

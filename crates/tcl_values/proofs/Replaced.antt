@@ -1,5 +1,5 @@
 -- A list one of whose elements is replaced.
-use Rattle.std.proofs.Common.{◌≡◌, ℕ, ◌<◌, ◌≤◌, List, length, Option, None, Some, inl, inr, option_map, Result, Ok, sym, ap, ◌∙◌, slice_get, slice_set, nat_lt, take, drop, zero, suc, [], ◌∷◌, refl, get_or, map, ◌+◌, ◌++◌}
+use Rattle.std.proofs.Common.{◌≡◌, ℕ, ◌<◌, ◌≤◌, List, length, Option, None, Some, inl, inr, option_map, Ok, sym, ap, ◌∙◌, slice_get, slice_set, nat_lt, take, drop, zero, suc, [], ◌∷◌, refl, get_or, ◌+◌, ◌++◌}
 use Rattle.std.specs.Prelude.{if◌then◌else◌}
 use Rattle.std.proofs.lemmas.Bool.{cond-true, cond-false, lt-ltb, le-ltb, cases_lt}
 use Rattle.std.proofs.lemmas.List.{map-set, length-map, take-map, drop-map, map-append}

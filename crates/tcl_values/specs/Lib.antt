@@ -1,4 +1,6 @@
+pub mod Dictionaries
 pub mod Falls
 pub mod Kept
 pub mod Lists
+pub mod Paired
 pub mod Shape

@@ -1,5 +1,5 @@
 -- What is kept of a value, and the text that it stands for.
-use Rattle.std.specs.Prelude.{ℕ, ◌≤◌, ◌≡◌, Bool, true, false, List, [], Option, None, Some, ⊤, Ok, FitsSigned, option_map}
+use Rattle.std.specs.Prelude.{ℕ, ◌≤◌, ◌≡◌, Bool, true, false, List, [], length, map, Option, None, Some, ⊤, Ok, FitsSigned, option_map}
 use Rattle.std.specs.Int.{w64}
 use Rattle.std.specs.Fmt.{signed_decimal}
 use Rattle.std.specs.Option.{IsSome}
@@ -11,7 +11,12 @@ use Rattle.tcl_list.specs.Elements.{elements_of}
 use Rattle.tcl_list.specs.Written.{written}
 use Rattle.tcl_list.specs.Texts.{text_of}
 use Rattle.tcl_values.specs.Kept.{Kept, texts, depth_over}
+use Rattle.tcl_values.specs.Paired.{zipped}
+use Rattle.tcl_pages.specs.Dictionaries.{pairs_of}
+use Rattle.tcl_pages.specs.Dictionaries as dictionaries
+use Rattle.tcl_pages.specs.DictPages.{dictionary}
 use Rattle.tcl_values.specs.declared.element.Items.{Items}
+use Rattle.tcl_values.specs.declared.element.Pairs.{Pairs}
 use Rattle.tcl_values.specs.declared.element.Entry.{Entry}
 use Rattle.tcl_values.specs.declared.element.Entry.TheVariants as entry
 use Rattle.tcl_values.specs.declared.element.Element.TheInside as element
@@ -19,6 +24,7 @@ use Rattle.tcl_values.specs.declared.value.Held.{Held}
 use Rattle.tcl_values.specs.declared.value.Held.TheVariants as held
 use Rattle.tcl_values.specs.declared.value.Value.TheInside as value
 use Rattle.tcl_values.specs.declared.row.Row.TheInside as row
+use Rattle.tcl_values.specs.declared.dictionary.Dictionary.TheInside as shared
 
 -- the text, or else how the elements are written
 abbrev pub shown : Option (List ℕ) → List Kept → List ℕ
@@ -47,17 +53,50 @@ pub record AreSame (r s : Items) : Type 0 where
   pub depth : r.depth ≡ s.depth
   pub elements : elements r ≡ elements s
 
+-- ---- dictionaries
+
+abbrev pub pairs_in : Pairs → dictionaries.Pairs
+pairs_in p = zipped (map text_of p.keys.keys) (texts p.values.items)
+
+-- the text, or else how the pairs are written
+abbrev pub shown_pairs : Option (List ℕ) → dictionaries.Pairs → List ℕ
+shown_pairs None ps = dictionary ps
+shown_pairs (Some t) ps = t
+
+-- the text that a dictionary stands for
+abbrev pub pairs_text : Pairs → List ℕ
+pairs_text p = shown_pairs (shared_text p.text) (pairs_in p)
+
+-- pairs that stand for their text: the text is read as them
+pub record ArePaired (p : Pairs) : Type 0 where
+  pub limit : p.depth ≤ 64
+  pub deeper : depth_over p.values.items ≤ p.depth
+  pub even : length p.keys.keys ≡ length p.values.items
+  pub reading : pairs_of (pairs_text p) ≡ Ok (pairs_in p)
+
+-- the same text, keys and values
+pub record AreSamePairs (p q : Pairs) : Type 0 where
+  pub text : shared_text p.text ≡ shared_text q.text
+  pub depth : p.depth ≡ q.depth
+  pub keys : map text_of p.keys.keys ≡ map text_of q.keys.keys
+  pub values : p.values.items ≡ q.values.items
+
+-- ---- elements and values
+
 abbrev pub entry_text : Entry → List ℕ
 entry_text (entry.Text s) = text_of s
 entry_text (entry.Row r) = items_text r.value
+entry_text (entry.Dict r) = pairs_text r.value
 
 abbrev pub entry_depth : Entry → ℕ
 entry_depth (entry.Text s) = 0
 entry_depth (entry.Row r) = r.value.depth
+entry_depth (entry.Dict r) = r.value.depth
 
 abbrev pub IsEntry : Entry → Type 0
 IsEntry (entry.Text s) = ⊤
 IsEntry (entry.Row r) = IsSome r.value.text × AreKept r.value
+IsEntry (entry.Dict r) = IsSome r.value.text × ArePaired r.value
 
 abbrev pub kept : element.Inside → Kept
 kept a = record { text = entry_text a.entry; depth = entry_depth a.entry }
@@ -71,18 +110,28 @@ held_text (held.Number n) = signed_decimal n
 held_text (held.Text s) = text_of s
 held_text (held.Grown s) = chars (string_bytes s.value)
 held_text (held.Row r) = items_text r.value
+held_text (held.Dict r) = pairs_text r.value
 
 abbrev pub IsHeld : Held → Type 0
 IsHeld (held.Number n) = FitsSigned w64 n
 IsHeld (held.Text s) = ⊤
 IsHeld (held.Grown s) = ⊤
 IsHeld (held.Row r) = AreKept r.value
+IsHeld (held.Dict r) = ArePaired r.value
 
 abbrev pub is_row : Held → Bool
 is_row (held.Number n) = false
 is_row (held.Text s) = false
 is_row (held.Grown s) = false
 is_row (held.Row r) = true
+is_row (held.Dict r) = false
+
+abbrev pub is_dict : Held → Bool
+is_dict (held.Number n) = false
+is_dict (held.Text s) = false
+is_dict (held.Grown s) = false
+is_dict (held.Row r) = false
+is_dict (held.Dict r) = true
 
 -- the elements of a list that is kept, and none of another value
 abbrev pub elements_held : Held → List Kept
@@ -90,6 +139,15 @@ elements_held (held.Number n) = []
 elements_held (held.Text s) = []
 elements_held (held.Grown s) = []
 elements_held (held.Row r) = elements r.value
+elements_held (held.Dict r) = []
+
+-- the pairs of a dictionary that is kept, and none of another value
+abbrev pub pairs_held : Held → dictionaries.Pairs
+pairs_held (held.Number n) = []
+pairs_held (held.Text s) = []
+pairs_held (held.Grown s) = []
+pairs_held (held.Row r) = []
+pairs_held (held.Dict r) = pairs_in r.value
 
 abbrev pub value_text : value.Inside → List ℕ
 value_text a = held_text a.held
@@ -102,3 +160,9 @@ row_texts a = texts (elements a.items.value)
 
 abbrev pub IsRow : row.Inside → Type 0
 IsRow a = AreKept a.items.value
+
+abbrev pub dictionary_pairs : shared.Inside → dictionaries.Pairs
+dictionary_pairs a = pairs_in a.pairs.value
+
+abbrev pub IsDictionary : shared.Inside → Type 0
+IsDictionary a = ArePaired a.pairs.value

@@ -5,6 +5,7 @@ ghost use Rattle.std.specs.Str.{chars};
 ghost use Rattle.tcl_list.specs.Texts.{text_of};
 
 use crate::value::{Held, Value};
+use indexmap::IndexSet;
 use std::alloc::AllocError;
 use std::marker::Model;
 use std::rc::{Rc, RcStr};
@@ -24,6 +25,8 @@ pub(crate) enum Entry {
     Text(RcStr),
     /// The list that its text is read as, with the text.
     Row(Rc<Items>),
+    /// The dictionary that its text is read as, with the text.
+    Dict(Rc<Pairs>),
 }
 
 /// The elements of a list, beside its text where that has been written or read.
@@ -34,6 +37,18 @@ pub(crate) struct Items {
     /// How deep it is: one more than its deepest element.
     pub(crate) depth: u8,
     pub(crate) items: Vec<Element>,
+}
+
+/// The pairs of a dictionary, beside its text where that has been written or read.
+#[cycle(element)]
+#[derive(Drop)]
+pub(crate) struct Pairs {
+    pub(crate) text: Option<RcStr>,
+    /// How deep it is: more than each of its values.
+    pub(crate) depth: u8,
+    pub(crate) keys: IndexSet<RcStr>,
+    /// The keys' values, in the places of the keys.
+    pub(crate) values: Vec<Element>,
 }
 
 impl Model for Element {
@@ -65,6 +80,10 @@ impl Element {
                 Some(text) => text.as_str(),
                 None => unreachable!(),
             },
+            Entry::Dict(pairs) => match &pairs.text {
+                Some(text) => text.as_str(),
+                None => unreachable!(),
+            },
         }
     }
 
@@ -75,6 +94,7 @@ impl Element {
         let held = match &self.entry {
             Entry::Text(text) => Held::Text(text.clone()?),
             Entry::Row(row) => Held::Row(row.clone()?),
+            Entry::Dict(pairs) => Held::Dict(pairs.clone()?),
         };
         Ok(Value { held })
     }
@@ -86,17 +106,19 @@ impl Element {
         let entry = match &self.entry {
             Entry::Text(text) => Entry::Text(text.clone()?),
             Entry::Row(row) => Entry::Row(row.clone()?),
+            Entry::Dict(pairs) => Entry::Dict(pairs.clone()?),
         };
         Ok(Element { entry })
     }
 
-    /// How deep the list is that stands beside its text.
+    /// How deep the list or dictionary is that stands beside its text.
     pub(crate) fn depth(&self) -> u8
         ensures { result ≡ self.now.depth }
     {
         match &self.entry {
             Entry::Text(_) => 0,
             Entry::Row(row) => row.depth,
+            Entry::Dict(pairs) => pairs.depth,
         }
     }
 
@@ -107,8 +129,26 @@ impl Element {
         let held = match self.entry {
             Entry::Text(text) => Held::Text(text),
             Entry::Row(row) => Held::Row(row),
+            Entry::Dict(pairs) => Held::Dict(pairs),
         };
         Value { held }
+    }
+
+    /// Its text, shared.
+    pub(crate) fn shared_text(&self) -> Result<RcStr, AllocError>
+        ensures { IfOk result (λ t. text_of t ≡ self.now.text) }
+    {
+        match &self.entry {
+            Entry::Text(text) => text.clone(),
+            Entry::Row(row) => match &row.text {
+                Some(text) => text.clone(),
+                None => unreachable!(),
+            },
+            Entry::Dict(pairs) => match &pairs.text {
+                Some(text) => text.clone(),
+                None => unreachable!(),
+            },
+        }
     }
 
     /// The element as its text alone.
@@ -116,15 +156,8 @@ impl Element {
         ensures text { IfOk result (λ e. e.text ≡ self.now.text) }
         ensures depth { IfOk result (λ e. e.depth ≡ 0) }
     {
-        let text = match &self.entry {
-            Entry::Text(text) => text.clone()?,
-            Entry::Row(row) => match &row.text {
-                Some(text) => text.clone()?,
-                None => unreachable!(),
-            },
-        };
         Ok(Element {
-            entry: Entry::Text(text),
+            entry: Entry::Text(self.shared_text()?),
         })
     }
 }

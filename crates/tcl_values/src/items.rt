@@ -6,7 +6,7 @@ ghost use Rattle.std.specs.Option.{IsSome};
 ghost use Rattle.tcl_list.specs.Texts.{text_of};
 ghost use Rattle.tcl_list.specs.Written.{written};
 ghost use Rattle.tcl_values.specs.Kept.{texts, depth_over, rotated};
-ghost use Rattle.tcl_values.specs.Shape.{elements, items_text, AreKept, AreSame};
+ghost use Rattle.tcl_values.specs.Shape.{elements, items_text, shared_text, AreKept, AreSame};
 
 use crate::element::{Element, Items};
 use std::alloc::{AllocError, Global};
@@ -56,7 +56,7 @@ pub(crate) fn show(row: &mut Rc<Items>, alloc: Global) -> Result<RcStr, AllocErr
 }
 
 /// Copies of the elements, which share what is kept of them.
-fn copy_elements(alloc: Global, elements: &[Element]) -> Result<Vec<Element>, AllocError>
+pub(crate) fn copy_elements(alloc: Global, elements: &[Element]) -> Result<Vec<Element>, AllocError>
     ensures { IfOk result (λ copies. copies.items ≡ elements.now) }
 {
     let mut copies = Vec::with_capacity(alloc, elements.len())?;
@@ -66,6 +66,16 @@ fn copy_elements(alloc: Global, elements: &[Element]) -> Result<Vec<Element>, Al
     Ok(copies)
 }
 
+/// The same text, where one is there.
+pub(crate) fn copy_text(text: &Option<RcStr>) -> Result<Option<RcStr>, AllocError>
+    ensures { IfOk result (λ copy. shared_text copy ≡ shared_text text.now) }
+{
+    match text {
+        Some(text) => Ok(Some(text.clone()?)),
+        None => Ok(None),
+    }
+}
+
 impl Clone for Items {
     ghost use Rattle.tcl_values.specs.Shape.{AreSame};
 
@@ -73,12 +83,8 @@ impl Clone for Items {
 
     fn clone(&self) -> Result<Items, AllocError> {
         let elements = copy_elements(*self.items.allocator(), &self.items)?;
-        let text = match &self.text {
-            Some(text) => Some(text.clone()?),
-            None => None,
-        };
         Ok(Items {
-            text,
+            text: copy_text(&self.text)?,
             depth: self.depth,
             items: elements,
         })

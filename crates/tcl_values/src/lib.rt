@@ -1,5 +1,5 @@
-//! Values of a script. A value is its text; in place of the text, or beside it, a number or a list is kept, so that it isn't
-//! read and written again and again. Contracts see the text alone.
+//! Values of a script. A value is its text; in place of the text, or beside it, a number, a list or a dictionary is kept, so that it
+//! isn't read and written again and again. Contracts see the text alone.
 //!
 //! What is kept is shared by copies of a value and copied where one of them is changed. A change of a value that has no copy is
 //! made in place.
@@ -7,6 +7,8 @@
 //! - [`Value`]: made by `of_text`, `of_string`, `of_int`, `of_list`; copied by `copy`. Read by `text` and `shown`, as a number by
 //!   `whole`, as a list by `count`, `item`, `row`, `list`, `range`. Changed by `append` at the end of the text, and as a list by `push`,
 //!   `replace_item` and `splice`; `take_item` lends an element to a change.
+//!   As a dictionary made by `of_dict`, read by `dict_size`, `dict_get`, `dictionary`, changed by `dict_put` and `dict_remove`.
+//! - [`Dictionary`]: the pairs of a value, to be looked at and to be changed into another dictionary; a share as a row is.
 //! - [`Row`]: the elements of a value, to be looked at as a slice of [`Element`]s. It is a share of the value's list: drop it
 //!   before the value is changed, or the change copies the list.
 //! - [`Element`]: an element of a list. Its text is always there.
@@ -14,12 +16,16 @@
 //! A call that only reads leaves the value as it was, and so does one that is refused.
 #![tactic(auto)]
 
+mod dict;
+mod dictionary;
 mod element;
 mod items;
 mod list;
+mod pairs;
 mod row;
 mod value;
 
+pub use dictionary::Dictionary;
 pub use element::Element;
 pub use row::Row;
 pub use value::Value;

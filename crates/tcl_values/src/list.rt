@@ -12,6 +12,7 @@ use crate::element::{Element, Entry, Items};
 use crate::items::{
     gathered, part, push_element, row_text, set_element, settle, splice, take_element,
 };
+use crate::pairs::dict_element;
 use crate::row::Row;
 use crate::value::{Held, Value};
 use std::alloc::{AllocError, Global};
@@ -50,7 +51,7 @@ fn read_text(alloc: Global, text: RcStr) -> Result<Rc<Items>, Fault>
 }
 
 /// Reads what is kept as a list, which is kept from now on.
-fn read_row(held: &mut Held, alloc: Global) -> Result<(), Fault>
+pub(crate) fn read_row(held: &mut Held, alloc: Global) -> Result<(), Fault>
     requires { IsHeld held.old }
     ensures read { Answers (λ _. texts (elements_held held.new)) result (elements_of (held_text held.old)) }
     ensures row { OnOk result (is_row held.new ≡ true) }
@@ -107,13 +108,14 @@ fn copy_values(alloc: Global, elements: &[Element]) -> Result<Vec<Value>, AllocE
 }
 
 impl Value {
-    /// The value as an element: its text is written, and a list that is too deep is dropped.
-    fn into_element(self, alloc: Global) -> Result<Element, AllocError>
+    /// The value as an element: its text is written, and a list or a dictionary that is too deep is dropped.
+    pub(crate) fn into_element(self, alloc: Global) -> Result<Element, AllocError>
         ensures text { IfOk result (λ e. e.text ≡ self) }
         ensures depth { IfOk result (λ e. e.depth < 64) }
     {
         match self.held {
             Held::Row(row) => row_element(row, alloc),
+            Held::Dict(pairs) => dict_element(pairs, alloc),
             Held::Text(text) => Ok(Element {
                 entry: Entry::Text(text),
             }),

@@ -6,10 +6,11 @@ ghost use Rattle.std.specs.Str.{chars};
 ghost use Rattle.std.specs.String.{string_bytes};
 ghost use Rattle.tcl_chars.specs.Whole.{whole_of};
 ghost use Rattle.tcl_list.specs.Texts.{text_of};
-ghost use Rattle.tcl_values.specs.Shape.{held_text, is_row, IsHeld};
+ghost use Rattle.tcl_values.specs.Shape.{held_text, is_dict, is_row, IsHeld};
 
-use crate::element::Items;
+use crate::element::{Items, Pairs};
 use crate::items::{row_text, show};
+use crate::pairs::{dict_text, show_pairs};
 use itoa::Buffer;
 use std::alloc::{AllocError, Global};
 use std::marker::Model;
@@ -33,6 +34,8 @@ pub(crate) enum Held {
     Grown(Rc<String>),
     /// A list.
     Row(Rc<Items>),
+    /// A dictionary.
+    Dict(Rc<Pairs>),
 }
 
 impl Model for Value {
@@ -92,8 +95,16 @@ impl Held {
         matches!(self, Held::Row(_))
     }
 
+    /// Is it a dictionary?
+    pub(crate) fn is_dict(&self) -> bool
+        ensures { result ≡ is_dict self.now }
+    {
+        matches!(self, Held::Dict(_))
+    }
+
     /// The text.
     pub(crate) fn text(&self, alloc: Global) -> Result<RcStr, AllocError>
+        requires { IsHeld self.now }
         ensures { IfOk result (λ t. text_of t ≡ held_text self.now) }
     {
         match self {
@@ -101,6 +112,7 @@ impl Held {
             Held::Text(text) => text.clone(),
             Held::Grown(text) => RcStr::from_str(alloc, text.as_str()),
             Held::Row(row) => row_text(row, alloc),
+            Held::Dict(pairs) => dict_text(pairs, alloc),
         }
     }
 }
@@ -140,6 +152,7 @@ impl Value {
     {
         match &mut self.held {
             Held::Row(row) => show(row, alloc),
+            Held::Dict(pairs) => show_pairs(pairs, alloc),
             held => held.text(alloc),
         }
     }
@@ -169,11 +182,12 @@ impl Value {
             Held::Text(text) => Held::Text(text.clone()?),
             Held::Grown(text) => Held::Grown(text.clone()?),
             Held::Row(row) => Held::Row(row.clone()?),
+            Held::Dict(pairs) => Held::Dict(pairs.clone()?),
         };
         Ok(Value { held })
     }
 
-    /// Its text, where it stands ready: not that of a number, nor that of a list which nobody has asked for its text.
+    /// Its text, where it stands ready: not that of a number, nor that of a list or a dictionary which nobody has asked for its text.
     pub fn shown(&self) -> Option<&str>
         ensures { IfSome result (λ t. chars t.now ≡ self.now) }
     {
@@ -182,6 +196,10 @@ impl Value {
             Held::Text(text) => Some(text.as_str()),
             Held::Grown(text) => Some(text.as_str()),
             Held::Row(row) => match &row.text {
+                Some(text) => Some(text.as_str()),
+                None => None,
+            },
+            Held::Dict(pairs) => match &pairs.text {
                 Some(text) => Some(text.as_str()),
                 None => None,
             },

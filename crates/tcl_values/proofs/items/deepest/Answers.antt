@@ -1,4 +1,4 @@
-use Rattle.std.proofs.Common.{◌≡◌, ◌+◌, ◌≤◌, ◌∙◌, suc, ap, max, arith}
+use Rattle.std.proofs.Common.{◌≤◌, suc, arith}
 use Rattle.tcl_values.specs.Kept.{depth_over}
 use Rattle.tcl_values.proofs.Depths.{depth_below, depth_more}
 use Rattle.tcl_values.proofs.items.deepest.Goals as goal

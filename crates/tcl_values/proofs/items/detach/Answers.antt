@@ -1,4 +1,4 @@
-use Rattle.std.proofs.Common.{◌≡◌, ◌<◌, ◌∙◌, Ok, ap, sym, arith}
+use Rattle.std.proofs.Common.{◌≡◌, ◌∙◌, Ok, ap, sym, arith}
 use Rattle.tcl_list.specs.Elements.{elements_of}
 use Rattle.tcl_values.specs.Kept.{texts, depth_over}
 use Rattle.tcl_values.specs.Shape.{shared_text}

@@ -1,4 +1,4 @@
-use Rattle.std.proofs.Common.{◌≡◌, ◌≤◌, ◌∙◌, ap, arith}
+use Rattle.std.proofs.Common.{◌≡◌, ◌∙◌, ap, arith}
 use Rattle.tcl_values.specs.Kept.{texts, depth_over}
 use Rattle.tcl_values.proofs.Depths.{depth_spliced}
 use Rattle.tcl_values.proofs.Joined.{reads_written}

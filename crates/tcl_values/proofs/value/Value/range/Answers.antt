@@ -1,4 +1,4 @@
-use Rattle.std.proofs.Common.{◌≡◌, ◌∙◌, ap, sym, take, drop}
+use Rattle.std.proofs.Common.{◌∙◌, ap, sym, take, drop}
 use Rattle.tcl_list.specs.Elements.{elements_of}
 use Rattle.tcl_values.specs.Shape.{elements}
 use Rattle.tcl_values.specs.declared.element.Items.{Items}

@@ -1,4 +1,4 @@
-use Rattle.std.proofs.Common.{◌≡◌, ◌∙◌, ap, sym}
+use Rattle.std.proofs.Common.{◌∙◌, ap, sym}
 use Rattle.tcl_list.specs.Elements.{elements_of}
 use Rattle.tcl_values.proofs.Replaced.{item_replaced}
 use Rattle.tcl_values.proofs.value.Value.replace_item.Goals as goal

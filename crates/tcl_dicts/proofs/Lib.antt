@@ -1,0 +1,2 @@
+pub mod DictWords
+pub mod Updating

@@ -1,0 +1,156 @@
+//! Commands that change a dictionary under a path of keys: dict(n), set, unset. They take the variable's value and the words behind
+//! its name, and leave in the value what its definition in `tcl_pages` makes of it; the words are left as they were, and so is the
+//! value where a call is refused.
+
+ghost use Rattle.std.specs.Prelude.{◌≡◌, ◌≤◌, ◌∷◌, [], ◌++◌, drop, length, map, take, IfOk, OnErr};
+ghost use Rattle.tcl_chars.specs.Answers.{Answers};
+ghost use Rattle.tcl_chars.specs.Texts.{text_of};
+ghost use Rattle.tcl_dicts.specs.Levels.{changed, changed_known, level_text, rebuilt};
+ghost use Rattle.tcl_pages.specs.DictPages as spec;
+ghost use Rattle.tcl_pages.specs.Updates.{dict_set_words};
+ghost use Rattle.tcl_values.specs.Lists.{Leaves};
+
+use crate::look::inner_of;
+use crate::update::value_or_empty;
+use crate::words::word_at;
+use std::alloc::{AllocError, Global};
+use std::rc::RcStr;
+use tcl_arguments::text_at;
+use tcl_chars::Fault;
+use tcl_values::Value;
+
+/// The texts of the words from a place on, in front of another one.
+fn keys_between(
+    alloc: Global,
+    words: &mut [Value],
+    first: usize,
+    last: usize,
+) -> Result<Vec<RcStr>, AllocError>
+    requires order { first ≤ last }
+    requires within { last ≤ length words.old }
+    ensures keys { IfOk result (λ v. map text_of v.items ≡ drop first (take last words.old)) }
+    ensures same { words.new ≡ words.old }
+{
+    let mut keys = Vec::new(alloc);
+    for place in first..last {
+        keys.push(text_at(alloc, words, place)?)?;
+    }
+    Ok(keys)
+}
+
+/// A value put back under the key of the innermost dictionary, that under the key of the one before, and so on.
+fn put_back(alloc: Global, levels: Vec<(Value, RcStr)>, value: Value) -> Result<Value, Fault>
+    ensures { Answers (λ v. v) result (rebuilt (map level_text levels.items) value) }
+{
+    let mut value = value;
+    for (level, key) in levels {
+        let mut level = level;
+        level.dict_put(alloc, key, value)?;
+        value = level;
+    }
+    Ok(value)
+}
+
+/// The dictionary with a value under the last of some keys. Levels that are missing are made.
+#[tactic(auto, using(crate::proofs::Updating::set_level, crate::proofs::Updating::set_stops))]
+fn with_value(alloc: Global, start: Value, keys: Vec<RcStr>, value: Value) -> Result<Value, Fault>
+    ensures { Answers (λ v. v) result (spec.dict_set start value (map text_of keys.items)) }
+{
+    let mut levels = Vec::with_capacity(alloc, keys.len())?;
+    let mut level = start;
+    for key in keys {
+        let inner = value_or_empty(alloc, &mut level, key.as_str())?;
+        levels.push((level, key))?;
+        level = inner;
+    }
+    levels.reverse();
+    put_back(alloc, levels, value)
+}
+
+/// Puts a value under the last of some keys.
+fn set_under(
+    alloc: Global,
+    value: &mut Value,
+    key: RcStr,
+    keys: Vec<RcStr>,
+    new: Value,
+) -> Result<(), Fault>
+    ensures done { Leaves value.new (changed value.old (text_of key) [] (λ old. spec.dict_set old new (map text_of keys.items))) result }
+    ensures same { OnErr result (value.new ≡ value.old) }
+{
+    let inner = value_or_empty(alloc, value, key.as_str())?;
+    let inner = with_value(alloc, inner, keys, new)?;
+    value.dict_put(alloc, key, inner)
+}
+
+/// `dict set dictVarName key ?key ...? value`: the last word is the value under the last of the keys. Levels that are missing are made.
+///
+/// # Errors
+///
+/// `Fault::Error` with a dictionary's fault, `Fault::Memory`; the value is then as it was.
+pub fn dict_set(alloc: Global, value: &mut Value, words: &mut [Value]) -> Result<(), Fault>
+    requires { 2 ≤ length words.old }
+    ensures done { Leaves value.new (dict_set_words value.old [] words.old) result }
+    ensures same { OnErr result (value.new ≡ value.old) }
+    ensures words { words.new ≡ words.old }
+{
+    let last = words.len() - 1;
+    let new = word_at(words, last)?;
+    let key = text_at(alloc, words, 0)?;
+    let keys = keys_between(alloc, words, 1, last)?;
+    set_under(alloc, value, key, keys, new)
+}
+
+/// The dictionary without the last of some keys, of which it has those before.
+#[tactic(auto, using(crate::proofs::Updating::unset_level, crate::proofs::Updating::unset_stops))]
+fn without_key(alloc: Global, start: Value, keys: Vec<RcStr>, last: RcStr) -> Result<Value, Fault>
+    ensures { Answers (λ v. v) result (spec.dict_unset start (map text_of keys.items ++ text_of last ∷ [])) }
+{
+    let mut levels = Vec::with_capacity(alloc, keys.len())?;
+    let mut level = start;
+    for key in keys {
+        let inner = inner_of(alloc, &mut level, key.as_str())?;
+        levels.push((level, key))?;
+        level = inner;
+    }
+    level.dict_remove(alloc, last.as_str())?;
+    levels.reverse();
+    put_back(alloc, levels, level)
+}
+
+/// Takes the last of some keys out.
+fn unset_under(
+    alloc: Global,
+    value: &mut Value,
+    key: RcStr,
+    keys: Vec<RcStr>,
+    last: RcStr,
+) -> Result<(), Fault>
+    ensures done { Leaves value.new (changed_known value.old (text_of key) (λ old. spec.dict_unset old (map text_of keys.items ++ text_of last ∷ []))) result }
+    ensures same { OnErr result (value.new ≡ value.old) }
+{
+    let inner = inner_of(alloc, value, key.as_str())?;
+    let less = without_key(alloc, inner, keys, last)?;
+    value.dict_put(alloc, key, less)
+}
+
+/// `dict unset dictVarName key ?key ...?`: the last of the keys is taken out; it may be missing, one before it may not.
+///
+/// # Errors
+///
+/// `Fault::Error` with a dictionary's fault or the first key that is missing, `Fault::Memory`; the value is then as it was.
+pub fn dict_unset(alloc: Global, value: &mut Value, words: &mut [Value]) -> Result<(), Fault>
+    requires { 1 ≤ length words.old }
+    ensures done { Leaves value.new (spec.dict_unset value.old words.old) result }
+    ensures same { OnErr result (value.new ≡ value.old) }
+    ensures words { words.new ≡ words.old }
+{
+    let last = words.len() - 1;
+    let key = text_at(alloc, words, last)?;
+    if last == 0 {
+        return value.dict_remove(alloc, key.as_str());
+    }
+    let first = text_at(alloc, words, 0)?;
+    let keys = keys_between(alloc, words, 1, last)?;
+    unset_under(alloc, value, first, keys, key)
+}

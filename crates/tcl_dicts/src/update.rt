@@ -1,0 +1,184 @@
+//! Commands that change the dictionary of a variable: dict(n), append, incr, lappend. They take the variable's value and
+//! the words behind its name, and leave in the value what its definition in `tcl_pages` makes of it; the words are left as they were,
+//! and so is the value where a call is refused.
+
+ghost use Rattle.std.specs.Prelude.{◌≡◌, ◌≤◌, ◌∷◌, [], drop, length, Ok, IfOk, OnErr};
+ghost use Rattle.std.specs.Str.{chars};
+ghost use Rattle.tcl_chars.specs.Answers.{Answers};
+ghost use Rattle.tcl_chars.specs.Texts.{text_of};
+ghost use Rattle.tcl_dicts.specs.Levels.{changed};
+ghost use Rattle.tcl_pages.specs.DictPages as spec;
+ghost use Rattle.tcl_pages.specs.Lists as lists;
+ghost use Rattle.tcl_pages.specs.Updates as updates;
+ghost use Rattle.tcl_values.specs.Lists.{Leaves};
+
+use crate::words::word_at;
+use std::alloc::{AllocError, Global};
+use std::rc::RcStr;
+use tcl_arguments::text_at;
+use tcl_chars::{Dialect, Fault, Op, binary, expect_number};
+use tcl_values::Value;
+
+/// The value of a key of a dictionary, or a text where the key isn't there.
+fn value_or(alloc: Global, first: &str, value: &mut Value, key: &str) -> Result<Value, Fault>
+    ensures value { Answers (λ v. v) result (spec.value_or (chars first.now) value.old (chars key.now)) }
+    ensures same { value.new ≡ value.old }
+{
+    match value.dict_get(alloc, key)? {
+        Some(inner) => Ok(inner),
+        None => Ok(Value::of_text(RcStr::from_str(alloc, first)?)),
+    }
+}
+
+/// The value of a key of a dictionary, or the empty text where the key isn't there.
+pub(crate) fn value_or_empty(alloc: Global, value: &mut Value, key: &str) -> Result<Value, Fault>
+    ensures value { Answers (λ v. v) result (spec.value_or [] value.old (chars key.now)) }
+    ensures same { value.new ≡ value.old }
+{
+    value_or(alloc, "", value, key)
+}
+
+/// A text with the words from a place on behind it.
+fn with_words(
+    alloc: Global,
+    text: Value,
+    words: &mut [Value],
+    first: usize,
+) -> Result<Value, AllocError>
+    requires { first ≤ length words.old }
+    ensures text { IfOk result (λ v. v ≡ updates.text_appended text (drop first words.old)) }
+    ensures same { words.new ≡ words.old }
+{
+    let mut text = text;
+    for place in first..words.len() {
+        let more = text_at(alloc, words, place)?;
+        text.append(alloc, more.as_str())?;
+    }
+    Ok(text)
+}
+
+/// A list with the words from a place on as its last elements.
+#[tactic(auto, using(crate::proofs::Updating::list_start))]
+fn with_elements(
+    alloc: Global,
+    list: Value,
+    words: &mut [Value],
+    first: usize,
+) -> Result<Value, Fault>
+    requires { first ≤ length words.old }
+    ensures list { Answers (λ v. v) result (lists.lappend list (drop first words.old)) }
+    ensures same { words.new ≡ words.old }
+{
+    let mut list = list;
+    list.count(alloc)?;
+    for place in first..words.len() {
+        list.push(alloc, word_at(words, place)?)?;
+    }
+    Ok(list)
+}
+
+/// A number with another one, that a word says, added.
+fn with_number(alloc: Global, number: Value, by: &str, dialect: Dialect) -> Result<Value, Fault>
+    ensures { Answers (λ v. v) result (updates.increased dialect number (chars by.now ∷ [])) }
+{
+    let mut number = number;
+    let text = number.text(alloc)?;
+    let old = expect_number(alloc, text.as_str(), dialect)?;
+    let by = expect_number(alloc, by, dialect)?;
+    match binary(Op::Add, old, by) {
+        Ok(new) => Ok(Value::of_int(new)),
+        Err(refused) => Err(Fault::Error(RcStr::from_str(alloc, refused.text())?)),
+    }
+}
+
+/// The words behind the first one, written behind the value of a key.
+fn append_under(
+    alloc: Global,
+    value: &mut Value,
+    key: RcStr,
+    words: &mut [Value],
+) -> Result<(), Fault>
+    requires { 1 ≤ length words.old }
+    ensures done { Leaves value.new (changed value.old (text_of key) [] (λ old. Ok (updates.text_appended old (drop 1 words.old)))) result }
+    ensures same { OnErr result (value.new ≡ value.old) }
+    ensures words { words.new ≡ words.old }
+{
+    let old = value_or_empty(alloc, value, key.as_str())?;
+    let new = with_words(alloc, old, words, 1)?;
+    value.dict_put(alloc, key, new)
+}
+
+/// The words behind the first one, as the last elements of the list that is the value of a key.
+fn lappend_under(
+    alloc: Global,
+    value: &mut Value,
+    key: RcStr,
+    words: &mut [Value],
+) -> Result<(), Fault>
+    requires { 1 ≤ length words.old }
+    ensures done { Leaves value.new (changed value.old (text_of key) [] (λ old. lists.lappend old (drop 1 words.old))) result }
+    ensures same { OnErr result (value.new ≡ value.old) }
+    ensures words { words.new ≡ words.old }
+{
+    let old = value_or_empty(alloc, value, key.as_str())?;
+    let new = with_elements(alloc, old, words, 1)?;
+    value.dict_put(alloc, key, new)
+}
+
+/// `dict append dictVarName key ?value ...?`: the words behind the key are written behind the key's value.
+///
+/// # Errors
+///
+/// `Fault::Error` with the dictionary's fault, `Fault::Memory`; the value is then as it was.
+pub fn dict_append(alloc: Global, value: &mut Value, words: &mut [Value]) -> Result<(), Fault>
+    ensures done { Leaves value.new (updates.by_key value.old words.old (updates.dict_append value.old)) result }
+    ensures same { OnErr result (value.new ≡ value.old) }
+    ensures words { words.new ≡ words.old }
+{
+    if words.is_empty() {
+        return Ok(());
+    }
+    let key = text_at(alloc, words, 0)?;
+    append_under(alloc, value, key, words)
+}
+
+/// `dict lappend dictVarName key ?value ...?`: the words behind the key are the last elements of the list that is the key's value.
+///
+/// # Errors
+///
+/// `Fault::Error` with the dictionary's fault or the list's, `Fault::Memory`; the value is then as it was.
+pub fn dict_lappend(alloc: Global, value: &mut Value, words: &mut [Value]) -> Result<(), Fault>
+    ensures done { Leaves value.new (updates.by_key value.old words.old (spec.dict_lappend value.old)) result }
+    ensures same { OnErr result (value.new ≡ value.old) }
+    ensures words { words.new ≡ words.old }
+{
+    if words.is_empty() {
+        return Ok(());
+    }
+    let key = text_at(alloc, words, 0)?;
+    lappend_under(alloc, value, key, words)
+}
+
+/// `dict incr dictVarName key ?increment?`: the number that is the key's value, or 0 where the key isn't there, with the increment added.
+///
+/// # Errors
+///
+/// `Fault::Error` with the dictionary's fault, that of the number or of the increment, or the overflow, `Fault::Memory`; the value is
+/// then as it was.
+pub fn dict_incr(
+    alloc: Global,
+    value: &mut Value,
+    words: &mut [Value],
+    dialect: Dialect,
+) -> Result<(), Fault>
+    requires { length words.old ≡ 2 }
+    ensures done { Leaves value.new (updates.by_key value.old words.old (updates.dict_incr dialect value.old)) result }
+    ensures same { OnErr result (value.new ≡ value.old) }
+    ensures words { words.new ≡ words.old }
+{
+    let key = text_at(alloc, words, 0)?;
+    let by = text_at(alloc, words, 1)?;
+    let old = value_or(alloc, "0", value, key.as_str())?;
+    let new = with_number(alloc, old, by.as_str(), dialect)?;
+    value.dict_put(alloc, key, new)
+}

@@ -1,0 +1,102 @@
+-- The element to which indices lead, a step at a time.
+use Rattle.std.proofs.Common.{◌≡◌, ◌≢◌, ℕ, zero, suc, ◌+◌, ◌<◌, ◌≤◌, List, [], ◌∷◌, length, drop, get_or, map, Ok, Err, sym, ap, ◌∙◌, refl, arith}
+use Rattle.std.proofs.lemmas.List.{drop_all}
+use Rattle.tcl_chars.specs.Answers.{Stops}
+use Rattle.tcl_chars.specs.declared.fault.Fault.{Fault}
+use Rattle.tcl_chars.specs.declared.fault.Fault.TheVariants as fault
+use Rattle.tcl_chars.specs.declared.numbers.Dialect.{Dialect}
+use Rattle.tcl_chars.specs.Texts.{literal}
+use Rattle.tcl_list.specs.Elements.{elements_of}
+use Rattle.tcl_lists.specs.WordAt.{word, item_by}
+use Rattle.tcl_pages.specs.Answers.{Answer, ◌>>=◌}
+use Rattle.tcl_pages.specs.Lists.{index, element_or_empty, element_at, element_by, lindex}
+use Rattle.tcl_pages.specs.Texts.{Text}
+use Rattle.tcl_pages.specs.Usage.{usage}
+use Rattle.tcl_values.specs.Kept.{Kept, texts}
+
+-- a question whose answer is used in two steps
+pub in_steps : {A B O : Type 0} (r : Answer O) (f : O → Answer A) (g : O → Answer B) (h : B → Answer A) → ((n : O) → f n ≡ (g n >>= h)) → (r >>= f) ≡ ((r >>= g) >>= h)
+in_steps (Ok n) f g h e = e n
+in_steps (Err m) f g h e = refl
+
+-- a fault of the first step is the fault of all
+pub stops_first : {A B : Type 0} (f : Fault) (r : Answer A) (g : A → Answer B) → Stops f r → Stops f (r >>= g)
+stops_first (fault.Error t) r g h = ap (λ x. x >>= g) h
+stops_first fault.Memory r g h = tt
+
+pub stops_same : {A : Type 0} (f : Fault) (r s : Answer A) → r ≡ s → Stops f r → Stops f s
+stops_same (fault.Error t) r s e h = sym e ∙ h
+stops_same fault.Memory r s e h = tt
+
+-- ---- words and elements at their places
+
+pub one_more : (n : ℕ) → suc n ≡ n + 1
+one_more n = omega arith
+
+rest_from : (ws : List Text) (i : ℕ) → i < length ws → drop i ws ≡ word ws i ∷ drop (suc i) ws
+rest_from [] i h = absurd (omega arith)
+rest_from (w ∷ ws) zero h = refl
+rest_from (w ∷ ws) (suc i) h = rest_from ws i (omega arith)
+
+pub rest_at : (ws : List Text) (i : ℕ) → i < length ws → drop i ws ≡ word ws i ∷ drop (i + 1) ws
+rest_at ws i h = rest_from ws i h ∙ ap (λ (n : ℕ). word ws i ∷ drop n ws) (one_more i)
+
+-- the same of a list of which something is seen
+module _ {A B : Type 0} (f : A → B) where
+  seen_from : (xs : List A) (i : ℕ) (x : A) → i < length xs → x ≡ get_or xs i x → drop i (map f xs) ≡ f x ∷ drop (suc i) (map f xs)
+  seen_from [] i x h e = absurd (omega arith)
+  seen_from (y ∷ xs) zero x h e = ap (λ z. f z ∷ map f xs) (sym e)
+  seen_from (y ∷ xs) (suc i) x h e = seen_from xs i x (omega arith) e
+
+  pub seen_at : (xs : List A) (i : ℕ) (x : A) → i < length xs → x ≡ get_or xs i x → drop i (map f xs) ≡ f x ∷ drop (i + 1) (map f xs)
+  seen_at xs i x h e = seen_from xs i x h e ∙ ap (λ (n : ℕ). f x ∷ drop n (map f xs)) (one_more i)
+
+pub texts_at : (ks : List Kept) (i : ℕ) (k : Kept) → i < length ks → k ≡ get_or ks i k → drop i (texts ks) ≡ k.text ∷ drop (i + 1) (texts ks)
+texts_at ks i k h e = seen_at (λ (k : Kept). k.text) ks i k h e
+
+pub text_there : (ks : List Kept) (i : ℕ) (k : Kept) → i < length ks → k ≡ get_or ks i k → get_or (texts ks) i [] ≡ k.text
+text_there [] i k h e = absurd (omega arith)
+text_there (x ∷ ks) zero k h e = ap (λ (y : Kept). y.text) (sym e)
+text_there (x ∷ ks) (suc i) k h e = text_there ks i k (omega arith) e
+
+pub text_beyond : (ks : List Kept) (i : ℕ) → length ks ≤ i → get_or (texts ks) i [] ≡ []
+text_beyond [] i h = refl
+text_beyond (x ∷ ks) zero h = absurd (omega arith)
+text_beyond (x ∷ ks) (suc i) h = text_beyond ks i (omega arith)
+
+-- ---- one index
+
+at_one_index : (d : Dialect) (list i : Text) (is : List Text) → element_at d list (i ∷ is) ≡ (item_by d list i >>= λ item. element_at d item is)
+at_one_index d list i is =
+    in_steps (elements_of list) _ _ _ (λ es. in_steps (index d i (length es)) (λ place. element_at d (element_or_empty es place) is) (λ place. Ok (element_or_empty es place)) (λ item. element_at d item is) (λ p. refl))
+
+pub index_goes_on : (d : Dialect) (list item t : Text) (ws : List Text) (i : ℕ) → i < length ws → t ≡ word ws i → item_by d list t ≡ Ok item → element_at d item (drop (i + 1) ws) ≡ element_at d list (drop i ws)
+index_goes_on d list item t ws i h w e =
+    sym (ap (element_at d list) (rest_at ws i h) ∙ at_one_index d list (word ws i) (drop (i + 1) ws) ∙ ap (λ u. item_by d list u >>= λ x. element_at d x (drop (i + 1) ws)) (sym w)
+    ∙ ap (λ r. r >>= λ x. element_at d x (drop (i + 1) ws)) e)
+
+pub index_stops : (d : Dialect) (f : Fault) (list t : Text) (ws : List Text) (i : ℕ) → i < length ws → t ≡ word ws i → Stops f (item_by d list t) → Stops f (element_at d list (drop i ws))
+index_stops d f list t ws i h w e =
+    stops_same f _ _ (sym (ap (element_at d list) (rest_at ws i h) ∙ at_one_index d list (word ws i) (drop (i + 1) ws) ∙ ap (λ u. item_by d list u >>= λ x. element_at d x (drop (i + 1) ws)) (sym w)))
+    (stops_first f (item_by d list t) (λ x. element_at d x (drop (i + 1) ws)) e)
+
+pub index_ends : (d : Dialect) (list : Text) (ws : List Text) (i : ℕ) → length ws ≤ i → element_at d list (drop i ws) ≡ Ok list
+index_ends d list ws i h = ap (element_at d list) (drop_all i ws h)
+
+-- ---- lindex
+
+pub lindex_usage : (d : Dialect) (ws : List Text) → length ws ≡ 0 → lindex d ws ≡ usage (literal "lindex list ?index ...?")
+lindex_usage d [] h = refl
+lindex_usage d (w ∷ ws) h = absurd (omega arith)
+
+pub lindex_by_list : (d : Dialect) (ws : List Text) → length ws ≡ 2 → lindex d ws ≡ element_by d (word ws 0) (elements_of (word ws 1))
+lindex_by_list d [] h = absurd (omega arith)
+lindex_by_list d (a ∷ []) h = absurd (omega arith)
+lindex_by_list d (a ∷ b ∷ []) h = refl
+lindex_by_list d (a ∷ b ∷ c ∷ ws) h = absurd (omega arith)
+
+pub lindex_by_words : (d : Dialect) (ws : List Text) → length ws ≢ 0 → length ws ≢ 2 → lindex d ws ≡ element_at d (word ws 0) (drop 1 ws)
+lindex_by_words d [] h k = absurd (h refl)
+lindex_by_words d (a ∷ []) h k = refl
+lindex_by_words d (a ∷ b ∷ []) h k = absurd (k refl)
+lindex_by_words d (a ∷ b ∷ c ∷ ws) h k = refl

@@ -1,0 +1,153 @@
+-- Words joined: what is left of each, and one behind the others.
+use Rattle.std.proofs.Common.{◌≡◌, ℕ, zero, suc, ◌+◌, ◌<◌, ◌==◌, Bool, true, false, ◌&&◌, List, [], ◌∷◌, ◌++◌, take, length, append_assoc, arith, refl, sym, ap, ◌∙◌}
+use Rattle.std.specs.Prelude.{cond}
+use Rattle.std.proofs.lemmas.Bool.{and_parts, false≢true}
+use Rattle.tcl_chars.specs.Characters.{backslash}
+use Rattle.tcl_chars.specs.Classes.{is_list_space}
+use Rattle.std.proofs.lemmas.List.{take_more}
+use Rattle.tcl_chars.specs.Whole.{skip_space}
+use Rattle.tcl_lists.proofs.IndexLemmas.{one_more}
+use Rattle.tcl_lists.specs.WordAt.{word}
+use Rattle.tcl_lists.specs.Joined.{is_empty, with_word}
+use Rattle.tcl_pages.specs.Lists.{trimmed_end, end_kept, behind_kept, trimmed, unless_empty, all_trimmed, concat, times}
+use Rattle.tcl_pages.specs.Texts.{Text, spaced, spaced_more}
+
+pub right_nil : {A : Type 0} (xs : List A) → xs ++ [] ≡ xs
+right_nil [] = refl
+right_nil (x ∷ xs) = ap (λ ys. x ∷ ys) (right_nil xs)
+
+abbrev all_space : Text → Bool
+all_space [] = true
+all_space (c ∷ cs) = is_list_space c && all_space cs
+
+-- A text is `end` and list space behind it, and `longer` has the first character of that.
+pub record IsTrimmed (all end longer : Text) : Type 0 where
+  space : Text
+  blank : all_space space ≡ true
+  joined : all ≡ end ++ space
+  one_more : longer ≡ end ++ take 1 space
+
+pub trim_begins : (t : Text) → IsTrimmed t t t
+trim_begins t = record { space = []; blank = refl; joined = sym (right_nil t); one_more = sym (right_nil t) }
+
+pub trim_goes_on : (all end longer front : Text) (c : ℕ) → end ≡ front ++ c ∷ [] → is_list_space c ≡ true → IsTrimmed all end longer → IsTrimmed all front end
+trim_goes_on all end longer front c e b t = record {
+  space = c ∷ t.space;
+  blank = ap (λ (x : Bool). x && all_space t.space) b ∙ t.blank;
+  joined = t.joined ∙ ap (λ u. u ++ t.space) e ∙ append_assoc front (c ∷ []) t.space;
+  one_more = e;
+}
+
+end_space : (c : ℕ) (ws : Text) → is_list_space c ≡ true → end_kept c ws ≡ []
+end_space c [] h = ap (λ b. cond b [] (c ∷ [])) h
+end_space c (w ∷ ws) h = ap (λ b. cond b [] (cond (c == backslash) (c ∷ w ∷ []) (c ∷ []))) h
+
+trimmed_space : (ws : Text) → all_space ws ≡ true → trimmed_end ws ≡ []
+unfolding trimmed_end
+trimmed_space [] h = refl
+trimmed_space (w ∷ ws) h = let p = and_parts _ _ h in ap (λ k. behind_kept w k ws) (trimmed_space ws p.1) ∙ end_space w ws p.0
+
+end_escaped : (c : ℕ) (ws : Text) → is_list_space c ≡ false → (c == backslash) ≡ true → end_kept c ws ≡ c ∷ take 1 ws
+end_escaped c [] h k = ap (λ b. cond b [] (c ∷ [])) h
+end_escaped c (w ∷ ws) h k = ap (λ b. cond b [] (cond (c == backslash) (c ∷ w ∷ []) (c ∷ []))) h ∙ ap (λ b. cond b (c ∷ w ∷ []) (c ∷ [])) k
+
+end_plain : (c : ℕ) (ws : Text) → is_list_space c ≡ false → (c == backslash) ≡ false → end_kept c ws ≡ c ∷ []
+end_plain c [] h k = ap (λ b. cond b [] (c ∷ [])) h
+end_plain c (w ∷ ws) h k = ap (λ b. cond b [] (cond (c == backslash) (c ∷ w ∷ []) (c ∷ []))) h ∙ ap (λ b. cond b (c ∷ w ∷ []) (c ∷ [])) k
+
+never_empty : (x : ℕ) (front : Text) (c : ℕ) (kept cs : Text) → behind_kept x (front ++ c ∷ kept) cs ≡ x ∷ (front ++ c ∷ kept)
+never_empty x [] c kept cs = refl
+never_empty x (y ∷ front) c kept cs = refl
+
+trimmed_front : (front : Text) (c : ℕ) (ws kept : Text) → all_space ws ≡ true → end_kept c ws ≡ c ∷ kept → trimmed_end (front ++ c ∷ ws) ≡ front ++ c ∷ kept
+unfolding trimmed_end
+trimmed_front [] c ws kept h e = ap (λ k. behind_kept c k ws) (trimmed_space ws h) ∙ e
+trimmed_front (x ∷ front) c ws kept h e = ap (λ k. behind_kept x k (front ++ c ∷ ws)) (trimmed_front front c ws kept h e) ∙ never_empty x front c kept (front ++ c ∷ ws)
+
+all_is : (all end longer front : Text) (c : ℕ) → end ≡ front ++ c ∷ [] → (t : IsTrimmed all end longer) → all ≡ front ++ c ∷ t.space
+all_is all end longer front c e t = t.joined ∙ ap (λ u. u ++ t.space) e ∙ append_assoc front (c ∷ []) t.space
+
+pub trim_escaped : (all end longer front : Text) (c : ℕ) → end ≡ front ++ c ∷ [] → is_list_space c ≡ false → (c == backslash) ≡ true → IsTrimmed all end longer → longer ≡ trimmed_end all
+trim_escaped all end longer front c e h k t =
+    t.one_more ∙ ap (λ u. u ++ take 1 t.space) e ∙ append_assoc front (c ∷ []) (take 1 t.space)
+    ∙ sym (ap trimmed_end (all_is all end longer front c e t) ∙ trimmed_front front c t.space (take 1 t.space) t.blank (end_escaped c t.space h k))
+
+pub trim_plain : (all end longer front : Text) (c : ℕ) → end ≡ front ++ c ∷ [] → is_list_space c ≡ false → (c == backslash) ≡ false → IsTrimmed all end longer → end ≡ trimmed_end all
+trim_plain all end longer front c e h k t =
+    e ∙ sym (ap trimmed_end (all_is all end longer front c e t) ∙ trimmed_front front c t.space [] t.blank (end_plain c t.space h k))
+
+pub trim_whole : (all end longer : Text) → end ≡ [] → IsTrimmed all end longer → end ≡ trimmed_end all
+trim_whole all end longer e t = e ∙ sym (ap trimmed_end (t.joined ∙ ap (λ u. u ++ t.space) e) ∙ trimmed_space t.space t.blank)
+
+-- ---- one word behind the others
+
+FirstFull : List Text → Type 0
+FirstFull [] = Unit {0}
+FirstFull ([] ∷ us) = ⊥
+FirstFull ((c ∷ cs) ∷ us) = Unit {0}
+
+full_unless : (t : Text) (us : List Text) → FirstFull us → FirstFull (unless_empty t us)
+unfolding FirstFull
+full_unless [] us h = h
+full_unless (c ∷ cs) us h = tt
+
+full_trimmed : (ws : List Text) → FirstFull (all_trimmed ws)
+unfolding FirstFull
+full_trimmed [] = tt
+full_trimmed (w ∷ ws) = full_unless (trimmed w) (all_trimmed ws) (full_trimmed ws)
+
+unless_append : (t : Text) (us vs : List Text) → unless_empty t (us ++ vs) ≡ unless_empty t us ++ vs
+unless_append [] us vs = refl
+unless_append (c ∷ cs) us vs = refl
+
+trimmed_append : (ws : List Text) (w : Text) → all_trimmed (ws ++ w ∷ []) ≡ all_trimmed ws ++ unless_empty (trimmed w) []
+trimmed_append [] w = refl
+trimmed_append (x ∷ ws) w = ap (unless_empty (trimmed x)) (trimmed_append ws w) ∙ unless_append (trimmed x) (all_trimmed ws) (unless_empty (trimmed w) [])
+
+spaced_append : (us : List Text) (t : Text) → spaced_more (us ++ t ∷ []) ≡ spaced_more us ++ 32 ∷ t
+spaced_append [] t = ap (λ v. 32 ∷ v) (right_nil t)
+spaced_append (u ∷ us) t = ap (λ v. 32 ∷ (u ++ v)) (spaced_append us t) ∙ ap (λ v. 32 ∷ v) (sym (append_assoc u (spaced_more us) (32 ∷ t)))
+
+spaced_behind : (us : List Text) (t : Text) → FirstFull us → spaced (us ++ unless_empty t []) ≡ with_word (spaced us) t
+unfolding FirstFull
+spaced_behind us [] h = ap spaced (right_nil us)
+spaced_behind [] (c ∷ cs) h = right_nil (c ∷ cs)
+spaced_behind ([] ∷ us) (c ∷ cs) h = absurd h
+spaced_behind ((a ∷ u) ∷ us) (c ∷ cs) h = ap (λ v. a ∷ (u ++ v)) (spaced_append us (c ∷ cs)) ∙ ap (λ v. a ∷ v) (sym (append_assoc u (spaced_more us) (32 ∷ c ∷ cs)))
+
+pub concat_more : (ws : List Text) (w : Text) → concat (ws ++ w ∷ []) ≡ with_word (concat ws) (trimmed w)
+concat_more ws w = ap spaced (trimmed_append ws w) ∙ spaced_behind (all_trimmed ws) (trimmed w) (full_trimmed ws)
+
+-- ---- a word written
+
+pub left_out : (t w : Text) → is_empty w ≡ true → t ≡ with_word t w
+left_out t [] h = refl
+left_out t (c ∷ cs) h = absurd (false≢true h)
+
+pub stands_first : (t w : Text) → is_empty w ≡ false → is_empty t ≡ true → t ++ w ≡ with_word t w
+stands_first t [] h k = absurd (false≢true (sym h))
+stands_first [] (c ∷ cs) h k = refl
+stands_first (a ∷ t) (c ∷ cs) h k = absurd (false≢true k)
+
+pub stands_behind : (t w : Text) → is_empty w ≡ false → is_empty t ≡ false → (t ++ 32 ∷ []) ++ w ≡ with_word t w
+stands_behind t [] h k = absurd (false≢true (sym h))
+stands_behind [] (c ∷ cs) h k = absurd (false≢true (sym k))
+stands_behind (a ∷ t) (c ∷ cs) h k = ap (λ u. a ∷ u) (append_assoc t (32 ∷ []) (c ∷ cs))
+
+-- ---- elements many times
+
+times_back : (n : ℕ) (es : List Text) → times n es ++ es ≡ times (suc n) es
+times_back zero es = sym (right_nil es)
+times_back (suc n) es = append_assoc es (times n es) es ∙ ap (λ us. es ++ us) (times_back n es)
+
+pub times_more : (n : ℕ) (es : List Text) → times n es ++ es ≡ times (n + 1) es
+times_more n es = times_back n es ∙ ap (λ (m : ℕ). times m es) (one_more n)
+
+pub times_none : (n : ℕ) (es : List Text) → length es ≡ 0 → times n es ≡ []
+times_none zero es h = refl
+times_none (suc n) [] h = times_none n [] h
+times_none (suc n) (e ∷ es) h = absurd (omega arith)
+
+pub concat_step : (ws : List Text) (i : ℕ) (t e joined new : Text) → i < length ws → t ≡ word ws i → e ≡ trimmed_end (skip_space t) → joined ≡ concat (take i ws) → new ≡ with_word joined e → new ≡ concat (take (i + 1) ws)
+concat_step ws i t e joined new h et ee ej en =
+    en ∙ ap (λ u. with_word u e) ej ∙ ap (with_word (concat (take i ws))) (ee ∙ ap trimmed et) ∙ sym (concat_more (take i ws) (word ws i)) ∙ ap concat (sym (take_more ws i [] h))

@@ -1,0 +1,54 @@
+//! Elements many times: lrepeat(n).
+
+ghost use Rattle.std.specs.Prelude.{◌≡◌, drop, IfOk};
+ghost use Rattle.tcl_chars.specs.Answers.{Answers};
+ghost use Rattle.tcl_list.specs.Written.{written};
+ghost use Rattle.tcl_pages.specs.Lists as spec;
+
+use crate::message::usage;
+use crate::range::values_from;
+use crate::whole::push_values;
+use crate::words::text_at;
+use std::alloc::{AllocError, Global};
+use tcl_chars::{Dialect, Fault, about, expect_number};
+use tcl_values::Value;
+
+/// The list of the values so many times.
+fn repeated(alloc: Global, values: &[Value], count: u64) -> Result<Value, AllocError>
+    ensures { IfOk result (λ v. v ≡ written (spec.times count values.now)) }
+{
+    let mut all = Vec::new(alloc);
+    if values.len() == 0 {
+        return Value::of_list(alloc, all);
+    }
+    all.reserve((values.len() as u64).saturating_mul(count) as usize)?;
+    for done in 0..count {
+        push_values(&mut all, values)?;
+    }
+    Value::of_list(alloc, all)
+}
+
+/// `lrepeat count ?element ...?`: the list of the elements so many times.
+///
+/// # Errors
+///
+/// `Fault::Error` with the usage or what is wrong with the count, `Fault::Memory`.
+pub fn lrepeat(alloc: Global, words: &mut [Value], dialect: Dialect) -> Result<Value, Fault>
+    ensures answer { Answers (λ v. v) result (spec.lrepeat dialect words.old) }
+    ensures same { words.new ≡ words.old }
+{
+    if words.len() == 0 {
+        return usage(alloc, "lrepeat count ?element ...?");
+    }
+    let text = text_at(alloc, words, 0)?;
+    let count = expect_number(alloc, text.as_str(), dialect)?;
+    if count < 0 {
+        return Err(Fault::Error(about(
+            alloc,
+            "bad count",
+            text.as_str(),
+            ": must be integer >= 0",
+        )?));
+    }
+    Ok(repeated(alloc, values_from(&*words, 1), count as u64)?)
+}

@@ -1,0 +1,230 @@
+//! Texts compared and sought in one another: string(n), compare, equal, match, first, last.
+
+ghost use Rattle.std.specs.Prelude.{◌≡◌, true, false, length, drop, option_map, MatchOption, IfOk, IfSome, ◌<◌};
+ghost use Rattle.std.specs.Str.{chars};
+ghost use Rattle.tcl_chars.specs.Answers.{Answers};
+ghost use Rattle.tcl_chars.specs.Texts.{text_of};
+ghost use Rattle.tcl_pages.specs.Operators as truths;
+ghost use Rattle.tcl_pages.specs.Strings as spec;
+
+use crate::glob::glob_match;
+use crate::places::{count, count_value, value_of};
+use std::alloc::{AllocError, Global};
+use std::cmp::Ordering;
+use std::rc::RcStr;
+use tcl_arguments::{index_of, two_or_three_texts, two_texts};
+use tcl_chars::{Dialect, Fault, compare, is_text, split_first};
+use tcl_values::Value;
+
+/// What an order is called.
+fn order_text(order: Ordering) -> &'static str
+    ensures { chars result.now ≡ spec.order_text order }
+{
+    match order {
+        Ordering::Less => "-1",
+        Ordering::Equal => "0",
+        Ordering::Greater => "1",
+    }
+}
+
+/// What a truth value is called.
+pub(crate) fn truth_text(truth: bool) -> &'static str
+    ensures { chars result.now ≡ truths.truth_text truth }
+{
+    if truth { "1" } else { "0" }
+}
+
+/// What the text has left behind a front, if it begins with it.
+pub(crate) fn behind_front<'a>(front: &str, text: &'a str) -> Option<&'a str>
+    ensures begins { MatchOption result (spec.begins_with (chars front.now) (chars text.now) ≡ false)
+        (λ rest. spec.begins_with (chars front.now) (chars text.now) ≡ true) }
+    ensures rest { IfSome result (λ rest. chars rest.now ≡ drop (length (chars front.now)) (chars text.now)) }
+{
+    let mut wanted = front;
+    let mut rest = text;
+    while let Some((c, more)) = split_first(wanted) {
+        let (d, after) = split_first(rest)?;
+        if c != d {
+            return None;
+        }
+        wanted = more;
+        rest = after;
+    }
+    Some(rest)
+}
+
+/// Is the place before another?
+fn is_before(place: usize, start: i128) -> bool
+    ensures { result ≡ spec.is_before place start }
+{
+    i128::from(place as u64) < start
+}
+
+/// Does what is so long and begins at the place end at another one at the latest?
+fn ends_by(size: usize, end: i128, place: usize) -> bool
+    requires { 0 < size }
+    ensures { result ≡ spec.ends_by size end place }
+{
+    i128::from(place as u64) + i128::from(size as u64) - 1 <= end
+}
+
+/// The first place, not before the start, where the needle stands in a text of so many characters.
+fn first_place(needle: &str, text: &str, count: usize, start: i128) -> Option<usize>
+    requires { count ≡ length (chars text.now) }
+    ensures { result ≡ spec.first_from start (spec.found_at (chars needle.now) (chars text.now)) }
+{
+    split_first(needle)?;
+    let mut rest = text;
+    let mut place = 0;
+    while let Some((_, after)) = split_first(rest) {
+        if !is_before(place, start) && behind_front(needle, rest).is_some() {
+            return Some(place);
+        }
+        place += 1;
+        rest = after;
+    }
+    None
+}
+
+/// The last place where the needle stands in a text of so many characters, and ends at the end at the latest.
+fn last_place(needle: &str, text: &str, text_size: usize, end: i128) -> Option<usize>
+    requires { text_size ≡ length (chars text.now) }
+    ensures { result ≡ spec.last_until (length (chars needle.now)) end None (spec.found_at (chars needle.now) (chars text.now)) }
+{
+    split_first(needle)?;
+    let size = count(needle);
+    let mut found = None;
+    let mut rest = text;
+    let mut place = 0;
+    while let Some((_, after)) = split_first(rest) {
+        if ends_by(size, end, place) && behind_front(needle, rest).is_some() {
+            found = Some(place);
+        }
+        place += 1;
+        rest = after;
+    }
+    found
+}
+
+/// The value that is a place in decimal, or -1 where there is none.
+fn place_value(alloc: Global, place: Option<usize>) -> Result<Value, AllocError>
+    ensures { IfOk result (λ v. v ≡ spec.place_text place) }
+{
+    match place {
+        Some(place) => count_value(alloc, place),
+        None => value_of(alloc, "-1"),
+    }
+}
+
+/// Where a search begins among so many characters: at the first one where no index is given.
+fn start_of(
+    alloc: Global,
+    index: &Option<RcStr>,
+    count: usize,
+    dialect: Dialect,
+) -> Result<i128, Fault>
+    ensures { Answers (λ z. z) result (spec.start_of dialect (option_map text_of index.now) count) }
+{
+    match index {
+        Some(index) => index_of(alloc, index.as_str(), count, dialect),
+        None => Ok(0),
+    }
+}
+
+/// What is found ends there at the latest, among so many characters: at the last one where no index is given.
+fn end_of(
+    alloc: Global,
+    index: &Option<RcStr>,
+    count: usize,
+    dialect: Dialect,
+) -> Result<i128, Fault>
+    ensures { Answers (λ z. z) result (spec.end_of dialect (option_map text_of index.now) count) }
+{
+    match index {
+        Some(index) => index_of(alloc, index.as_str(), count, dialect),
+        None => Ok(i128::from(count as u64)),
+    }
+}
+
+/// `string compare string1 string2`: -1, 0 or 1, as the first comes before, is or comes behind the second by code points.
+///
+/// # Errors
+///
+/// `Fault::Error` with the usage, `Fault::Memory`.
+pub fn string_compare(alloc: Global, words: &mut [Value]) -> Result<Value, Fault>
+    ensures answer { Answers (λ v. v) result (spec.string_compare words.old) }
+    ensures same { words.new ≡ words.old }
+{
+    let (a, b) = two_texts(alloc, words, "string compare string1 string2")?;
+    Ok(value_of(alloc, order_text(compare(a.as_str(), b.as_str())))?)
+}
+
+/// `string equal string1 string2`: 1 where the texts are the same, else 0.
+///
+/// # Errors
+///
+/// `Fault::Error` with the usage, `Fault::Memory`.
+pub fn string_equal(alloc: Global, words: &mut [Value]) -> Result<Value, Fault>
+    ensures answer { Answers (λ v. v) result (spec.string_equal words.old) }
+    ensures same { words.new ≡ words.old }
+{
+    let (a, b) = two_texts(alloc, words, "string equal string1 string2")?;
+    Ok(value_of(alloc, truth_text(is_text(a.as_str(), b.as_str())))?)
+}
+
+/// `string match pattern string`: 1 where the text matches the pattern, else 0.
+///
+/// # Errors
+///
+/// `Fault::Error` with the usage, `Fault::Memory`.
+pub fn string_match(alloc: Global, words: &mut [Value]) -> Result<Value, Fault>
+    ensures answer { Answers (λ v. v) result (spec.string_match words.old) }
+    ensures same { words.new ≡ words.old }
+{
+    let (pattern, text) = two_texts(alloc, words, "string match pattern string")?;
+    Ok(value_of(
+        alloc,
+        truth_text(glob_match(pattern.as_str(), text.as_str())),
+    )?)
+}
+
+/// `string first needleString haystackString ?startIndex?`: the first place of the needle that isn't before the start, or -1.
+///
+/// # Errors
+///
+/// `Fault::Error` with the usage or the bad index, `Fault::Memory`.
+pub fn string_first(alloc: Global, words: &mut [Value], dialect: Dialect) -> Result<Value, Fault>
+    ensures answer { Answers (λ v. v) result (spec.string_first dialect words.old) }
+    ensures same { words.new ≡ words.old }
+{
+    let (needle, text, index) = two_or_three_texts(
+        alloc,
+        words,
+        "string first needleString haystackString ?startIndex?",
+    )?;
+    let size = count(text.as_str());
+    let start = start_of(alloc, &index, size, dialect)?;
+    let place = first_place(needle.as_str(), text.as_str(), size, start);
+    Ok(place_value(alloc, place)?)
+}
+
+/// `string last needleString haystackString ?lastIndex?`: the last place of the needle at which it doesn't end behind the last
+/// index, or -1.
+///
+/// # Errors
+///
+/// `Fault::Error` with the usage or the bad index, `Fault::Memory`.
+pub fn string_last(alloc: Global, words: &mut [Value], dialect: Dialect) -> Result<Value, Fault>
+    ensures answer { Answers (λ v. v) result (spec.string_last dialect words.old) }
+    ensures same { words.new ≡ words.old }
+{
+    let (needle, text, index) = two_or_three_texts(
+        alloc,
+        words,
+        "string last needleString haystackString ?lastIndex?",
+    )?;
+    let size = count(text.as_str());
+    let end = end_of(alloc, &index, size, dialect)?;
+    let place = last_place(needle.as_str(), text.as_str(), size, end);
+    Ok(place_value(alloc, place)?)
+}

@@ -1,0 +1,4 @@
+pub mod ElementLemmas
+pub mod SetLemmas
+pub mod UpdateLemmas
+pub mod WayLemmas

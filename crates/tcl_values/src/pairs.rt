@@ -1,0 +1,328 @@
+//! The pairs of a dictionary that is kept, behind a shared pointer: read, written, changed.
+
+ghost use Rattle.std.specs.Prelude.{◌≡◌, ◌<◌, ◌≤◌, ◌∷◌, [], ◌++◌, None, false, length, option_map, remove, slice_set, IfOk, OnOk, OnErr};
+ghost use Rattle.std.specs.List.{list_any};
+ghost use Rattle.std.specs.Option.{IsSome};
+ghost use Rattle.std.specs.Rc.{rc_str_bytes};
+ghost use Rattle.std.specs.Str.{bytes_eq, chars};
+ghost use Rattle.tcl_chars.specs.Answers.{Answers};
+ghost use Rattle.tcl_chars.specs.Texts.{text_of};
+ghost use Rattle.tcl_pages.specs.Dictionaries.{put_key};
+ghost use Rattle.tcl_pages.specs.DictPages.{dictionary, value_at, without_key};
+ghost use Rattle.tcl_values.specs.Kept.{texts, depth_over};
+ghost use Rattle.tcl_values.specs.Paired.{missing_value, read_pairs};
+ghost use Rattle.tcl_values.specs.Shape.{elements, items_text, pairs_in, pairs_text, AreKept, ArePaired};
+
+use crate::element::{Element, Entry, Items, Pairs};
+use crate::items::{copy_elements, copy_text, row_text};
+use indexmap::IndexSet;
+use std::alloc::{AllocError, Global};
+use std::rc::{Rc, RcStr};
+use tcl_chars::Fault;
+use tcl_list::append_element;
+
+impl Clone for Pairs {
+    ghost use Rattle.tcl_values.specs.Shape.{AreSamePairs};
+
+    ghost is_clone = { AreSamePairs };
+
+    fn clone(&self) -> Result<Pairs, AllocError> {
+        let values = copy_elements(*self.values.allocator(), &self.values)?;
+        Ok(Pairs {
+            text: copy_text(&self.text)?,
+            depth: self.depth,
+            keys: self.keys.clone()?,
+            values,
+        })
+    }
+}
+
+/// The keys and values in turn, written as a list.
+fn write_pairs(alloc: Global, pairs: &Pairs) -> Result<RcStr, AllocError>
+    requires { length pairs.now.keys.keys ≡ length pairs.now.values.items }
+    ensures { IfOk result (λ t. text_of t ≡ dictionary (pairs_in pairs.now)) }
+{
+    let keys = pairs.keys.as_slice();
+    let values = pairs.values.as_slice();
+    let mut text = String::new(alloc);
+    for place in 0..keys.len() {
+        append_element(&mut text, keys[place].as_str(), place == 0)?;
+        append_element(&mut text, values[place].text(), false)?;
+    }
+    RcStr::from_string(text)
+}
+
+/// The text of a dictionary.
+pub(crate) fn dict_text(pairs: &Pairs, alloc: Global) -> Result<RcStr, AllocError>
+    requires { ArePaired pairs.now }
+    ensures { IfOk result (λ t. text_of t ≡ pairs_text pairs.now) }
+{
+    match &pairs.text {
+        Some(text) => text.clone(),
+        None => write_pairs(alloc, pairs),
+    }
+}
+
+/// The text of a dictionary, which is kept from now on where nobody else holds the dictionary.
+pub(crate) fn show_pairs(pairs: &mut Rc<Pairs>, alloc: Global) -> Result<RcStr, AllocError>
+    requires { ArePaired pairs.old.value }
+    ensures text { IfOk result (λ t. text_of t ≡ pairs_text pairs.old.value) }
+    ensures same { pairs_text pairs.new.value ≡ pairs_text pairs.old.value }
+    ensures kept { ArePaired pairs.new.value }
+{
+    if let Some(text) = &pairs.text {
+        return text.clone();
+    }
+    let text = write_pairs(alloc, pairs)?;
+    let copy = text.clone()?;
+    if let Some(own) = Rc::get_mut(pairs) {
+        own.text = Some(copy);
+    }
+    Ok(text)
+}
+
+/// Writes the text of a dictionary beside it, where it isn't there yet. A dictionary that has other owners is copied first.
+fn settle_pairs(pairs: &mut Rc<Pairs>, alloc: Global) -> Result<(), AllocError>
+    requires { ArePaired pairs.old.value }
+    ensures there { OnOk result (IsSome pairs.new.value.text) }
+    ensures same { pairs_text pairs.new.value ≡ pairs_text pairs.old.value }
+    ensures depth { pairs.new.value.depth ≡ pairs.old.value.depth }
+    ensures kept { ArePaired pairs.new.value }
+{
+    if pairs.text.is_some() {
+        return Ok(());
+    }
+    let text = write_pairs(alloc, pairs)?;
+    let own = Rc::make_mut(pairs)?;
+    own.text = Some(text);
+    Ok(())
+}
+
+/// A dictionary as an element, with its text; one that is too deep is its text alone.
+pub(crate) fn dict_element(mut pairs: Rc<Pairs>, alloc: Global) -> Result<Element, AllocError>
+    requires { ArePaired pairs.value }
+    ensures text { IfOk result (λ e. e.text ≡ pairs_text pairs.value) }
+    ensures depth { IfOk result (λ e. e.depth < 64) }
+{
+    if pairs.depth < 64 {
+        settle_pairs(&mut pairs, alloc)?;
+        return Ok(Element {
+            entry: Entry::Dict(pairs),
+        });
+    }
+    Ok(Element {
+        entry: Entry::Text(dict_text(&pairs, alloc)?),
+    })
+}
+
+/// How many pairs there are.
+pub(crate) fn count_pairs(pairs: &Pairs) -> usize
+    requires { length pairs.now.keys.keys ≡ length pairs.now.values.items }
+    ensures { result ≡ length (pairs_in pairs.now) }
+{
+    pairs.values.len()
+}
+
+/// The value of a key.
+pub(crate) fn find_pair<'a>(pairs: &'a Pairs, key: &str) -> Option<&'a Element>
+    requires { length pairs.now.keys.keys ≡ length pairs.now.values.items }
+    ensures { option_map (λ e. e.now.text) result ≡ value_at (chars key.now) (pairs_in pairs.now) }
+{
+    match pairs.keys.get_index_of(key) {
+        Some(place) => Some(&pairs.values[place]),
+        None => None,
+    }
+}
+
+/// No pairs.
+pub(crate) fn no_pairs(alloc: Global) -> Pairs
+    ensures pairs { pairs_in result ≡ [] }
+    ensures text { result.text ≡ None }
+    ensures kept { ArePaired result }
+{
+    Pairs {
+        text: None,
+        depth: 1,
+        keys: IndexSet::new(alloc),
+        values: Vec::new(alloc),
+    }
+}
+
+/// Puts another value at a place.
+fn set_value(own: &mut Pairs, place: usize, value: Element)
+    requires place { place < length own.old.values.items }
+    requires value { value.depth < 64 }
+    requires limit { own.old.depth ≤ 64 }
+    requires deeper { depth_over own.old.values.items ≤ own.old.depth }
+    ensures keys { own.new.keys.keys ≡ own.old.keys.keys }
+    ensures values { own.new.values.items ≡ slice_set own.old.values.items place value }
+    ensures limit { own.new.depth ≤ 64 }
+    ensures deeper { depth_over own.new.values.items ≤ own.new.depth }
+    ensures text { own.new.text ≡ None }
+{
+    own.depth = own.depth.max(value.depth() + 1);
+    own.values[place] = value;
+    own.text = None;
+}
+
+/// Adds a key that isn't there, with its value.
+fn add_pair(own: &mut Pairs, key: RcStr, value: Element) -> Result<(), AllocError>
+    requires absent { list_any (λ k. bytes_eq (rc_str_bytes key) (rc_str_bytes k)) own.old.keys.keys ≡ false }
+    requires value { value.depth < 64 }
+    requires limit { own.old.depth ≤ 64 }
+    requires deeper { depth_over own.old.values.items ≤ own.old.depth }
+    ensures keys { OnOk result (own.new.keys.keys ≡ own.old.keys.keys ++ key ∷ []) }
+    ensures values { OnOk result (own.new.values.items ≡ own.old.values.items ++ value ∷ []) }
+    ensures text { OnOk result (own.new.text ≡ None) }
+    ensures same_keys { OnErr result (own.new.keys.keys ≡ own.old.keys.keys) }
+    ensures same_values { OnErr result (own.new.values.items ≡ own.old.values.items) }
+    ensures same_text { OnErr result (own.new.text ≡ own.old.text) }
+    ensures limit { own.new.depth ≤ 64 }
+    ensures deeper { depth_over own.new.values.items ≤ own.new.depth }
+{
+    let depth = value.depth() + 1;
+    own.values.push(value)?;
+    if let Err(_) = own.keys.insert(key) {
+        own.values.pop();
+        return Err(AllocError);
+    }
+    own.depth = own.depth.max(depth);
+    own.text = None;
+    Ok(())
+}
+
+/// Puts a value at a key.
+pub(crate) fn put_own(own: &mut Pairs, key: RcStr, value: Element) -> Result<(), AllocError>
+    requires value { value.depth < 64 }
+    requires kept { ArePaired own.old }
+    ensures put { OnOk result (pairs_in own.new ≡ put_key (pairs_in own.old) (text_of key) value.text) }
+    ensures text { OnOk result (own.new.text ≡ None) }
+    ensures same { OnErr result (pairs_text own.new ≡ pairs_text own.old) }
+    ensures kept { ArePaired own.new }
+{
+    match own.keys.get_index_of(&key) {
+        Some(place) => {
+            set_value(own, place, value);
+            Ok(())
+        }
+        None => {
+            add_pair(own, key, value)?;
+            Ok(())
+        }
+    }
+}
+
+/// Puts a value at a key of a dictionary, in place where nobody else holds the dictionary.
+pub(crate) fn put_pair(pairs: &mut Rc<Pairs>, key: RcStr, value: Element) -> Result<(), AllocError>
+    requires value { value.depth < 64 }
+    requires kept { ArePaired pairs.old.value }
+    ensures put { OnOk result (pairs_in pairs.new.value ≡ put_key (pairs_in pairs.old.value) (text_of key) value.text) }
+    ensures text { OnOk result (pairs_text pairs.new.value ≡ dictionary (pairs_in pairs.new.value)) }
+    ensures same { OnErr result (pairs_text pairs.new.value ≡ pairs_text pairs.old.value) }
+    ensures kept { ArePaired pairs.new.value }
+{
+    let own = Rc::make_mut(pairs)?;
+    put_own(own, key, value)
+}
+
+/// The error of a key that has no value.
+fn missing_value(alloc: Global) -> Result<RcStr, AllocError>
+    ensures { IfOk result (λ t. text_of t ≡ missing_value) }
+{
+    RcStr::from_str(alloc, "missing value to go with key")
+}
+
+/// Elements two by two as pairs.
+fn build_pairs(alloc: Global, elements: &[Element]) -> Result<Pairs, Fault>
+    requires { depth_over elements.now ≤ 64 }
+    ensures pairs { Answers (λ p. pairs_in p) result (read_pairs [] (texts elements.now)) }
+    ensures kept { IfOk result (λ p. ArePaired p) }
+{
+    let mut pairs = no_pairs(alloc);
+    let mut rest = elements;
+    while let Some((key, behind)) = rest.split_first() {
+        let Some((value, after)) = behind.split_first() else {
+            return Err(Fault::Error(missing_value(alloc)?));
+        };
+        put_own(&mut pairs, key.shared_text()?, value.duplicate()?)?;
+        rest = after;
+    }
+    Ok(pairs)
+}
+
+/// The dictionary that a list is read as, with the list's text.
+pub(crate) fn paired(alloc: Global, row: &Items) -> Result<Rc<Pairs>, Fault>
+    requires { AreKept row.now }
+    ensures pairs { Answers (λ p. pairs_in p.value) result (read_pairs [] (texts (elements row.now))) }
+    ensures same { IfOk result (λ p. pairs_text p.value ≡ items_text row.now) }
+    ensures kept { IfOk result (λ p. ArePaired p.value) }
+{
+    let text = row_text(row, alloc)?;
+    let mut pairs = build_pairs(alloc, &row.items)?;
+    pairs.text = Some(text);
+    Ok(Rc::new(alloc, pairs)?)
+}
+
+/// Takes the key at a place out, with its value.
+fn remove_at(own: &mut Pairs, place: usize)
+    requires place { place < length own.old.values.items }
+    requires even { length own.old.keys.keys ≡ length own.old.values.items }
+    requires deeper { depth_over own.old.values.items ≤ own.old.depth }
+    ensures keys { own.new.keys.keys ≡ remove own.old.keys.keys place }
+    ensures values { own.new.values.items ≡ remove own.old.values.items place }
+    ensures depth { own.new.depth ≡ own.old.depth }
+    ensures deeper { depth_over own.new.values.items ≤ own.new.depth }
+    ensures text { own.new.text ≡ own.old.text }
+{
+    own.keys.shift_remove_index(place);
+    own.values.remove(place);
+}
+
+/// Takes a key out, with its value.
+fn remove_own(own: &mut Pairs, key: &str)
+    requires { ArePaired own.old }
+    ensures removed { pairs_in own.new ≡ without_key (chars key.now) (pairs_in own.old) }
+    ensures text { own.new.text ≡ None }
+    ensures kept { ArePaired own.new }
+{
+    own.text = None;
+    match own.keys.get_index_of(key) {
+        Some(place) => remove_at(own, place),
+        None => {}
+    }
+}
+
+/// Takes a key out of a dictionary, with its value, in place where nobody else holds the dictionary.
+pub(crate) fn remove_pair(pairs: &mut Rc<Pairs>, key: &str) -> Result<(), AllocError>
+    requires { ArePaired pairs.old.value }
+    ensures removed { OnOk result (pairs_in pairs.new.value ≡ without_key (chars key.now) (pairs_in pairs.old.value)) }
+    ensures text { OnOk result (pairs_text pairs.new.value ≡ dictionary (pairs_in pairs.new.value)) }
+    ensures same { OnErr result (pairs_text pairs.new.value ≡ pairs_text pairs.old.value) }
+    ensures kept { ArePaired pairs.new.value }
+{
+    let own = Rc::make_mut(pairs)?;
+    remove_own(own, key);
+    Ok(())
+}
+
+/// Leaves of a dictionary its pairs alone.
+fn forget_own(own: &mut Pairs)
+    requires { ArePaired own.old }
+    ensures text { pairs_text own.new ≡ dictionary (pairs_in own.old) }
+    ensures kept { ArePaired own.new }
+{
+    own.text = None;
+}
+
+/// Leaves of a dictionary its pairs alone, so that its text is how they are written.
+pub(crate) fn forget_pairs_text(pairs: &mut Rc<Pairs>) -> Result<(), AllocError>
+    requires { ArePaired pairs.old.value }
+    ensures text { OnOk result (pairs_text pairs.new.value ≡ dictionary (pairs_in pairs.old.value)) }
+    ensures kept { ArePaired pairs.new.value }
+{
+    if pairs.text.is_some() {
+        let own = Rc::make_mut(pairs)?;
+        forget_own(own);
+    }
+    Ok(())
+}
