@@ -1,0 +1,10 @@
+use Rattle.std.proofs.Common.{sym, ap, ◌∙◌}
+use Rattle.std.specs.Str.{chars}
+use Rattle.std.specs.Option.{option_copied_mut}
+use Rattle.tcl_frames.proofs.LentTexts.{unwritten}
+use Rattle.tcl_frames.proofs.variables.remove_element_in.Goals as goal
+
+pub returns-in-Some-clause-same : goal.returns-in-Some-clause-same
+returns-in-Some-clause-same c =
+    unwritten c.remove_element.result c.args.variables.now (chars c.args.name.now) c.in-Some.variable.now c.remove_element.new.self c.remove_element.ensures.same
+    (sym c.get_mut.ensures.value ∙ ap option_copied_mut c.in-Some.is)

@@ -1,0 +1,15 @@
+pub mod Parts
+pub mod Standing
+pub mod Coding
+pub mod Refusals
+pub mod Places
+pub mod Levels
+pub mod CallShape
+pub mod StackShape
+pub mod VariableShape
+pub mod Written
+pub mod VariableLent
+pub mod VariablesLent
+pub mod FramesShape
+pub mod AllLent
+pub mod FramesLent

@@ -1,0 +1,15 @@
+-- Names and parts, as the definitions see them.
+use Rattle.std.specs.Str.{chars}
+use Rattle.tcl_meaning.specs.Frames.{Part, whole, element, deeper}
+use Rattle.tcl_meaning.specs.Names.{Name}
+use Rattle.tcl_frames.specs.declared.name.Part as code
+use Rattle.tcl_frames.specs.declared.name.Part.TheVariants as variant
+use Rattle.tcl_frames.specs.declared.name.Name as name
+
+abbrev pub part_of : code.Part → Part
+part_of variant.Whole = whole
+part_of (variant.Element i) = element (chars i.now)
+part_of variant.Deeper = deeper
+
+abbrev pub name_of : name.Name → Name
+name_of n = record { global = n.global; base = chars n.base.now; part = part_of n.part }

@@ -1,0 +1,128 @@
+//! The variables of all frames.
+ghost use Rattle.std.specs.Prelude.{◌≡◌, is_some, ◌<◌, ◌-◌, length, ◌++◌, ◌∷◌, [], take, Ok, Err, IfOk, IfErr, OnOk, OnErr};
+ghost use Rattle.std.specs.Borrow.{sem};
+ghost use Rattle.std.specs.FinMap as map;
+ghost use Rattle.std.specs.Str.{chars};
+ghost use Rattle.tcl_meaning.specs.Variables.{get_part, put_part, remove_part};
+ghost use Rattle.tcl_frames.specs.AllLent.{LendsAt};
+ghost use Rattle.std.specs.Option.{option_copied};
+ghost use Rattle.tcl_meaning.specs.Arrays.{whole_array};
+ghost use Rattle.tcl_frames.specs.Places.{spot_of};
+ghost use Rattle.tcl_frames.specs.Refusals.{Refuses};
+ghost use Rattle.tcl_frames.specs.Written.{variables_of, variable_in, stored_at, removed_at};
+
+use crate::fault::VarFault;
+use crate::place::Place;
+use crate::variable::Variable;
+use crate::variables::{array_in, find_in, place_in, put_in, remove_in};
+use std::alloc::{AllocError, Global};
+use std::marker::Model;
+use tcl_meaning::Refusal;
+use tcl_names::NameMap;
+use tcl_values::Value;
+
+/// The variables of all frames, by the numbers of the frames.
+#[derive(Drop)]
+pub(crate) struct AllVariables {
+    frames: Vec<NameMap<Variable>>,
+}
+
+impl Model for AllVariables {
+    ghost use Rattle.std.specs.Prelude.{List};
+    ghost use Rattle.std.specs.Coded.{coded_list};
+    ghost use Rattle.tcl_names.specs.Named.{named_code};
+    ghost use Rattle.tcl_meaning.specs.Frames.{Variables};
+    ghost use Rattle.tcl_frames.specs.Coding.{variable_code};
+
+    ghost Value = { List Variables };
+
+    ghost coded = { coded_list (named_code variable_code) };
+
+    ghost view = { λ all. all.frames.items };
+}
+
+impl AllVariables {
+    /// Those of one frame.
+    pub(crate) fn of_one(
+        alloc: Global,
+        variables: NameMap<Variable>,
+    ) -> Result<AllVariables, AllocError>
+        ensures { IfOk result (λ all. all ≡ variables ∷ []) }
+    {
+        let mut frames = Vec::new(alloc);
+        frames.push(variables)?;
+        Ok(AllVariables { frames })
+    }
+
+    /// Those of one frame more.
+    pub(crate) fn push(&mut self, variables: NameMap<Variable>) -> Result<(), AllocError>
+        ensures done { OnOk result (self.new ≡ self.old ++ variables ∷ []) }
+        ensures same { OnErr result (self.new ≡ self.old) }
+    {
+        self.frames.push(variables)?;
+        Ok(())
+    }
+
+    /// Those of one frame fewer.
+    pub(crate) fn pop(&mut self)
+        ensures { self.new ≡ take (length self.old - 1) self.old }
+    {
+        self.frames.pop();
+    }
+
+    /// Is there a variable of a name in a frame?
+    pub(crate) fn has(&self, frame: usize, name: &str) -> bool
+        requires { frame < length self.now }
+        ensures { result ≡ is_some (map.get (variables_of self.now frame) (chars name.now)) }
+    {
+        self.frames[frame].get(name).is_some()
+    }
+
+    /// The text of a place.
+    pub(crate) fn find(&self, at: Place<'_>, missing: Refusal) -> Result<&Value, Refusal>
+        requires { at.frame < length self.now }
+        ensures found { IfOk result (λ value. get_part missing (variable_in self.now (spot_of at.entry)) (spot_of at.entry).part ≡ Ok value.now) }
+        ensures refused { IfErr result (λ refusal. get_part missing (variable_in self.now (spot_of at.entry)) (spot_of at.entry).part ≡ Err refusal) }
+    {
+        find_in(&self.frames[at.frame], at.name, at.part, missing)
+    }
+
+    /// The elements of an array.
+    pub(crate) fn array(&self, at: Place<'_>) -> Option<&NameMap<Value>>
+        requires { at.frame < length self.now }
+        ensures { option_copied result ≡ whole_array (variable_in self.now (spot_of at.entry)) (spot_of at.entry).part }
+    {
+        array_in(&self.frames[at.frame], at.name, at.part)
+    }
+
+    /// Gives a place a text.
+    pub(crate) fn put(&mut self, alloc: Global, at: Place<'_>, value: Value) -> Result<(), VarFault>
+        requires { at.frame < length self.old }
+        ensures done { OnOk result (stored_at self.old (spot_of at.entry) (put_part (variable_in self.old (spot_of at.entry)) (spot_of at.entry).part value) ≡ Ok self.new) }
+        ensures refused { IfErr result (Refuses (put_part (variable_in self.old (spot_of at.entry)) (spot_of at.entry).part value)) }
+        ensures same { OnErr result (self.new ≡ self.old) }
+    {
+        put_in(&mut self.frames[at.frame], alloc, at.name, at.part, value)
+    }
+
+    /// Takes away what is at a place.
+    pub(crate) fn remove(&mut self, at: Place<'_>, missing: Refusal) -> Result<(), Refusal>
+        requires { at.frame < length self.old }
+        ensures done { OnOk result (removed_at self.old (spot_of at.entry) (remove_part missing (variable_in self.old (spot_of at.entry)) (spot_of at.entry).part) ≡ Ok self.new) }
+        ensures refused { IfErr result (λ refusal. remove_part missing (variable_in self.old (spot_of at.entry)) (spot_of at.entry).part ≡ Err refusal) }
+        ensures same { OnErr result (self.new ≡ self.old) }
+    {
+        remove_in(&mut self.frames[at.frame], at.name, at.part, missing)
+    }
+
+    /// Lends the text of a place.
+    pub(crate) fn place(&mut self, at: Place<'_>, missing: Refusal) -> Result<&mut Value, Refusal>
+        requires { at.frame < length self.old }
+        ensures* writes_back { sem 𝓛 (LendsAt self.entry (spot_of at.entry) result) }
+        ensures found { IfOk result (λ value. get_part missing (variable_in self.old (spot_of at.entry)) (spot_of at.entry).part ≡ Ok value.now) }
+        ensures refused { IfErr result (λ refusal. get_part missing (variable_in self.old (spot_of at.entry)) (spot_of at.entry).part ≡ Err refusal) }
+    {
+        let frame = &mut self.frames[at.frame];
+        place_in(frame, at.name, at.part, missing)
+    }
+}

@@ -1,0 +1,137 @@
+//! All frames of a script.
+ghost use Rattle.std.specs.Prelude.{◌≡◌, ◌<◌, ◌≤◌, if◌then◌else◌, length, take, ◌++◌, ◌∷◌, [], None, Some, Ok, Err, IfOk, IfErr, IfSome, OnOk, OnErr};
+ghost use Rattle.std.specs.FinMap as map;
+ghost use Rattle.std.specs.Str.{chars};
+ghost use Rattle.tcl_meaning.specs.Frames.{global_frame};
+ghost use Rattle.tcl_meaning.specs.Links.{link_at, links_of, spot_in};
+ghost use Rattle.tcl_meaning.specs.Names.{divided_name};
+ghost use Rattle.tcl_frames.specs.Places.{spot_of};
+ghost use Rattle.tcl_meaning.specs.State.{Commands};
+ghost use Rattle.tcl_meaning.specs.Variables.{get, put_change, remove_change};
+ghost use Rattle.tcl_frames.specs.Standing.{store_of, applied};
+ghost use Rattle.std.specs.Option.{option_copied};
+ghost use Rattle.tcl_meaning.specs.Arrays.{array_of};
+ghost use Rattle.tcl_frames.specs.Refusals.{Refuses};
+
+use crate::all_variables::AllVariables;
+use crate::fault::VarFault;
+use crate::name::divide;
+use crate::place::Place;
+use crate::stack::Stack;
+use crate::variable::Variable;
+use std::alloc::{AllocError, Global};
+use std::marker::Model;
+use tcl_meaning::Refusal;
+use tcl_names::NameMap;
+use tcl_values::Value;
+
+/// The frames of a script, the global one first, and the active one, whose names the script means.
+#[derive(Drop)]
+pub struct Frames {
+    pub(crate) stack: Stack,
+    pub(crate) variables: AllVariables,
+}
+
+impl Model for Frames {
+    ghost use Rattle.tcl_frames.specs.Standing.{Standing};
+    ghost use Rattle.tcl_frames.specs.Coding.{standing_code};
+
+    ghost Value = { Standing };
+
+    ghost coded = { standing_code };
+
+    ghost use Rattle.tcl_frames.specs.FramesShape.{all_of, IsEven};
+
+    ghost view = { all_of };
+
+    ghost invariant = { IsEven };
+}
+
+impl Frames {
+    /// The global frame alone, with these variables.
+    pub fn new(alloc: Global, globals: NameMap<Variable>) -> Result<Frames, AllocError>
+        ensures frames { IfOk result (λ f. f.frames ≡ global_frame globals ∷ []) }
+        ensures active { IfOk result (λ f. f.active ≡ 0) }
+    {
+        let stack = Stack::new(alloc)?;
+        let variables = AllVariables::of_one(alloc, globals)?;
+        Ok(Frames { stack, variables })
+    }
+
+    /// The text of a variable or of an element: set(n).
+    pub fn find(&self, name: &str) -> Result<&Value, Refusal>
+        ensures found { (cs : Commands) → IfOk result (λ value. get (store_of cs self.now) (chars name.now) ≡ Ok value.now) }
+        ensures refused { (cs : Commands) → IfErr result (λ refusal. get (store_of cs self.now) (chars name.now) ≡ Err refusal) }
+    {
+        let at = place_of(&self.stack, name);
+        self.variables.find(at, divide(name).part.missing())
+    }
+}
+
+impl Frames {
+    /// A copy of the text of a variable or of an element, which shares what is kept: set(n).
+    pub fn get(&self, name: &str) -> Result<Value, VarFault>
+        ensures found { (cs : Commands) → IfOk result (λ value. get (store_of cs self.now) (chars name.now) ≡ Ok value) }
+        ensures refused { (cs : Commands) → IfErr result (Refuses (get (store_of cs self.now) (chars name.now))) }
+    {
+        match self.find(name) {
+            Ok(value) => Ok(value.copy()?),
+            Err(refusal) => Err(VarFault::Refused(refusal)),
+        }
+    }
+
+    /// The elements of an array: array(n). None where the name is no array's.
+    pub fn array(&self, name: &str) -> Option<&NameMap<Value>>
+        ensures { (cs : Commands) → option_copied result ≡ array_of (store_of cs self.now) (chars name.now) }
+    {
+        let at = place_of(&self.stack, name);
+        self.variables.array(at)
+    }
+
+    /// Puts a text under the name of a variable or an element, which is made where it is missing: set(n).
+    pub fn put(&mut self, alloc: Global, name: &str, value: Value) -> Result<(), VarFault>
+        ensures done { (cs : Commands) → OnOk result (applied (put_change (store_of cs self.old) (chars name.now) value) (store_of cs self.old) ≡ Ok (store_of cs self.new)) }
+        ensures refused { (cs : Commands) → IfErr result (Refuses (put_change (store_of cs self.old) (chars name.now) value)) }
+        ensures same { OnErr result (self.new ≡ self.old) }
+    {
+        let at = place_of(&self.stack, name);
+        self.variables.put(alloc, at, value)
+    }
+
+    /// Takes a variable or an element away: unset(n). A link stays.
+    pub fn unset(&mut self, name: &str) -> Result<(), Refusal>
+        ensures done { (cs : Commands) → OnOk result (applied (remove_change (store_of cs self.old) (chars name.now)) (store_of cs self.old) ≡ Ok (store_of cs self.new)) }
+        ensures refused { (cs : Commands) → IfErr result (λ refusal. remove_change (store_of cs self.old) (chars name.now) ≡ Err refusal) }
+        ensures same { OnErr result (self.new ≡ self.old) }
+    {
+        let at = place_of(&self.stack, name);
+        self.variables.remove(at, divide(name).part.missing())
+    }
+}
+
+// The frame in which a name is looked for that is written in a frame.
+fn home(frame: usize, global: bool) -> usize
+    ensures home { result ≡ (if global then 0 else frame) }
+    ensures earlier { result ≤ frame }
+{
+    if global { 0 } else { frame }
+}
+
+/// The place to which a name leads that is written in a frame.
+pub(crate) fn place_in<'a>(stack: &'a Stack, frame: usize, name: &'a str) -> Place<'a>
+    ensures leads { spot_of result ≡ spot_in stack.now.frames frame (divided_name (chars name.now)) }
+    ensures earlier { result.frame ≤ frame }
+    ensures free { link_at (links_of stack.now.frames) result.frame (chars result.name.now) ≡ None }
+{
+    let name = divide(name);
+    stack.follow(home(frame, name.global), name.base, name.part)
+}
+
+/// The place to which a name leads that the active frame's scripts write.
+pub(crate) fn place_of<'a>(stack: &'a Stack, name: &'a str) -> Place<'a>
+    ensures leads { spot_of result ≡ spot_in stack.now.frames stack.now.active (divided_name (chars name.now)) }
+    ensures there { result.frame < length stack.now.frames }
+    ensures free { link_at (links_of stack.now.frames) result.frame (chars result.name.now) ≡ None }
+{
+    place_in(stack, stack.active(), name)
+}

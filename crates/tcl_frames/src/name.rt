@@ -1,0 +1,156 @@
+//! The names of variables.
+ghost use Rattle.std.specs.Prelude.{◌≡◌, ◌||◌};
+ghost use Rattle.std.specs.Str.{chars};
+ghost use Rattle.tcl_meaning.specs.Names as spec;
+ghost use Rattle.tcl_meaning.specs.Variables.{missing};
+ghost use Rattle.tcl_frames.specs.Parts.{part_of, name_of};
+
+use tcl_chars::{before, begins, split_first, tail};
+use tcl_meaning::Refusal;
+
+/// Which part of a variable is meant.
+#[derive(Clone, Copy, Debug)]
+pub(crate) enum Part<'a> {
+    /// The variable as a whole.
+    Whole,
+    /// Its element of this index.
+    Element(&'a str),
+    /// An element of an element, which never holds anything.
+    Deeper,
+}
+
+impl Part<'_> {
+    /// How a part is missed in an array that is there, as its name is written.
+    pub(crate) fn missing(self) -> Refusal
+        ensures { result ≡ missing (part_of self.entry) }
+    {
+        match self {
+            Part::Whole => Refusal::NoSuch,
+            Part::Element(_) | Part::Deeper => Refusal::NoElement,
+        }
+    }
+
+    /// Is it an element?
+    pub(crate) fn is_element(self) -> bool
+        ensures { result ≡ spec.is_element (part_of self.entry) }
+    {
+        !matches!(self, Part::Whole)
+    }
+}
+
+/// The name of a variable: of a global one or not, and of an element or not.
+#[derive(Clone, Copy, Debug)]
+pub(crate) struct Name<'a> {
+    pub(crate) global: bool,
+    pub(crate) base: &'a str,
+    pub(crate) part: Part<'a>,
+}
+
+// What follows the colons at the front.
+#[tactic(auto, unfolding(tcl_meaning::specs::Names::after_colons))]
+fn after_colons(text: &str) -> &str
+    ensures { chars result.now ≡ spec.after_colons (chars text.now) }
+{
+    let mut rest = text;
+    'scan: while let Some((c, after)) = split_first(rest) {
+        if c != ':' {
+            break 'scan;
+        }
+        rest = after;
+    }
+    rest
+}
+
+// Does a run of two or more colons lead the name?
+fn is_global(name: &str) -> bool
+    ensures { result ≡ spec.is_global (chars name.now) }
+{
+    begins(':', name) && begins(':', tail(name))
+}
+
+// The name without such a run.
+fn without_colons(name: &str) -> &str
+    ensures { chars result.now ≡ spec.without_colons (chars name.now) }
+{
+    if is_global(name) {
+        after_colons(name)
+    } else {
+        name
+    }
+}
+
+// From the first `(` on.
+#[tactic(auto, unfolding(tcl_meaning::specs::Names::from_paren))]
+fn from_paren(text: &str) -> &str
+    ensures { chars result.now ≡ spec.from_paren (chars text.now) }
+{
+    let mut rest = text;
+    'scan: while let Some((c, after)) = split_first(rest) {
+        if c == '(' {
+            break 'scan;
+        }
+        rest = after;
+    }
+    rest
+}
+
+// The last character.
+#[tactic(auto, unfolding(tcl_meaning::specs::Names::last_part))]
+fn last_part(text: &str) -> &str
+    ensures { chars result.now ≡ spec.last_part (chars text.now) }
+{
+    let mut last = text;
+    'scan: while let Some((_, after)) = split_first(last) {
+        let Some(_) = split_first(after) else {
+            break 'scan;
+        };
+        last = after;
+    }
+    last
+}
+
+// A name that is no element's.
+fn whole_name(name: &str) -> Name<'_>
+    ensures { name_of result ≡ spec.whole_name (chars name.now) }
+{
+    Name {
+        global: is_global(name),
+        base: without_colons(name),
+        part: Part::Whole,
+    }
+}
+
+// The name of an element.
+fn element_name<'a>(base: &'a str, index: &'a str) -> Name<'a>
+    ensures { name_of result ≡ spec.element_name (chars base.now) (chars index.now) }
+{
+    Name {
+        global: is_global(base),
+        base: without_colons(base),
+        part: Part::Element(index),
+    }
+}
+
+/// The name of a variable, divided.
+#[tactic(auto, unfolding(tcl_meaning::specs::Names::divided_name))]
+pub(crate) fn divide(name: &str) -> Name<'_>
+    ensures { name_of result ≡ spec.divided_name (chars name.now) }
+{
+    let element = from_paren(name);
+    let Some((_, index)) = split_first(element) else {
+        return whole_name(name);
+    };
+    let last = last_part(index);
+    if !begins(')', last) {
+        return whole_name(name);
+    }
+    element_name(before(name, element), before(index, last))
+}
+
+/// Does a name mean a global variable, or an element?
+pub(crate) fn is_compound(name: &str) -> bool
+    ensures { result ≡ ((spec.divided_name (chars name.now)).global || spec.is_element (spec.divided_name (chars name.now)).part) }
+{
+    let name = divide(name);
+    name.global || name.part.is_element()
+}

@@ -1,0 +1,170 @@
+//! The variables of one frame.
+ghost use Rattle.std.specs.Prelude.{◌≡◌, Some, None, Ok, Err, IfOk, IfErr, IsSome, OnOk, OnErr};
+ghost use Rattle.tcl_meaning.specs.Frames.{element};
+ghost use Rattle.std.specs.Borrow.{sem};
+ghost use Rattle.std.specs.FinMap as map;
+ghost use Rattle.std.specs.Str.{chars};
+ghost use Rattle.tcl_meaning.specs.Variables.{get_part, put_part, remove_part};
+ghost use Rattle.std.specs.Option.{option_copied};
+ghost use Rattle.tcl_meaning.specs.Arrays.{whole_array};
+ghost use Rattle.tcl_frames.specs.Parts.{part_of};
+ghost use Rattle.tcl_frames.specs.Refusals.{Refuses};
+ghost use Rattle.tcl_frames.specs.Written.{stored_in, removed_in};
+ghost use Rattle.tcl_frames.specs.VariablesLent.{LendsText};
+
+use crate::fault::VarFault;
+use crate::name::Part;
+use crate::variable::Variable;
+use std::alloc::Global;
+use tcl_meaning::Refusal;
+use tcl_names::NameMap;
+use tcl_values::Value;
+
+/// The text of a part of a variable.
+pub(crate) fn find_in<'a>(
+    variables: &'a NameMap<Variable>,
+    name: &str,
+    part: Part<'_>,
+    missing: Refusal,
+) -> Result<&'a Value, Refusal>
+    ensures found { IfOk result (λ value. get_part missing (map.get variables.now (chars name.now)) (part_of part.entry) ≡ Ok value.now) }
+    ensures refused { IfErr result (λ refusal. get_part missing (map.get variables.now (chars name.now)) (part_of part.entry) ≡ Err refusal) }
+{
+    match variables.get(name) {
+        Some(variable) => variable.part(part, missing),
+        None => match part {
+            Part::Deeper => Err(Refusal::IsntArray),
+            _ => Err(Refusal::NoSuch),
+        },
+    }
+}
+
+/// The elements of an array.
+pub(crate) fn array_in<'a>(
+    variables: &'a NameMap<Variable>,
+    name: &str,
+    part: Part<'_>,
+) -> Option<&'a NameMap<Value>>
+    ensures { option_copied result ≡ whole_array (map.get variables.now (chars name.now)) (part_of part.entry) }
+{
+    match variables.get(name) {
+        Some(variable) => variable.elements(part),
+        None => None,
+    }
+}
+
+/// Lends the text of a part of a variable.
+pub(crate) fn place_in<'a>(
+    variables: &'a mut NameMap<Variable>,
+    name: &str,
+    part: Part<'_>,
+    missing: Refusal,
+) -> Result<&'a mut Value, Refusal>
+    ensures* writes_back { sem 𝓛 (LendsText variables.entry (chars name.entry.now) (part_of part.entry) result) }
+    ensures found { IfOk result (λ value. get_part missing (map.get variables.old (chars name.now)) (part_of part.entry) ≡ Ok value.now) }
+    ensures refused { IfErr result (λ refusal. get_part missing (map.get variables.old (chars name.now)) (part_of part.entry) ≡ Err refusal) }
+{
+    match variables.get_mut(name) {
+        Some(variable) => variable.place(part, missing),
+        None => match part {
+            Part::Deeper => Err(Refusal::IsntArray),
+            _ => Err(Refusal::NoSuch),
+        },
+    }
+}
+
+// Puts a text into a variable that is there.
+fn write_in(
+    variables: &mut NameMap<Variable>,
+    alloc: Global,
+    name: &str,
+    part: Part<'_>,
+    value: Value,
+) -> Result<(), VarFault>
+    requires { IsSome (map.get variables.old (chars name.now)) }
+    ensures done { OnOk result (stored_in variables.old (chars name.now) (put_part (map.get variables.old (chars name.now)) (part_of part.entry) value) ≡ Ok variables.new) }
+    ensures refused { IfErr result (Refuses (put_part (map.get variables.old (chars name.now)) (part_of part.entry) value)) }
+    ensures same { OnErr result (variables.new ≡ variables.old) }
+{
+    match variables.get_mut(name) {
+        Some(variable) => variable.write(alloc, part, value),
+        None => unreachable!(),
+    }
+}
+
+// The variable of which a part has a text, and nothing else.
+fn made(alloc: Global, part: Part<'_>, value: Value) -> Result<Variable, VarFault>
+    ensures done { IfOk result (λ variable. put_part None (part_of part.entry) value ≡ Ok variable) }
+    ensures refused { IfErr result (Refuses (put_part None (part_of part.entry) value)) }
+{
+    match part {
+        Part::Whole => Ok(Variable::of_text(value)),
+        Part::Element(index) => {
+            let mut elements = NameMap::new(alloc);
+            elements.insert(alloc, index, value)?;
+            Ok(Variable::of_array(elements))
+        }
+        Part::Deeper => Err(VarFault::Refused(Refusal::IsntArray)),
+    }
+}
+
+/// Puts a text into a part of a variable, which is made where it is missing.
+pub(crate) fn put_in(
+    variables: &mut NameMap<Variable>,
+    alloc: Global,
+    name: &str,
+    part: Part<'_>,
+    value: Value,
+) -> Result<(), VarFault>
+    ensures done { OnOk result (stored_in variables.old (chars name.now) (put_part (map.get variables.old (chars name.now)) (part_of part.entry) value) ≡ Ok variables.new) }
+    ensures refused { IfErr result (Refuses (put_part (map.get variables.old (chars name.now)) (part_of part.entry) value)) }
+    ensures same { OnErr result (variables.new ≡ variables.old) }
+{
+    if variables.get(name).is_some() {
+        return write_in(variables, alloc, name, part, value);
+    }
+    let variable = made(alloc, part, value)?;
+    variables.insert(alloc, name, variable)?;
+    Ok(())
+}
+
+// Takes an element away from a variable that is there.
+fn remove_element_in(
+    variables: &mut NameMap<Variable>,
+    name: &str,
+    index: &str,
+    missing: Refusal,
+) -> Result<(), Refusal>
+    ensures done { OnOk result (removed_in variables.old (chars name.now) (remove_part missing (map.get variables.old (chars name.now)) (element (chars index.now))) ≡ Ok variables.new) }
+    ensures refused { IfErr result (λ refusal. remove_part missing (map.get variables.old (chars name.now)) (element (chars index.now)) ≡ Err refusal) }
+    ensures same { OnErr result (variables.new ≡ variables.old) }
+{
+    match variables.get_mut(name) {
+        Some(variable) => variable.remove_element(index, missing),
+        None => Err(Refusal::NoSuch),
+    }
+}
+
+/// Takes a part of a variable away.
+pub(crate) fn remove_in(
+    variables: &mut NameMap<Variable>,
+    name: &str,
+    part: Part<'_>,
+    missing: Refusal,
+) -> Result<(), Refusal>
+    ensures done { OnOk result (removed_in variables.old (chars name.now) (remove_part missing (map.get variables.old (chars name.now)) (part_of part.entry)) ≡ Ok variables.new) }
+    ensures refused { IfErr result (λ refusal. remove_part missing (map.get variables.old (chars name.now)) (part_of part.entry) ≡ Err refusal) }
+    ensures same { OnErr result (variables.new ≡ variables.old) }
+{
+    match part {
+        Part::Whole => {
+            if variables.get(name).is_none() {
+                return Err(Refusal::NoSuch);
+            }
+            variables.remove(name);
+            Ok(())
+        }
+        Part::Element(index) => remove_element_in(variables, name, index, missing),
+        Part::Deeper => Err(Refusal::IsntArray),
+    }
+}

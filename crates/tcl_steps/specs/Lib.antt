@@ -1,0 +1,3 @@
+pub mod CompletionShape
+pub mod Faults
+pub mod Views

@@ -1,0 +1,114 @@
+//! How a command ended.
+ghost use Rattle.std.specs.Prelude.{◌≡◌, ◌≢◌, true, false, IfOk};
+ghost use Rattle.tcl_chars.specs.Texts.{text_of};
+ghost use Rattle.tcl_meaning.specs.Completions.{ended, normal, failure, nothing, code_now};
+ghost use Rattle.tcl_meaning.specs.declared.code.Code.TheVariants as code;
+
+use std::alloc::{AllocError, Global};
+use std::marker::Model;
+use std::rc::RcStr;
+use tcl_chars::message;
+use tcl_meaning::Code;
+use tcl_values::Value;
+
+/// How a command ended: a code, a result or a message, and the options that `return` or `error` was given. return(n), RETURN
+/// CODES.
+#[derive(Drop)]
+pub struct Completion {
+    /// At level 0 it is in force; above, it waits for the end of that many procedures.
+    pub(crate) code: Code,
+    pub(crate) level: u64,
+    pub(crate) result: Value,
+    pub(crate) options: Vec<(Value, Value)>,
+}
+
+impl Model for Completion {
+    ghost use Rattle.tcl_meaning.specs.Completions as meaning;
+
+    ghost Value = { meaning.Completion };
+
+    ghost use Rattle.tcl_steps.specs.CompletionShape.{completion_of};
+
+    ghost view = { completion_of };
+}
+
+impl Completion {
+    /// The end with a code in force.
+    pub fn ended(alloc: Global, code: Code, value: Value) -> Completion
+        ensures { result ≡ ended code value }
+    {
+        Completion {
+            code,
+            level: 0,
+            result: value,
+            options: Vec::new(alloc),
+        }
+    }
+
+    /// The end of a command that was ok.
+    pub fn normal(alloc: Global, value: Value) -> Completion
+        ensures { result ≡ normal value }
+    {
+        Completion::ended(alloc, Code::Ok, value)
+    }
+
+    /// The answer of a command that has nothing to say.
+    pub fn nothing(alloc: Global) -> Result<Completion, AllocError>
+        ensures { IfOk result (λ c. c ≡ nothing) }
+    {
+        let text = message(alloc, "")?;
+        Ok(Completion::normal(alloc, Value::of_text(text)))
+    }
+
+    /// The error with a message.
+    pub fn failure(alloc: Global, message: RcStr) -> Completion
+        ensures { result ≡ failure (text_of message) }
+    {
+        Completion::ended(alloc, Code::Error, Value::of_text(message))
+    }
+
+    /// The error with a message, and the options that it was given.
+    pub fn error_with(alloc: Global, message: Value, options: Vec<(Value, Value)>) -> Completion
+        ensures { result ≡ record (failure message) { options = options.items } }
+    {
+        Completion {
+            code: Code::Error,
+            level: 0,
+            result: message,
+            options,
+        }
+    }
+
+    /// The code that is in force.
+    pub fn code_now(&self) -> Code
+        ensures { result ≡ code_now self.now }
+    {
+        if self.level == 0 {
+            self.code
+        } else {
+            Code::Return
+        }
+    }
+
+    /// Is the code that is in force ok?
+    pub fn is_ok(&self) -> bool
+        ensures is { result ≡ true → code_now self.now ≡ code.Ok }
+        ensures other { result ≡ false → code_now self.now ≢ code.Ok }
+    {
+        self.code_now() == Code::Ok
+    }
+
+    /// The result, or the message.
+    pub fn result(&self) -> &Value
+        ensures { result.now ≡ self.now.result }
+    {
+        &self.result
+    }
+
+    /// The result, or the message, and nothing else.
+    pub fn into_result(self) -> Value
+        ensures { result ≡ self.result }
+    {
+        self.result
+    }
+}

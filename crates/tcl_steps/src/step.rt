@@ -1,0 +1,116 @@
+//! What commands that run scripts ask for, and what they owe then.
+
+use crate::completion::Completion;
+use tcl_frames::{Level, Variable};
+use tcl_names::NameMap;
+use tcl_values::{Row, Value};
+
+/// The frame in which a script is run.
+#[derive(Drop)]
+pub enum Scope {
+    /// The active one.
+    Here,
+    /// The one of a level: uplevel(n).
+    At(Level),
+    /// A new one that the active one calls, with these variables: proc(n).
+    Within(NameMap<Variable>),
+}
+
+/// Names of loop variables, and the elements that are left for them: foreach(n).
+#[derive(Drop)]
+pub struct Lane {
+    pub names: Vec<Value>,
+    pub elements: Row,
+    /// So many elements have gone.
+    pub gone: usize,
+}
+
+/// A loop over the elements of lists: foreach(n), lmap(n), dict(n).
+#[derive(Drop)]
+pub struct Each {
+    pub lanes: Vec<Lane>,
+    pub body: Value,
+    /// The results so far, where they are gathered.
+    pub results: Option<Vec<Value>>,
+}
+
+/// A loop that stands before its next turn.
+#[derive(Drop)]
+pub enum Loop {
+    While {
+        test: Value,
+        body: Value,
+    },
+    For {
+        test: Value,
+        next: Value,
+        body: Value,
+    },
+    ForEach(Each),
+}
+
+/// The conditions of an `if` with their bodies, and what it runs if none holds.
+#[derive(Drop)]
+pub struct Others {
+    pub clauses: Vec<(Value, Value)>,
+    /// So many of them have been evaluated.
+    pub gone: usize,
+    pub otherwise: Option<Value>,
+}
+
+/// What a command has still to do when what it asked for has ended.
+#[derive(Drop)]
+pub enum Owes {
+    /// Nothing: the completion is the command's.
+    Nothing,
+    /// A procedure's body has ended.
+    Leaving,
+    /// `catch`: the completion goes into these variables.
+    Catching(Vec<Value>),
+    IfTest {
+        body: Value,
+        others: Others,
+    },
+    WhileTest {
+        test: Value,
+        body: Value,
+    },
+    ForTest {
+        test: Value,
+        next: Value,
+        body: Value,
+    },
+    WhileBody {
+        test: Value,
+        body: Value,
+    },
+    ForStart {
+        test: Value,
+        next: Value,
+        body: Value,
+    },
+    ForBody {
+        test: Value,
+        next: Value,
+        body: Value,
+    },
+    ForNext {
+        test: Value,
+        next: Value,
+        body: Value,
+    },
+    EachBody(Each),
+}
+
+/// What a command asks for before it goes on: where a script is run is an `S`, what is owed then an `O`, a loop an `L`.
+#[derive(Drop)]
+pub enum Step<S, O, L> {
+    /// It is done.
+    Done(Completion),
+    /// A script is to be run, one deeper.
+    Run(S, Value, O),
+    /// An expression is to be evaluated.
+    Evaluate(Value, O),
+    /// A turn of a loop is to be paid for and made.
+    Pay(L),
+}

@@ -1,0 +1,9 @@
+//! The command table: what the names of commands stand for.
+#![tactic(auto)]
+
+mod built_ins;
+mod command;
+mod table;
+
+pub use command::{Command, Formal, Meaning, Procedure};
+pub use table::{Table, TableFault};
