@@ -1,0 +1,6 @@
+mod Acting
+mod Ending
+mod Lifting
+mod Operators
+mod Spelling
+mod Topics

@@ -1,0 +1,9 @@
+use Rattle.std.proofs.Common.{◌+◌}
+use Rattle.tcl_code.specs.Instructions.{Truth}
+use Rattle.tcl_activation.proofs.Acting.{acts_on}
+use Rattle.tcl_activation.proofs.stack.Stack.truth.Goals as goal
+
+pub returns : goal.returns
+returns c = acts_on c.args.dialect Truth c.args.self.now c.put.new.self c.put.result _
+    c.pop-text.ensures
+    (λ at s. c.put.ensures _ c.truth-answer.ensures.answer (at + 1) s)

@@ -1,0 +1,5 @@
+pub mod Piles
+pub mod Moves
+pub mod Reads
+pub mod Turnings
+pub mod Needs

@@ -1,0 +1,20 @@
+//! One code that runs: where it stands, and what each instruction does there.
+#![tactic(auto)]
+
+mod activation;
+mod calls;
+mod expressions;
+mod pile;
+mod progress;
+mod stack;
+mod steps;
+mod texts;
+mod variables;
+mod ways;
+
+pub use activation::Activation;
+pub use pile::Pile;
+pub use progress::Progress;
+pub use stack::{Stack, Words};
+pub use variables::{Unread, Variables};
+pub use ways::{Way, spend};

@@ -1,0 +1,63 @@
+//! Values that are put on top of one another.
+ghost use Rattle.std.specs.Prelude.{◌≡◌, ◌≤◌, ◌∷◌, Some, [], length, option_map, OnOk, OnErr, IfOk};
+ghost use Rattle.tcl_activation.specs.Piles.{Lifts};
+
+use std::alloc::{AllocError, Global};
+use std::marker::Model;
+
+/// Values that are put on top of one another. Contracts see a list, the newest first.
+#[derive(Drop)]
+pub struct Pile<T> {
+    items: Vec<T>,
+}
+
+impl<T> Model for Pile<T> {
+    ghost use Rattle.std.specs.Prelude.{List, reverse};
+    ghost use Rattle.std.specs.Coded.{coded_list};
+
+    ghost Value = { List T };
+
+    ghost coded = { coded_list T.code };
+
+    ghost view = { λ p. reverse p.items.items };
+}
+
+impl<T: Drop> Pile<T> {
+    /// With nothing on it.
+    pub fn new(alloc: Global) -> Pile<T>
+        ensures { result ≡ [] }
+    {
+        Pile {
+            items: Vec::new(alloc),
+        }
+    }
+
+    /// One more on top.
+    pub fn push(&mut self, item: T) -> Result<(), AllocError>
+        ensures { OnOk result (self.new ≡ item ∷ self.old) }
+    {
+        self.items.push(item)?;
+        Ok(())
+    }
+
+    /// What lies on top is taken away.
+    pub fn pop(&mut self) -> T
+        requires { 1 ≤ length self.old }
+        ensures { self.old ≡ result ∷ self.new }
+    {
+        match self.items.pop() {
+            Some(item) => item,
+            None => unreachable!(),
+        }
+    }
+
+    #[tactic(auto, using(crate::proofs::Lifting::lifted))]
+    /// So many are taken from the top, and stand in the order in which they came.
+    pub fn lift(&mut self, count: usize) -> Result<Vec<T>, AllocError>
+        requires { count ≤ length self.old }
+        ensures { IfOk result (λ v. Lifts count v.items self.old self.new) }
+    {
+        let left = self.items.len() - count;
+        self.items.split_off(left)
+    }
+}

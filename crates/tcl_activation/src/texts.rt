@@ -1,0 +1,96 @@
+//! Instructions that put texts onto the stack.
+ghost use Rattle.std.specs.Prelude.{◌≡◌, ◌≤◌, length, IfOk, OnOk};
+ghost use Rattle.std.specs.List.{concat};
+ghost use Rattle.tcl_activation.specs.Moves.{Goes};
+ghost use Rattle.tcl_activation.specs.Reads.{Reads};
+ghost use Rattle.tcl_code.specs.Instructions.{Push, Read, ReadElement, Join};
+ghost use Rattle.tcl_meaning.specs.Substitution.{spelled_element};
+
+use crate::progress::Progress;
+use crate::stack::{Stack, lifted};
+use crate::variables::{Unread, Variables};
+use std::alloc::{AllocError, Global};
+use tcl_chars::message;
+use tcl_steps::Completion;
+use tcl_values::Value;
+
+// The texts as one.
+fn joined(alloc: Global, words: &mut [Value]) -> Result<Value, AllocError>
+    ensures { IfOk result (λ v. v ≡ concat words.old) }
+{
+    let mut whole = Value::of_text(message(alloc, "")?);
+    for place in 0..words.len() {
+        let text = words[place].text(alloc)?;
+        whole.append(alloc, text.as_str())?;
+    }
+    Ok(whole)
+}
+
+// The name of an array's element, as a script writes it.
+fn spelled_element(alloc: Global, mut name: Value, index: &mut Value) -> Result<Value, AllocError>
+    ensures { IfOk result (λ v. v ≡ spelled_element name index.old) }
+{
+    let index = index.text(alloc)?;
+    name.append(alloc, "(")?;
+    name.append(alloc, index.as_str())?;
+    name.append(alloc, ")")?;
+    Ok(name)
+}
+
+impl Stack {
+    /// A text comes onto the stack.
+    pub fn push(&mut self, text: Value) -> Result<(), AllocError>
+        ensures { OnOk result (Goes (Push text) self.old self.new) }
+    {
+        self.texts.push(text)
+    }
+
+    /// The text of a variable.
+    pub fn read<F: Variables>(
+        &mut self,
+        alloc: Global,
+        frames: &F,
+        mut name: Value,
+    ) -> Result<Progress, AllocError>
+        ensures { Reads (F.store frames.now) (Read name) self.old self.new result }
+    {
+        let name = name.text(alloc)?;
+        match frames.read(alloc, name.as_str()) {
+            Ok(text) => {
+                self.texts.push(text)?;
+                Ok(Progress::Moved)
+            }
+            Err(Unread::Refused(refusal)) => Ok(Progress::Over(Completion::cant_read(
+                alloc,
+                name.as_str(),
+                refusal,
+            )?)),
+            Err(Unread::Memory) => Err(AllocError),
+        }
+    }
+
+    /// The text of an array's element, whose index is on top.
+    pub fn read_element<F: Variables>(
+        &mut self,
+        alloc: Global,
+        frames: &F,
+        name: Value,
+    ) -> Result<Progress, AllocError>
+        requires { 1 ≤ length self.old.texts }
+        ensures { Reads (F.store frames.now) (ReadElement name) self.old self.new result }
+    {
+        let mut index = self.texts.pop();
+        let full = spelled_element(alloc, name, &mut index)?;
+        self.read(alloc, frames, full)
+    }
+
+    /// So many texts become one.
+    pub fn join(&mut self, alloc: Global, count: u32) -> Result<(), AllocError>
+        requires { count ≤ length self.old.texts }
+        ensures { OnOk result (Goes (Join count) self.old self.new) }
+    {
+        let mut words = lifted(&mut self.texts, count)?;
+        let text = joined(alloc, &mut words)?;
+        self.texts.push(text)
+    }
+}

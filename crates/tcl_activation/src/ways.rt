@@ -1,0 +1,70 @@
+//! Instructions of ways through a code, and its end.
+ghost use Rattle.std.specs.Prelude.{◌≡◌, ◌≤◌, ℕ, None, length};
+ghost use Rattle.tcl_activation.specs.Moves.{here};
+ghost use Rattle.tcl_activation.specs.Turnings.{Leads, Pays};
+ghost use Rattle.tcl_chars.specs.declared.numbers.Dialect.{Dialect};
+ghost use Rattle.tcl_code.specs.Machine.{Ends};
+ghost use Rattle.tcl_meaning.specs.Effects.{Gives};
+ghost use Rattle.tcl_meaning.specs.State.{State};
+
+use crate::stack::Stack;
+use std::alloc::{AllocError, Global};
+use tcl_chars::{Dialect, Fault, expect_truth};
+use tcl_steps::Completion;
+
+/// Where a code goes on.
+#[derive(Drop)]
+pub enum Way {
+    /// At the next instruction.
+    Next,
+    /// Past the instructions that are skipped.
+    Past,
+    /// It has ended so.
+    Over(Completion),
+}
+
+/// A unit is spent, if there is one.
+pub fn spend(units: &mut u64) -> bool
+    ensures { Pays result units.old units.new }
+{
+    if *units == 0 {
+        return false;
+    }
+    *units -= 1;
+    true
+}
+
+impl Stack {
+    /// Past instructions where the text on top has this truth value.
+    pub fn skip_when(
+        &mut self,
+        alloc: Global,
+        dialect: Dialect,
+        wanted: bool,
+    ) -> Result<Way, AllocError>
+        requires { 1 ≤ length self.old.texts }
+        ensures { Leads dialect wanted self.old self.new result }
+    {
+        let mut text = self.texts.pop();
+        let text = text.text(alloc)?;
+        match expect_truth(alloc, text.as_str(), dialect) {
+            Ok(holds) => Ok(if holds == wanted {
+                Way::Past
+            } else {
+                Way::Next
+            }),
+            Err(Fault::Error(message)) => Ok(Way::Over(Completion::failure(alloc, message))),
+            Err(Fault::Memory) => Err(AllocError),
+        }
+    }
+
+    /// Where the code ends, how its script's last command has ended.
+    pub fn finish(&mut self) -> Completion
+        requires texts { length self.old.texts ≡ 0 }
+        requires lists { length self.old.lists ≡ 0 }
+        requires results { length self.old.results ≡ 1 }
+        ensures { (dialect : Dialect) (at : ℕ) (s : State) → here dialect None at self.old s ≡ Ends (Gives result s) }
+    {
+        self.results.pop()
+    }
+}

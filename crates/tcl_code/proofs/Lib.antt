@@ -1,0 +1,11 @@
+pub mod Building
+pub mod Ends
+pub mod Found
+pub mod Holding
+pub mod Noting
+pub mod Place
+pub mod Reading
+pub mod Settling
+pub mod Shapes
+pub mod Steps
+pub mod Whatever

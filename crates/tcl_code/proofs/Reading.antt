@@ -1,0 +1,44 @@
+-- What the search reads of a code, over items whose texts it doesn't look at.
+use Rattle.std.proofs.Common.{◌≡◌, ℕ, ◌≤◌, ◌<◌, List, [], ◌∷◌, ◌++◌, length, Some, None, Bool, true, false, refl, sym, ap, ◌∙◌, subst, get_or, IsTrue, ◌↔◌}
+use Rattle.std.specs.Prelude.{slice_get, option_map}
+use Rattle.std.proofs.lemmas.List.{length-map}
+use Rattle.std.proofs.lemmas.Option.{slice_get-map, slice_get_read, slice_get_past}
+use Rattle.tcl_code.specs.Instructions.{Instruction}
+use Rattle.tcl_code.specs.declared.instr.Instr.{Instr}
+use Rattle.tcl_code.specs.declared.shape.Shape.{Shape}
+use Rattle.tcl_code.specs.Shown.{shown, instructions}
+use Rattle.tcl_code.specs.Valid.{IsFine, Valid, left_by, bare}
+use Rattle.tcl_code.specs.Search.{StaysInside, reached, Shapes, shape_at, Noted, Sound, Closed}
+use Rattle.tcl_code.proofs.Settling.{after_noted, after_end, after_not_suited, after_outside}
+
+abbrev blank : List Instr → List Instruction
+blank code = instructions [] code
+
+read_item : (code : List Instr) (p : ℕ) (i : Instr) → p < length code → i ≡ get_or code p i → slice_get (blank code) p ≡ Some (shown [] i)
+read_item code p i l e = slice_get-map (shown []) code p ∙ ap (option_map (shown [])) (slice_get_read code (length code) p i refl l e)
+
+read_past : (code : List Instr) (p : ℕ) → length code ≤ p → slice_get (blank code) p ≡ None
+read_past code p l = slice_get-map (shown []) code p ∙ ap (option_map (shown [])) (slice_get_past code p l)
+
+as_long : (code : List Instr) → length code ≡ length (blank code)
+as_long code = sym (length-map code (shown []))
+
+module _ (code : List Instr) (shapes : Shapes) (pending : List ℕ) (place : ℕ) (s : Shape) (at : shape_at shapes place ≡ Some s) (sound : Sound (blank code) shapes) (closed : Closed (blank code) shapes (pending ++ place ∷ [])) where
+  pub at_end : (r : Bool) → length code ≤ place → (IsTrue r ↔ ((place ≡ length code) × (s ≡ bare))) → (r ≡ true → Sound (blank code) shapes × Closed (blank code) shapes pending) × (r ≡ false → Valid (blank code) → ⊥)
+  at_end r l h =
+      let P : ℕ → Type 0 = λ n. IsTrue r ↔ ((place ≡ n) × (s ≡ bare)) in
+      after_end (blank code) shapes pending place s r at sound closed (read_past code place l) (subst P (as_long code) h)
+
+  module _ (i : Instr) (l : place < length code) (is : i ≡ get_or code place i) where
+    pub not_suited : (r : Bool) → (IsTrue r ↔ IsFine (shown [] i) s) → r ≡ false → Valid (blank code) → ⊥
+    not_suited r h e v = after_not_suited (blank code) shapes place s (shown [] i) r at sound (read_item code place i l is) h e v
+
+    pub outside : (r : Bool) → (IsTrue r ↔ StaysInside place (length code) (shown [] i)) → r ≡ false → Valid (blank code) → ⊥
+    outside r h e v =
+        let P : ℕ → Type 0 = λ n. IsTrue r ↔ StaysInside place n (shown [] i) in
+        after_outside (blank code) shapes place s (shown [] i) r at sound (read_item code place i l is) (subst P (as_long code) h) e v
+
+    pub noted : (ps : List ℕ) (left : Shape) (new : Shapes) (new_pending : List ℕ) (fits : Bool) → IsFine (shown [] i) s → StaysInside place (length code) (shown [] i) → ps ≡ reached place (shown [] i) → left ≡ left_by (shown [] i) s → Noted fits ps left shapes pending new new_pending → (fits ≡ true → Sound (blank code) new × Closed (blank code) new new_pending) × (fits ≡ false → Valid (blank code) → ⊥)
+    noted ps left new new_pending fits fine inside e f n =
+        let P : ℕ → Type 0 = λ n. StaysInside place n (shown [] i) in
+        after_noted (blank code) shapes pending place s (shown [] i) ps left new new_pending fits at sound closed (read_item code place i l is) fine (subst P (as_long code) inside) e f n

@@ -1,0 +1,16 @@
+use Rattle.std.proofs.Common.{◌≡◌, ◌+◌, [], Some, length}
+use Rattle.tcl_code.specs.Search.{shape_at, Sound, Closed, left_over}
+use Rattle.tcl_code.specs.Shown.{instructions}
+use Rattle.tcl_code.specs.Valid.{bare}
+use Rattle.tcl_code.proofs.search.decide.Given as goal
+
+abbrev pub invariant-loop-place : goal.invariant-loop-place
+invariant-loop-place l = record {
+  at : shape_at l.search.shapes.items 0 ≡ Some bare;
+  sound : Sound (instructions [] l.code) l.search.shapes.items;
+  closed : Closed (instructions [] l.code) l.search.shapes.items l.search.pending.items;
+  long : length l.search.shapes.items ≡ length l.code + 1;
+}
+
+abbrev pub decreases-loop-place : goal.decreases-loop-place
+decreases-loop-place l = left_over l.search.shapes.items l.search.pending.items

@@ -1,0 +1,9 @@
+pub mod Build
+pub mod Instructions
+pub mod Machine
+pub mod Means
+pub mod Parts
+pub mod Running
+pub mod Search
+pub mod Shown
+pub mod Valid

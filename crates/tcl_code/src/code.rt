@@ -1,0 +1,70 @@
+//! A code, valid by its type.
+
+ghost use Rattle.std.specs.Prelude.{◌≡◌, ◌<◌, IfSome, Some, length, option_map, slice_get};
+ghost use Rattle.tcl_code.specs.Shown.{IsKnown, shown, shown_by};
+ghost use Rattle.tcl_code.specs.Valid.{Covers, Valid};
+
+use crate::instr::Instr;
+use crate::shape::Shape;
+use std::marker::Model;
+use tcl_values::Value;
+
+/// A valid code: its instructions and the table of their texts.
+#[derive(Drop)]
+pub struct Code {
+    pub(crate) instrs: Vec<Instr>,
+    pub(crate) texts: Vec<Value>,
+    pub(crate) top: Shape,
+}
+
+impl Model for Code {
+    ghost use Rattle.tcl_code.specs.Shown.{AllKnown, Listing, instructions, listing};
+    ghost use Rattle.tcl_code.specs.Valid.{Covers, Valid};
+
+    ghost Value = { Listing };
+
+    ghost view = { λ c. listing c.instrs.items c.texts.items };
+
+    ghost invariant = { λ c. Valid (instructions c.texts.items c.instrs.items) × Covers (instructions c.texts.items c.instrs.items) c.top × AllKnown c.texts.items c.instrs.items };
+}
+
+/// The instruction at a place, if there is one.
+fn item(instrs: &[Instr], place: usize) -> Option<Instr>
+    ensures { result ≡ slice_get instrs.now place }
+{
+    instrs.get(place).copied()
+}
+
+impl Code {
+    /// How many instructions there are.
+    pub fn len(&self) -> usize
+        ensures { result ≡ length self.now.instrs }
+    {
+        self.instrs.len()
+    }
+
+    /// The most texts, lists of words and brackets that are ever there, so that room can be made for them at once.
+    pub fn top(&self) -> Shape
+        ensures { Covers (shown_by self.now) result }
+    {
+        self.top
+    }
+
+    /// The instruction at a place, if there is one.
+    pub fn instr(&self, place: usize) -> Option<Instr>
+        ensures instr { result ≡ slice_get self.now.instrs place }
+        ensures shown { slice_get (shown_by self.now) place ≡ option_map (shown self.now.texts) result }
+        ensures known { IfSome result (λ i. IsKnown (length self.now.texts) i) }
+        ensures valid { Valid (shown_by self.now) }
+    {
+        item(self.instrs.as_slice(), place)
+    }
+
+    /// The text of a number.
+    pub fn text(&self, number: u32) -> &Value
+        requires { number < length self.now.texts }
+        ensures { slice_get self.now.texts number ≡ Some result.now }
+    {
+        &self.texts[number as usize]
+    }
+}

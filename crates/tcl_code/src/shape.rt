@@ -1,0 +1,217 @@
+//! What stands there on a way through a code, and what an instruction makes of it.
+
+ghost use Rattle.std.specs.Prelude.{◌≡◌, ◌+◌, ◌-◌, ◌<◌, ◌≤◌, ◌^◌, ◌∷◌, [], ◌↔◌, IfOk, IfSome, IsTrue, length};
+ghost use Rattle.tcl_code.specs.Search.{StaysInside, listed, reached};
+ghost use Rattle.tcl_code.specs.Shown.{shown};
+ghost use Rattle.tcl_code.specs.Valid.{IsEager, IsFine, IsWithin, bare, left_by, with_texts};
+
+use crate::instr::Instr;
+use std::alloc::AllocError;
+use tcl_expr::BinaryOp;
+
+/// How many texts and lists of words are there; how many brackets are open; and how many commands have been paid for that
+/// haven't been called yet. There is one result more than brackets are open.
+#[derive(Clone, Copy, Debug, PartialEq, Eq)]
+pub struct Shape {
+    pub height: u32,
+    pub lists: u32,
+    pub depth: u32,
+    pub paid: u32,
+}
+
+/// The places that an instruction leads to.
+#[derive(Clone, Copy)]
+pub(crate) struct Reached {
+    pub(crate) first: Option<usize>,
+    pub(crate) second: Option<usize>,
+}
+
+/// One more, as far as can be counted.
+fn one_more(count: u32) -> Result<u32, AllocError>
+    ensures { IfOk result (λ m. m ≡ count + 1) }
+{
+    count.checked_add(1).ok_or(AllocError)
+}
+
+/// Does an operator take both texts?
+fn is_eager(op: BinaryOp) -> bool
+    ensures { IsTrue result ↔ IsEager op }
+{
+    !matches!(op, BinaryOp::And | BinaryOp::Or)
+}
+
+impl Shape {
+    /// What stands there at the start and at the end.
+    pub(crate) fn bare() -> Shape
+        ensures { result ≡ bare }
+    {
+        Shape {
+            height: 0,
+            lists: 0,
+            depth: 0,
+            paid: 0,
+        }
+    }
+
+    /// Are they the same?
+    pub(crate) fn same(self, other: Shape) -> bool
+        ensures { IsTrue result ↔ (self ≡ other) }
+    {
+        self.height == other.height
+            && self.lists == other.lists
+            && self.depth == other.depth
+            && self.paid == other.paid
+    }
+
+    /// The greater of each, where there is another one.
+    pub(crate) fn covering(self, other: Option<Shape>) -> Shape
+        ensures this { IsWithin self result }
+        ensures other { IfSome other (λ s. IsWithin s result) }
+    {
+        match other {
+            None => self,
+            Some(other) => Shape {
+                height: self.height.max(other.height),
+                lists: self.lists.max(other.lists),
+                depth: self.depth.max(other.depth),
+                paid: self.paid.max(other.paid),
+            },
+        }
+    }
+
+    /// Is this the end of so many instructions, with nothing left?
+    pub(crate) fn is_end(self, place: usize, count: usize) -> bool
+        ensures { IsTrue result ↔ ((place ≡ count) × (self ≡ bare)) }
+    {
+        place == count && self.height == 0 && self.lists == 0 && self.depth == 0 && self.paid == 0
+    }
+
+    /// So many texts less, and then so many more.
+    fn with_texts(self, less: u32, more: u32) -> Result<Shape, AllocError>
+        ensures { IfOk result (λ s. s ≡ with_texts less more self) }
+    {
+        let height = self
+            .height
+            .saturating_sub(less)
+            .checked_add(more)
+            .ok_or(AllocError)?;
+        Ok(Shape { height, ..self })
+    }
+
+    /// What an instruction leaves.
+    pub(crate) fn after(self, instr: Instr) -> Result<Shape, AllocError>
+        ensures { IfOk result (λ s. s ≡ left_by (shown [] instr) self) }
+    {
+        match instr {
+            Instr::Push(_) | Instr::Read(_) => self.with_texts(0, 1),
+            Instr::ReadElement(_) | Instr::Unary(_) | Instr::Truth | Instr::Final => {
+                self.with_texts(1, 1)
+            }
+            Instr::Join(n) | Instr::Apply(_, n) => self.with_texts(n, 1),
+            Instr::Binary(_) | Instr::Power => self.with_texts(2, 1),
+            Instr::Add | Instr::AddAll | Instr::SkipWhen(_, _) | Instr::Answer => {
+                self.with_texts(1, 0)
+            }
+            Instr::Raise(_) | Instr::Skip(_) | Instr::Turn(_) => Ok(self),
+            Instr::Spend => Ok(Shape {
+                paid: one_more(self.paid)?,
+                ..self
+            }),
+            Instr::Gather => Ok(Shape {
+                lists: one_more(self.lists)?,
+                ..self
+            }),
+            Instr::Enter => Ok(Shape {
+                depth: one_more(self.depth)?,
+                ..self
+            }),
+            Instr::Leave => Ok(Shape {
+                height: one_more(self.height)?,
+                depth: self.depth.saturating_sub(1),
+                ..self
+            }),
+            Instr::Call(n) => Ok(Shape {
+                height: self.height.saturating_sub(n),
+                paid: self.paid.saturating_sub(1),
+                ..self
+            }),
+            Instr::CallGathered => Ok(Shape {
+                lists: self.lists.saturating_sub(1),
+                paid: self.paid.saturating_sub(1),
+                ..self
+            }),
+        }
+    }
+
+    /// Does an instruction find what it needs?
+    pub(crate) fn suits(self, instr: Instr) -> bool
+        ensures { IsTrue result ↔ IsFine (shown [] instr) self }
+    {
+        match instr {
+            Instr::Push(_)
+            | Instr::Read(_)
+            | Instr::Spend
+            | Instr::Enter
+            | Instr::Gather
+            | Instr::Raise(_)
+            | Instr::Skip(_)
+            | Instr::Turn(_) => true,
+            Instr::ReadElement(_)
+            | Instr::SkipWhen(_, _)
+            | Instr::Unary(_)
+            | Instr::Truth
+            | Instr::Final
+            | Instr::Answer => self.height >= 1,
+            Instr::Join(n) | Instr::Apply(_, n) => self.height >= n,
+            Instr::Leave => self.depth >= 1,
+            Instr::Call(n) => self.height >= n && self.paid >= 1,
+            Instr::Add | Instr::AddAll => self.height >= 1 && self.lists >= 1,
+            Instr::CallGathered => self.lists >= 1 && self.paid >= 1,
+            Instr::Binary(op) => self.height >= 2 && is_eager(op),
+            Instr::Power => self.height >= 2,
+        }
+    }
+}
+
+/// Does an instruction lead inside?
+pub(crate) fn stays_inside(place: usize, count: usize, instr: Instr) -> bool
+    requires { place < count }
+    ensures { IsTrue result ↔ StaysInside place count (shown [] instr) }
+{
+    match instr {
+        Instr::Skip(n) | Instr::SkipWhen(_, n) => count - place - 1 >= n as usize,
+        Instr::Turn(n) => place >= n as usize,
+        _ => true,
+    }
+}
+
+/// The places that an instruction leads to, which are inside.
+pub(crate) fn leads_to(place: usize, count: usize, instr: Instr) -> Reached
+    requires at { place < count }
+    requires inside { StaysInside place count (shown [] instr) }
+    ensures { listed result ≡ reached place (shown [] instr) }
+{
+    let next = place + 1;
+    match instr {
+        Instr::Raise(_) => Reached {
+            first: None,
+            second: None,
+        },
+        Instr::Skip(n) => Reached {
+            first: Some(next + n as usize),
+            second: None,
+        },
+        Instr::SkipWhen(_, n) => Reached {
+            first: Some(next),
+            second: Some(next + n as usize),
+        },
+        Instr::Turn(n) => Reached {
+            first: Some(place - n as usize),
+            second: None,
+        },
+        _ => Reached {
+            first: Some(next),
+            second: None,
+        },
+    }
+}

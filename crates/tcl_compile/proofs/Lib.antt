@@ -1,0 +1,13 @@
+pub mod Changing
+pub mod Commands
+pub mod Emits
+pub mod Expressions
+pub mod Failing
+pub mod Leaves
+pub mod Operators
+pub mod Parsing
+pub mod Pieces
+pub mod TreeEmits
+pub mod Views
+pub mod Whole
+pub mod Within

@@ -1,0 +1,175 @@
+-- Parts of an expression that are emitted one after another.
+use Rattle.std.proofs.Common.{◌≡◌, ℕ, zero, suc, ◌+◌, ◌<◌, ◌≤◌, Bool, false, List, [], ◌∷◌, ◌++◌, length, get_or, drop, Some, None, refl, sym, ap, ◌∙◌, subst, arith, append_assoc, append-nil, length-append, add-one, drop-cons}
+use Rattle.std.specs.Prelude.{◌-◌, MatchOption, slice_get, slice_set}
+use Rattle.std.proofs.lemmas.Option.{slice_get-get_or}
+use Rattle.std.proofs.Math.Seq.{get_or-append_seam, set-append_seam}
+use Rattle.tcl_expr.specs.Expr.{Leaf, literal, word, Expr, operand, group, call, unary, power, chain, choice, Rest, argument_count}
+use Rattle.tcl_expr.specs.Machine.{Step, rest_of, args_of}
+use Rattle.tcl_expr.specs.declared.token.UnaryOp.{UnaryOp}
+use Rattle.tcl_expr.specs.declared.token.BinaryOp.{BinaryOp}
+use Rattle.tcl_expr.specs.declared.token.Function.{Function}
+use Rattle.tcl_words.specs.Parts.{Stretch, Shape}
+use Rattle.tcl_pages.specs.Operators.{operator, truth_text}
+use Rattle.tcl_meaning.specs.Expressions.{applied, tree_text, rest_text}
+use Rattle.tcl_code.specs.Instructions.{Instruction, Push, Unary, Binary, Power, Apply, Truth, Skip, SkipWhen}
+use Rattle.tcl_code.specs.Build.{with_count}
+use Rattle.tcl_compile.specs.Emitted.{WordCode}
+use Rattle.tcl_compile.specs.Fragments.{Grown, Leads}
+use Rattle.tcl_compile.specs.Trees.{decided_by, Applies, TreeCode, StepCode, RestCode, ArgsLeft, TreeIsRead, RestIsRead, ArgsAreRead}
+use Rattle.tcl_compile.proofs.Changing.{does_change, change_change, change_none, change_choice, chosen, lazy_code, choice_code}
+use Rattle.tcl_compile.proofs.Emits.{ext, join, leads_on, leads_end}
+use Rattle.tcl_compile.proofs.Operators.{unary_does, power_does, eager_step, lazy_step, applies_end, applies_next, call_does}
+use Rattle.tcl_compile.proofs.Pieces.{push_does}
+
+abbrev Code : Type 0
+Code = List Instruction
+
+-- ---- trees
+
+pub grown_literal : (old new : Code) (x : Leaf) (s : Stretch) → x ≡ literal s → new ≡ old ++ Push s.text ∷ [] → Grown (TreeCode (operand x)) old new
+grown_literal old new x s e h = (Push s.text ∷ [], h, subst (λ y. TreeCode (operand y) (Push s.text ∷ [])) (sym e) (λ dialect. push_does dialect s.text))
+
+pub grown_operand : (old new : Code) (x : Leaf) (w : Shape) → x ≡ word w → Grown (WordCode w.pieces) old new → Grown (TreeCode (operand x)) old new
+grown_operand old new x w e g = (g.0, g.1, subst (λ y. TreeCode (operand y) g.0) (sym e) g.2)
+
+pub grown_group : (old new : Code) (t e : Expr) → t ≡ group e → Grown (TreeCode e) old new → Grown (TreeCode t) old new
+grown_group old new t e f g = (g.0, g.1, subst (λ x. TreeCode x g.0) (sym f) g.2)
+
+pub grown_unary : (old mid new : Code) (t e : Expr) (u : UnaryOp) → t ≡ unary u e → Grown (TreeCode e) old mid → new ≡ mid ++ Unary u ∷ [] → Grown (TreeCode t) old new
+grown_unary old mid new t e u f g h = (
+  g.0 ++ Unary u ∷ [],
+  (join (ext {m0 = old} {c = g.0} g.1) (ext {m0 = mid} {c = Unary u ∷ []} h)).is,
+  subst (λ x. TreeCode x (g.0 ++ Unary u ∷ [])) (sym f) (λ dialect. unary_does dialect u g.0 (λ d. tree_text dialect d e) (g.2 dialect)),
+)
+
+pub grown_power : (m0 m1 m2 m3 : Code) (t a b : Expr) → t ≡ power a b → Grown (TreeCode a) m0 m1 → Grown (TreeCode b) m1 m2 → m3 ≡ m2 ++ Power ∷ [] → Grown (TreeCode t) m0 m3
+grown_power m0 m1 m2 m3 t a b f g h k = (
+  g.0 ++ (h.0 ++ Power ∷ []),
+  (join (ext {m0 = m0} {c = g.0} g.1) (join (ext {m0 = m1} {c = h.0} h.1) (ext {m0 = m2} {c = Power ∷ []} k))).is,
+  subst (λ x. TreeCode x (g.0 ++ (h.0 ++ Power ∷ []))) (sym f) (λ dialect. power_does dialect g.0 h.0 (λ d. tree_text dialect d a) (λ d. tree_text dialect d b) (g.2 dialect) (h.2 dialect)),
+)
+
+pub grown_chain : (m0 m1 m2 : Code) (t e : Expr) (q : ℕ) (r : Rest) → t ≡ chain q e r → Grown (TreeCode e) m0 m1 → Grown (RestCode r) m1 m2 → Grown (TreeCode t) m0 m2
+grown_chain m0 m1 m2 t e q r f g h = (
+  g.0 ++ h.0,
+  (join (ext {m0 = m0} {c = g.0} g.1) (ext {m0 = m1} {c = h.0} h.1)).is,
+  subst (λ x. TreeCode x (g.0 ++ h.0)) (sym f) (λ dialect. does_change dialect g.0 h.0 (λ d. tree_text dialect d e) (λ d a. rest_text dialect d a r) (g.2 dialect) (h.2 dialect)),
+)
+
+-- ---- skips whose ends come later
+
+-- an instruction, a part behind it, and more of that
+record Behind (i : Instruction) (old back new : Code) : Type 0 where
+  is : new ≡ old ++ i ∷ back
+
+behind : (c : Code) {i : Instruction} {m0 m1 m2 : Code} → m1 ≡ m0 ++ i ∷ [] → m2 ≡ m1 ++ c → Behind i m0 c m2
+behind c {i} {m0} {m1} {m2} e f = record { is = f ∙ ap (λ l. l ++ c) e ∙ append_assoc m0 (i ∷ []) c }
+
+more_behind : (c : Code) {i : Instruction} {m0 b m1 m2 : Code} → Behind i m0 b m1 → m2 ≡ m1 ++ c → Behind i m0 (b ++ c) m2
+more_behind c {i} {m0} {b} {m1} {m2} a f = record { is = f ∙ ap (λ l. l ++ c) a.is ∙ append_assoc m0 (i ∷ b) c }
+
+-- what setting a skip's end does, wherever the skip stands
+abbrev pub LedHere : ℕ → Code → Code → Type 0
+LedHere place old new = (front back : Code) (i : Instruction) → old ≡ front ++ i ∷ back → place ≡ length front → new ≡ front ++ with_count (length back) i ∷ back
+
+pub grown_lazy : (m0 m1 m2 m3 m4 m5 m6 : Code) (o : BinaryOp) (b : Bool) (e : Expr) → decided_by o ≡ Some b → m1 ≡ m0 ++ SkipWhen b 0 ∷ [] → Grown (TreeCode e) m1 m2 → m3 ≡ m2 ++ Truth ∷ [] → m4 ≡ m3 ++ Skip 1 ∷ [] → LedHere (length m0) m4 m5 → m6 ≡ m5 ++ Push (truth_text b) ∷ []
+    → Grown (StepCode o e) m0 m6
+grown_lazy m0 m1 m2 m3 m4 m5 m6 o b e d f g h k l n =
+    let back = g.0 ++ Truth ∷ Skip 1 ∷ [] in
+    let there : m4 ≡ m2 ++ Truth ∷ Skip 1 ∷ [] = (join (ext {m0 = m2} {c = Truth ∷ []} h) (ext {m0 = m3} {c = Skip 1 ∷ []} k)).is in
+    let whole : Behind (SkipWhen b 0) m0 back m4 = more_behind (Truth ∷ Skip 1 ∷ []) (behind g.0 {i = SkipWhen b 0} {m0 = m0} f g.1) there in
+    let count : length back ≡ length g.0 + 2 = omega (arith, length-append g.0 (Truth ∷ Skip 1 ∷ [])) in
+    let patched : m5 ≡ m0 ++ SkipWhen b (length g.0 + 2) ∷ back = l m0 back (SkipWhen b 0) whole.is refl ∙ ap (λ j. m0 ++ SkipWhen b j ∷ back) count in
+    let patched_is : Behind (SkipWhen b (length g.0 + 2)) m0 back m5 = record { is = patched } in
+    let code : m6 ≡ m0 ++ lazy_code b g.0 = (more_behind (Push (truth_text b) ∷ []) (patched_is) n).is ∙ ap (λ x. m0 ++ SkipWhen b (length g.0 + 2) ∷ x) (append_assoc g.0 (Truth ∷ Skip 1 ∷ []) (Push (truth_text b) ∷ [])) in
+    (lazy_code b g.0, code, λ dialect. lazy_step dialect o b g.0 (λ d. tree_text dialect d e) d (g.2 dialect))
+
+pub grown_eager : (m0 m1 m2 : Code) (o : BinaryOp) (e : Expr) → decided_by o ≡ None → Grown (TreeCode e) m0 m1 → m2 ≡ m1 ++ Binary o ∷ [] → Grown (StepCode o e) m0 m2
+grown_eager m0 m1 m2 o e d g h = (
+  g.0 ++ Binary o ∷ [],
+  (join (ext {m0 = m0} {c = g.0} g.1) (ext {m0 = m1} {c = Binary o ∷ []} h)).is,
+  λ dialect. eager_step dialect o g.0 (λ d. tree_text dialect d e) d (g.2 dialect),
+)
+
+pub grown_choice : (m0 m1 m2 m3 m4 m5 m6 m7 : Code) (t c e f : Expr) → t ≡ choice c e f → Grown (TreeCode c) m0 m1 → m2 ≡ m1 ++ SkipWhen false 0 ∷ [] → Grown (TreeCode e) m2 m3 → m4 ≡ m3 ++ Skip 0 ∷ [] → LedHere (length m1) m4 m5 → Grown (TreeCode f) m5 m6 → LedHere (length m3) m6 m7
+    → Grown (TreeCode t) m0 m7
+grown_choice m0 m1 m2 m3 m4 m5 m6 m7 t c e f is g h x k l y n =
+    let first : Behind (SkipWhen false 0) m1 (x.0 ++ Skip 0 ∷ []) m4 = more_behind (Skip 0 ∷ []) (behind x.0 {i = SkipWhen false 0} {m0 = m1} h x.1) k in
+    let count : length (x.0 ++ Skip 0 ∷ []) ≡ length x.0 + 1 = omega (arith, length-append x.0 (Skip 0 ∷ [])) in
+    let m5_is : m5 ≡ m1 ++ SkipWhen false (length x.0 + 1) ∷ (x.0 ++ Skip 0 ∷ []) = l m1 (x.0 ++ Skip 0 ∷ []) (SkipWhen false 0) first.is refl ∙ ap (λ j. m1 ++ SkipWhen false j ∷ (x.0 ++ Skip 0 ∷ [])) count in
+    let front = m1 ++ SkipWhen false (length x.0 + 1) ∷ x.0 in
+    let m5_front : m5 ≡ front ++ Skip 0 ∷ [] = m5_is ∙ sym (append_assoc m1 (SkipWhen false (length x.0 + 1) ∷ x.0) (Skip 0 ∷ [])) in
+    let second : Behind (Skip 0) front y.0 m6 = behind y.0 {i = Skip 0} {m0 = front} m5_front y.1 in
+    let m3_is : m3 ≡ m1 ++ SkipWhen false 0 ∷ x.0 = (behind x.0 {i = SkipWhen false 0} {m0 = m1} h x.1).is in
+    let size : length m3 ≡ length front = ap length m3_is ∙ length-append m1 (SkipWhen false 0 ∷ x.0) ∙ sym (length-append m1 (SkipWhen false (length x.0 + 1) ∷ x.0)) in
+    let m7_is : m7 ≡ m1 ++ choice_code x.0 y.0 = n front y.0 (Skip 0) second.is size ∙ append_assoc m1 (SkipWhen false (length x.0 + 1) ∷ x.0) (Skip (length y.0) ∷ y.0) in (
+      g.0 ++ choice_code x.0 y.0,
+      (join (ext {m0 = m0} {c = g.0} g.1) (ext {m0 = m1} {c = choice_code x.0 y.0} m7_is)).is,
+      subst (λ z. TreeCode z (g.0 ++ choice_code x.0 y.0)) (sym is)
+          (λ dialect. does_change dialect g.0 (choice_code x.0 y.0) (λ d. tree_text dialect d c) (chosen dialect (λ d. tree_text dialect d e) (λ d. tree_text dialect d f)) (g.2 dialect)
+          (change_choice dialect x.0 y.0 (λ d. tree_text dialect d e) (λ d. tree_text dialect d f) (x.2 dialect) (y.2 dialect))),
+    )
+
+-- ---- lists from a place on
+
+drop_here : {A : Type 0} (xs : List A) (i : ℕ) (x : A) → i < length xs → x ≡ get_or xs i x → drop i xs ≡ x ∷ drop (i + 1) xs
+drop_here xs i x h e = rw (add-one, drop-cons xs i x h) (ap (λ y. y ∷ drop (suc i) xs) (sym e))
+
+drop_end : {A : Type 0} (xs : List A) (i : ℕ) → length xs ≤ i → drop i xs ≡ []
+drop_end [] zero h = refl
+drop_end [] (suc i) h = refl
+drop_end (x ∷ xs) zero h = absurd (omega arith)
+drop_end (x ∷ xs) (suc i) h = drop_end xs i (omega arith)
+
+-- ---- a chain's parts
+
+pub step_leads : (xs : List Step) (i : ℕ) (x : Step) (old mid new : Code) → i < length xs → x ≡ get_or xs i x → Leads (RestCode (rest_of (drop i xs))) (RestCode (rest_of xs)) old mid → Grown (StepCode x.0 x.1) mid new → Leads (RestCode (rest_of (drop (i + 1) xs))) (RestCode (rest_of xs)) old new
+step_leads xs i x old mid new lt e l g =
+    leads_on (RestCode (rest_of (drop i xs))) (RestCode (rest_of (drop (i + 1) xs))) (StepCode x.0 x.1) (RestCode (rest_of xs)) old mid new
+    (λ c more h k. subst (λ ys. RestCode (rest_of ys) (c ++ more)) (sym (drop_here xs i x lt e))
+    (λ dialect. change_change dialect c more (λ d a. applied dialect (operator dialect x.0) a (tree_text dialect d x.1)) (λ d a. rest_text dialect d a (rest_of (drop (i + 1) xs))) (h dialect) (k dialect))) l g
+
+pub grown_rest : (xs : List Step) (i : ℕ) (old new : Code) → length xs ≤ i → Leads (RestCode (rest_of (drop i xs))) (RestCode (rest_of xs)) old new → Grown (RestCode (rest_of xs)) old new
+grown_rest xs i old new le l =
+    leads_end (RestCode (rest_of (drop i xs))) (RestCode (rest_of xs)) old new new l ([], sym (append-nil new), subst (λ ys. RestCode (rest_of ys) []) (sym (drop_end xs i le)) (λ dialect. change_none dialect))
+
+-- ---- arguments
+
+pub argument_leads : (f : Function) (n : ℕ) (es : List Expr) (i : ℕ) (e : Expr) (old mid new : Code) → i < length es → e ≡ get_or es i e → Leads (ArgsLeft f n (args_of (drop i es))) (ArgsLeft f n (args_of es)) old mid → Grown (TreeCode e) mid new
+    → Leads (ArgsLeft f n (args_of (drop (i + 1) es))) (ArgsLeft f n (args_of es)) old new
+argument_leads f n es i e old mid new lt k l g =
+    leads_on (ArgsLeft f n (args_of (drop i es))) (ArgsLeft f n (args_of (drop (i + 1) es))) (TreeCode e) (ArgsLeft f n (args_of es)) old mid new
+    (λ c more h m. subst (λ ys. ArgsLeft f n (args_of ys) (c ++ more)) (sym (drop_here es i e lt k)) (λ dialect. applies_next dialect f n e (args_of (drop (i + 1) es)) c more (h dialect) (m dialect))) l g
+
+count_args : (es : List Expr) → argument_count (args_of es) ≡ length es
+count_args [] = refl
+count_args (e ∷ es) = ap suc (count_args es)
+
+pub grown_arguments : (f : Function) (n : ℕ) (es : List Expr) (i : ℕ) (old mid new : Code) → length es ≤ i → Leads (ArgsLeft f n (args_of (drop i es))) (ArgsLeft f n (args_of es)) old mid → new ≡ mid ++ Apply f n ∷ [] → Grown (ArgsLeft f n (args_of es)) old new
+grown_arguments f n es i old mid new le l h =
+    leads_end (ArgsLeft f n (args_of (drop i es))) (ArgsLeft f n (args_of es)) old mid new l (Apply f n ∷ [], h, subst (λ ys. ArgsLeft f n (args_of ys) (Apply f n ∷ [])) (sym (drop_end es i le)) (λ dialect. applies_end dialect f n))
+
+pub grown_call : (f : Function) (s : Stretch) (t : Expr) (es : List Expr) (n : ℕ) (old new : Code) → t ≡ call f s (args_of es) → n ≡ length es → Grown (ArgsLeft f n (args_of es)) old new → Grown (TreeCode t) old new
+grown_call f s t es n old new is e g = (g.0, g.1, subst (λ x. TreeCode x g.0) (sym is) (λ dialect. call_does dialect f s (args_of es) g.0 (subst (λ m. Applies dialect f m g.0 (args_of es)) (e ∙ sym (count_args es)) (g.2 dialect))))
+
+-- ---- one of the operands
+
+pub argument_read : (n : ℕ) (es : List Expr) (i : ℕ) (e : Expr) → ArgsAreRead n (args_of es) → i < length es → e ≡ get_or es i e → TreeIsRead n e
+argument_read n [] i e h lt k = absurd (omega arith)
+argument_read n (x ∷ es) zero e h lt k = subst (TreeIsRead n) (sym k) h.0
+argument_read n (x ∷ es) (suc i) e h lt k = argument_read n es i e h.1 (omega arith) k
+
+pub step_read : (n : ℕ) (xs : List Step) (i : ℕ) (x : Step) → RestIsRead n (rest_of xs) → i < length xs → x ≡ get_or xs i x → TreeIsRead n x.1
+step_read n [] i x h lt k = absurd (omega arith)
+step_read n (y ∷ xs) zero x h lt k = subst (λ (z : Step). TreeIsRead n z.1) (sym k) h.0
+step_read n (y ∷ xs) (suc i) x h lt k = step_read n xs i x h.1 (omega arith) k
+
+-- ---- a skip that is led here
+
+pub led : (old new : Code) (place count : ℕ) → MatchOption (slice_get old place) (new ≡ old) (λ i. new ≡ slice_set old place (with_count count i)) → count ≡ length old - place - 1 → LedHere place old new
+led old new place count h e front back i f p =
+    let within : length front < length (front ++ i ∷ back) = omega (arith, length-append front (i ∷ back)) in
+    let here : slice_get old place ≡ Some i = ap (slice_get old) p ∙ ap (λ (l : Code). slice_get l (length front)) f ∙ slice_get-get_or (front ++ i ∷ back) (length front) i within ∙ ap Some (get_or-append_seam front i back i) in
+    let done : new ≡ slice_set old place (with_count count i) = subst (λ o. MatchOption o (new ≡ old) (λ j. new ≡ slice_set old place (with_count count j))) here h in
+    let size : count ≡ length back = omega (arith, e, p, ap length f, length-append front (i ∷ back)) in
+    done ∙ ap (λ (l : Code). slice_set l place (with_count count i)) f ∙ ap (λ k. slice_set (front ++ i ∷ back) k (with_count count i)) p ∙ set-append_seam front i back (with_count count i) ∙ ap (λ k. front ++ with_count k i ∷ back) size

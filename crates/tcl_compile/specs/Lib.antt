@@ -1,0 +1,4 @@
+pub mod Emitted
+pub mod Fragments
+pub mod Trees
+pub mod Within

@@ -1,0 +1,229 @@
+//! The code of a script, emitted from left to right.
+
+ghost use Rattle.std.specs.Prelude.{◌≡◌, ◌+◌, ◌-◌, ◌<◌, ◌++◌, false, ◌∷◌, [], IfOk, OnOk, length, map};
+ghost use Rattle.std.specs.Str.{chars};
+ghost use Rattle.tcl_words.specs.First.{IsParsed, first_command, most_levels};
+ghost use Rattle.tcl_words.specs.Parts.{shape_of, part_of, parts_of};
+ghost use Rattle.tcl_meaning.specs.Nesting.{PartNests, PartsNest, WordsNest};
+ghost use Rattle.tcl_code.specs.Instructions.{Call, Join, Push};
+ghost use Rattle.tcl_compile.specs.Emitted.{PieceCode, WordCode, BracketCode, CommandCode, ScriptCode};
+ghost use Rattle.tcl_compile.specs.Fragments.{Grown, Plain, adding};
+ghost use Rattle.tcl_compile.specs.Within.{PartWithin, PartsWithin, WordsWithin};
+
+use std::alloc::{AllocError, Global};
+use tcl_chars::push;
+use tcl_code::{CodeBuilder, Instr};
+use tcl_words::{Parsed, Piece, Word, parse_first};
+
+// Brackets and array indices may stand in one another this deep.
+const MOST_LEVELS: u32 = 200;
+
+fn first(alloc: Global, text: &str) -> Result<Parsed<'_>, AllocError>
+    ensures { IfOk result (λ p. IsParsed text.now p (first_command most_levels (chars text.now))) }
+{
+    parse_first(alloc, text, MOST_LEVELS)
+}
+
+// The commands of a script, in place of its last completion.
+#[cycle(emitting)]
+pub(crate) fn emit_script(
+    code: &mut CodeBuilder,
+    alloc: Global,
+    text: &str,
+) -> Result<(), AllocError>
+    ensures { OnOk result (Grown (ScriptCode (chars text.now)) code.old code.new) }
+{
+    let mut rest = text;
+    'commands: loop {
+        match first(alloc, rest)? {
+            Parsed::End(_) => return Ok(()),
+            Parsed::Bad(fault) => return code.raise(fault.text()),
+            Parsed::Command(words, after) => {
+                code.emit(Instr::Spend)?;
+                emit_command(code, alloc, rest, words.as_slice())?;
+                rest = &rest[after..];
+            }
+        }
+    }
+}
+
+// Has a word `{*}` in front?
+fn any_expands(words: &[Word<'_>]) -> bool
+    ensures { result ≡ false → Plain (map shape_of words.now) }
+{
+    'words: for word in words {
+        if word.expands {
+            return true;
+        }
+    }
+    false
+}
+
+// A command of a text, which has been paid for.
+#[cycle(emitting)]
+fn emit_command(
+    code: &mut CodeBuilder,
+    alloc: Global,
+    whole: &str,
+    words: &[Word<'_>],
+) -> Result<(), AllocError>
+    requires some { 0 < length (chars whole.now) }
+    requires nests { WordsNest most_levels (map shape_of words.now) }
+    requires within { WordsWithin (length (chars whole.now) - 1) (map shape_of words.now) }
+    ensures { OnOk result (Grown (CommandCode (map shape_of words.now)) code.old code.new) }
+{
+    if any_expands(words) {
+        emit_gathered(code, alloc, whole, words)
+    } else {
+        emit_plain(code, alloc, whole, words)
+    }
+}
+
+// So many pieces are joined.
+fn emit_join(code: &mut CodeBuilder, count: usize) -> Result<(), AllocError>
+    ensures { OnOk result (code.new ≡ code.old ++ Join count ∷ []) }
+{
+    let count = u32::try_from(count).map_err(|_| AllocError)?;
+    code.emit(Instr::Join(count))
+}
+
+// The command of so many words.
+fn emit_call(code: &mut CodeBuilder, count: usize) -> Result<(), AllocError>
+    ensures { OnOk result (code.new ≡ code.old ++ Call count ∷ []) }
+{
+    let count = u32::try_from(count).map_err(|_| AllocError)?;
+    code.emit(Instr::Call(count))
+}
+
+// The words of a command, and its call.
+#[cycle(emitting)]
+fn emit_plain(
+    code: &mut CodeBuilder,
+    alloc: Global,
+    whole: &str,
+    words: &[Word<'_>],
+) -> Result<(), AllocError>
+    requires plain { Plain (map shape_of words.now) }
+    requires some { 0 < length (chars whole.now) }
+    requires nests { WordsNest most_levels (map shape_of words.now) }
+    requires within { WordsWithin (length (chars whole.now) - 1) (map shape_of words.now) }
+    ensures { OnOk result (Grown (CommandCode (map shape_of words.now)) code.old code.new) }
+{
+    'words: for word in words {
+        emit_word(code, alloc, whole, word)?;
+    }
+    emit_call(code, words.len())
+}
+
+// A word that is there, or all elements of its text.
+fn emit_add(code: &mut CodeBuilder, all: bool) -> Result<(), AllocError>
+    ensures { OnOk result (code.new ≡ code.old ++ adding all ∷ []) }
+{
+    if all {
+        code.emit(Instr::AddAll)
+    } else {
+        code.emit(Instr::Add)
+    }
+}
+
+// The words of a command, some of them expanded, and its call.
+#[cycle(emitting)]
+fn emit_gathered(
+    code: &mut CodeBuilder,
+    alloc: Global,
+    whole: &str,
+    words: &[Word<'_>],
+) -> Result<(), AllocError>
+    requires some { 0 < length (chars whole.now) }
+    requires nests { WordsNest most_levels (map shape_of words.now) }
+    requires within { WordsWithin (length (chars whole.now) - 1) (map shape_of words.now) }
+    ensures { OnOk result (Grown (CommandCode (map shape_of words.now)) code.old code.new) }
+{
+    code.emit(Instr::Gather)?;
+    'words: for word in words {
+        emit_word(code, alloc, whole, word)?;
+        emit_add(code, word.expands)?;
+    }
+    code.emit(Instr::CallGathered)
+}
+
+// The text of a word.
+#[cycle(emitting)]
+pub(crate) fn emit_word(
+    code: &mut CodeBuilder,
+    alloc: Global,
+    whole: &str,
+    word: &Word<'_>,
+) -> Result<(), AllocError>
+    requires some { 0 < length (chars whole.now) }
+    requires nests { PartsNest most_levels (parts_of (shape_of word.now).pieces) }
+    requires within { PartsWithin (length (chars whole.now) - 1) (parts_of (shape_of word.now).pieces) }
+    ensures { OnOk result (Grown (WordCode (shape_of word.now).pieces) code.old code.new) }
+{
+    emit_pieces(code, alloc, whole, MOST_LEVELS, word.pieces.as_slice())
+}
+
+// Pieces, which are joined. Their array indices stand in one another at most `levels` deep.
+#[cycle(emitting)]
+fn emit_pieces(
+    code: &mut CodeBuilder,
+    alloc: Global,
+    whole: &str,
+    levels: u32,
+    pieces: &[Piece<'_>],
+) -> Result<(), AllocError>
+    requires some { 0 < length (chars whole.now) }
+    requires nests { PartsNest levels (parts_of (map part_of pieces.now)) }
+    requires within { PartsWithin (length (chars whole.now) - 1) (parts_of (map part_of pieces.now)) }
+    ensures { OnOk result (Grown (WordCode (map part_of pieces.now)) code.old code.new) }
+{
+    'pieces: for piece in pieces {
+        emit_piece(code, alloc, whole, levels, piece)?;
+    }
+    emit_join(code, pieces.len())
+}
+
+// The text of one character.
+fn emit_char(code: &mut CodeBuilder, alloc: Global, c: char) -> Result<(), AllocError>
+    ensures { OnOk result (code.new ≡ code.old ++ Push (c ∷ []) ∷ []) }
+{
+    let mut text = String::new(alloc);
+    push(&mut text, c)?;
+    code.push(text.as_str())
+}
+
+// A piece. Its array indices stand in one another at most `levels` deep.
+#[cycle(emitting)]
+fn emit_piece(
+    code: &mut CodeBuilder,
+    alloc: Global,
+    whole: &str,
+    levels: u32,
+    piece: &Piece<'_>,
+) -> Result<(), AllocError>
+    requires some { 0 < length (chars whole.now) }
+    requires nests { PartNests levels (part_of piece.now) }
+    requires within { PartWithin (length (chars whole.now) - 1) (part_of piece.now) }
+    ensures { OnOk result (Grown (PieceCode (part_of piece.now)) code.old code.new) }
+{
+    match piece {
+        Piece::Text(span) => code.push(span.text),
+        Piece::Escape(_, c) => emit_char(code, alloc, *c),
+        Piece::Var(_, name) => code.read(name.text),
+        Piece::Elem(_, name, index) => {
+            emit_pieces(code, alloc, whole, levels - 1, index)?;
+            code.read_element(name.text)
+        }
+        Piece::Bracket(_, script) => emit_deeper(code, alloc, script.text),
+    }
+}
+
+// A script one deeper.
+#[cycle(emitting)]
+fn emit_deeper(code: &mut CodeBuilder, alloc: Global, text: &str) -> Result<(), AllocError>
+    ensures { OnOk result (Grown (BracketCode (chars text.now)) code.old code.new) }
+{
+    code.emit(Instr::Enter)?;
+    emit_script(code, alloc, text)?;
+    code.emit(Instr::Leave)
+}

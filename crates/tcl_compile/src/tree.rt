@@ -1,0 +1,212 @@
+//! The code of an expression's tree, emitted from left to right.
+
+ghost use Rattle.std.specs.Prelude.{◌≡◌, ◌+◌, ◌-◌, ◌<◌, ◌++◌, ◌∷◌, [], List, OnOk, length, map, None, Some};
+ghost use Rattle.std.specs.Str.{chars};
+ghost use Rattle.tcl_expr.specs.Expr.{operand};
+ghost use Rattle.tcl_expr.specs.Machine.{args_of, rest_of};
+ghost use Rattle.tcl_expr.specs.View.{leaf_of, step_of, view};
+ghost use Rattle.tcl_code.specs.Build.{with_count};
+ghost use Rattle.tcl_code.specs.Instructions.{Instruction, Apply, Push};
+ghost use Rattle.tcl_pages.specs.Operators.{truth_text};
+ghost use Rattle.tcl_compile.specs.Fragments.{Grown};
+ghost use Rattle.tcl_compile.specs.Trees.{ArgsAreRead, ArgsLeft, LeafIsRead, RestCode, RestIsRead, StepCode, TreeCode, TreeIsRead, decided_by};
+
+use crate::script::emit_word;
+use std::alloc::{AllocError, Global};
+use tcl_code::{CodeBuilder, Instr};
+use tcl_expr::{BinaryOp, Function, Leaf, Tree};
+
+// The value of a tree of a text.
+#[cycle(emitting_tree)]
+pub(crate) fn emit_tree(
+    code: &mut CodeBuilder,
+    alloc: Global,
+    whole: &str,
+    tree: &Tree<'_>,
+) -> Result<(), AllocError>
+    requires some { 0 < length (chars whole.now) }
+    requires read { TreeIsRead (length (chars whole.now) - 1) (view tree.now) }
+    ensures { OnOk result (Grown (TreeCode (view tree.now)) code.old code.new) }
+{
+    match tree {
+        Tree::Operand(leaf) => emit_leaf(code, alloc, whole, leaf),
+        Tree::Group(inner) => emit_tree(code, alloc, whole, inner),
+        Tree::Call(function, _, arguments) => {
+            emit_call(code, alloc, whole, *function, arguments)
+        }
+        Tree::Unary(op, inner) => {
+            emit_tree(code, alloc, whole, inner)?;
+            code.emit(Instr::Unary(*op))
+        }
+        Tree::Power(base, exponent) => {
+            emit_tree(code, alloc, whole, base)?;
+            emit_tree(code, alloc, whole, exponent)?;
+            code.emit(Instr::Power)
+        }
+        Tree::Chain(_, first, rest) => {
+            emit_tree(code, alloc, whole, first)?;
+            emit_rest(code, alloc, whole, rest)
+        }
+        Tree::Choice(condition, yes, no) => {
+            emit_tree(code, alloc, whole, condition)?;
+            let unless = code.len();
+            code.emit(Instr::SkipWhen(false, 0))?;
+            emit_tree(code, alloc, whole, yes)?;
+            let past = code.len();
+            code.emit(Instr::Skip(0))?;
+            lead_here(code, unless)?;
+            emit_tree(code, alloc, whole, no)?;
+            lead_here(code, past)
+        }
+    }
+}
+
+// An operand.
+fn emit_leaf(
+    code: &mut CodeBuilder,
+    alloc: Global,
+    whole: &str,
+    leaf: &Leaf<'_>,
+) -> Result<(), AllocError>
+    requires some { 0 < length (chars whole.now) }
+    requires read { LeafIsRead (length (chars whole.now) - 1) (leaf_of leaf.now) }
+    ensures { OnOk result (Grown (TreeCode (operand (leaf_of leaf.now))) code.old code.new) }
+{
+    match leaf {
+        Leaf::Literal(span) => code.push(span.text),
+        Leaf::Word(word) => emit_word(code, alloc, whole, word),
+    }
+}
+
+// The arguments of a function, and the function.
+#[cycle(emitting_tree)]
+fn emit_call(
+    code: &mut CodeBuilder,
+    alloc: Global,
+    whole: &str,
+    function: Function,
+    arguments: &[Tree<'_>],
+) -> Result<(), AllocError>
+    requires some { 0 < length (chars whole.now) }
+    requires read { ArgsAreRead (length (chars whole.now) - 1) (args_of (map view arguments.now)) }
+    ensures { OnOk result (Grown (ArgsLeft function (length arguments.now) (args_of (map view arguments.now))) code.old code.new) }
+{
+    'arguments: for argument in arguments {
+        emit_tree(code, alloc, whole, argument)?;
+    }
+    emit_apply(code, function, arguments.len())
+}
+
+// A function of so many texts.
+fn emit_apply(code: &mut CodeBuilder, function: Function, count: usize) -> Result<(), AllocError>
+    ensures { OnOk result (code.new ≡ code.old ++ Apply function count ∷ []) }
+{
+    let count = u32::try_from(count).map_err(|_| AllocError)?;
+    code.emit(Instr::Apply(function, count))
+}
+
+// Operators of one level with their right operands, where the text of the first left one is there.
+#[cycle(emitting_tree)]
+fn emit_rest(
+    code: &mut CodeBuilder,
+    alloc: Global,
+    whole: &str,
+    rest: &[(BinaryOp, Tree<'_>)],
+) -> Result<(), AllocError>
+    requires some { 0 < length (chars whole.now) }
+    requires read { RestIsRead (length (chars whole.now) - 1) (rest_of (map step_of rest.now)) }
+    ensures { OnOk result (Grown (RestCode (rest_of (map step_of rest.now))) code.old code.new) }
+{
+    'parts: for part in rest {
+        emit_step(code, alloc, whole, part.0, &part.1)?;
+    }
+    Ok(())
+}
+
+// An operator and its right operand, where the text of the left one is there.
+#[cycle(emitting_tree)]
+fn emit_step(
+    code: &mut CodeBuilder,
+    alloc: Global,
+    whole: &str,
+    op: BinaryOp,
+    right: &Tree<'_>,
+) -> Result<(), AllocError>
+    requires some { 0 < length (chars whole.now) }
+    requires read { TreeIsRead (length (chars whole.now) - 1) (view right.now) }
+    ensures { OnOk result (Grown (StepCode op (view right.now)) code.old code.new) }
+{
+    match decided_at(op) {
+        None => emit_eager(code, alloc, whole, op, right),
+        Some(decided) => emit_lazy(code, alloc, whole, op, decided, right),
+    }
+}
+
+// The truth value of a left operand by which an operator is decided.
+fn decided_at(op: BinaryOp) -> Option<bool>
+    ensures { result ≡ decided_by op }
+{
+    match op {
+        BinaryOp::And => Some(false),
+        BinaryOp::Or => Some(true),
+        _ => None,
+    }
+}
+
+// An operator that takes both texts, with its right operand.
+#[cycle(emitting_tree)]
+fn emit_eager(
+    code: &mut CodeBuilder,
+    alloc: Global,
+    whole: &str,
+    op: BinaryOp,
+    right: &Tree<'_>,
+) -> Result<(), AllocError>
+    requires some { 0 < length (chars whole.now) }
+    requires read { TreeIsRead (length (chars whole.now) - 1) (view right.now) }
+    requires both { decided_by op ≡ None }
+    ensures { OnOk result (Grown (StepCode op (view right.now)) code.old code.new) }
+{
+    emit_tree(code, alloc, whole, right)?;
+    code.emit(Instr::Binary(op))
+}
+
+// An operator that may be decided by its left operand, with its right one.
+#[cycle(emitting_tree)]
+fn emit_lazy(
+    code: &mut CodeBuilder,
+    alloc: Global,
+    whole: &str,
+    op: BinaryOp,
+    decided: bool,
+    right: &Tree<'_>,
+) -> Result<(), AllocError>
+    requires some { 0 < length (chars whole.now) }
+    requires read { TreeIsRead (length (chars whole.now) - 1) (view right.now) }
+    requires one { decided_by op ≡ Some decided }
+    ensures { OnOk result (Grown (StepCode op (view right.now)) code.old code.new) }
+{
+    let place = code.len();
+    code.emit(Instr::SkipWhen(decided, 0))?;
+    emit_tree(code, alloc, whole, right)?;
+    code.emit(Instr::Truth)?;
+    code.emit(Instr::Skip(1))?;
+    lead_here(code, place)?;
+    emit_truth(code, decided)
+}
+
+// A truth value as 1 or 0.
+fn emit_truth(code: &mut CodeBuilder, value: bool) -> Result<(), AllocError>
+    ensures { OnOk result (code.new ≡ code.old ++ Push (truth_text value) ∷ []) }
+{
+    code.push(if value { "1" } else { "0" })
+}
+
+// The skip at a place leads to the next instruction.
+fn lead_here(code: &mut CodeBuilder, place: usize) -> Result<(), AllocError>
+    requires { place < length code.now }
+    ensures { OnOk result ((front back : List Instruction) (i : Instruction) → code.old ≡ front ++ i ∷ back → place ≡ length front → code.new ≡ front ++ with_count (length back) i ∷ back) }
+{
+    let count = code.len() - place - 1;
+    code.patch(place, count)
+}

@@ -1,0 +1,10 @@
+pub mod Advancing
+pub mod Answering
+pub mod Fitting
+pub mod Forward
+pub mod Going
+pub mod Making
+pub mod Returning
+pub mod Stuck
+pub mod Turning
+pub mod Unwinding

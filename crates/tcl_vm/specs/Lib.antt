@@ -1,0 +1,7 @@
+pub mod Engines
+pub mod Fitting
+pub mod Laws
+pub mod Machines
+pub mod Standing
+pub mod Turns
+pub mod Unwinding
