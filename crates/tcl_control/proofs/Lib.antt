@@ -1,0 +1,3 @@
+pub mod ChoiceLemmas
+pub mod PageLemmas
+pub mod TestLemmas

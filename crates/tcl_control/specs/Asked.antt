@@ -1,0 +1,36 @@
+-- What a command's code has asked for is what the definition asks for.
+use Rattle.std.specs.Prelude.{◌≡◌, ℕ, List, [], get_or, Option, Some, None, Result, Ok, Err}
+use Rattle.std.specs.declared.alloc.AllocError.{AllocError}
+use Rattle.tcl_meaning.specs.Asking.{Asks}
+use Rattle.tcl_meaning.specs.Completions.{Completion}
+use Rattle.tcl_meaning.specs.Control.{ask_if}
+use Rattle.tcl_meaning.specs.Effects.{Give}
+use Rattle.tcl_meaning.specs.Tasks as tasks
+use Rattle.tcl_meaning.specs.Value.{Has, Fails, fail}
+use Rattle.tcl_steps.specs.Views.{step_of}
+use Rattle.tcl_steps.specs.declared.step.Step.{Step}
+use Rattle.tcl_steps.specs.declared.step.Scope.{Scope}
+use Rattle.tcl_steps.specs.declared.step.Owes.{Owes}
+use Rattle.tcl_steps.specs.declared.step.Loop.{Loop}
+use Rattle.tcl_control.specs.declared.conditions.Condition.{Condition}
+use Rattle.tcl_control.specs.declared.conditions.Condition.TheVariants as condition
+
+-- What is asked for where nothing is looked at and nothing done first. An error is the command's completion.
+abbrev pub at_once : Asks → Option tasks.Step
+at_once (Give (Has step)) = Some step
+at_once (Give (Fails c)) = Some (tasks.Done c)
+at_once _ = None
+
+-- the definition asks for this at once; memory may be wanting
+abbrev pub IsAsked : Result (Step Scope Owes Loop) AllocError → Asks → Type 0
+IsAsked (Ok step) asks = at_once asks ≡ Some (step_of step)
+IsAsked (Err e) asks = Unit {0}
+
+-- what a condition has come to: a truth value, or a completion that is the command's
+abbrev pub by_test : Condition → Asks → Asks → Asks
+by_test (condition.Holds b) go stay = ask_if b go stay
+by_test (condition.Ends c) go stay = fail c
+
+-- the word at a place
+abbrev pub word : List (List ℕ) → ℕ → List ℕ
+word ws i = get_or ws i []

@@ -1,0 +1,3 @@
+pub mod VariableLemmas
+pub mod Endings
+pub mod SetLemmas

@@ -1,0 +1,40 @@
+-- How commands end.
+use Rattle.std.specs.Prelude.{◌≡◌, Result, Ok, Err}
+use Rattle.tcl_frames.specs.Standing.{Standing}
+use Rattle.tcl_meaning.specs.Asking.{Asks, value_step}
+use Rattle.tcl_meaning.specs.Completions.{Completion}
+use Rattle.tcl_meaning.specs.Effects.{Plain, Give, ◌>>=◌}
+use Rattle.tcl_meaning.specs.Tasks.{Step, Done}
+use Rattle.tcl_meaning.specs.Value.{Value, Has, Fails}
+use Rattle.tcl_vars.specs.Comes.{Comes}
+use Rattle.tcl_vars.specs.declared.stop.Stop.{Stop}
+use Rattle.tcl_vars.specs.declared.stop.Stop.TheVariants as stop
+
+-- A part of a command has the value that its program gives, or stops with the script's error that it gives; or memory was
+-- refused.
+abbrev pub Ends : {A : Type 0} → Plain (Value A) → Standing → Result A Stop → Standing → Type 0
+Ends p before (Ok a) after = Comes p before (Has a) after
+Ends p before (Err (stop.Error c)) after = Comes p before (Fails c) after
+Ends p before (Err stop.Memory) after = Unit {0}
+
+-- the first step of a page: what it asks for, or that it is done
+abbrev pub first_step : Asks → Plain Step
+first_step page = page >>= λ v. Give (value_step v)
+
+-- The page is done with this completion, normal or the script's error; or memory was refused.
+abbrev pub Does : {E : Type 0} → Asks → Standing → Result Completion E → Standing → Type 0
+Does page before (Ok c) after = Comes (first_step page) before (Done c) after
+Does page before (Err refused) after = Unit {0}
+
+-- the same completion, of the value or of the error
+abbrev pub Closes : {E : Type 0} → Result Completion Stop → Result Completion E → Type 0
+Closes (Ok c) closed = closed ≡ Ok c
+Closes (Err (stop.Error c)) closed = closed ≡ Ok c
+Closes (Err stop.Memory) (Ok c) = ⊥
+Closes (Err stop.Memory) (Err refused) = Unit {0}
+
+-- A command, where an error stops it.
+abbrev pub EndsDone : Asks → Standing → Result Completion Stop → Standing → Type 0
+EndsDone page before (Ok c) after = Comes page before (Has (Done c)) after
+EndsDone page before (Err (stop.Error c)) after = Comes page before (Fails c) after
+EndsDone page before (Err stop.Memory) after = Unit {0}

@@ -1,0 +1,35 @@
+//! Why a part of a command has no value.
+ghost use Rattle.std.specs.Prelude.{◌≡◌};
+ghost use Rattle.tcl_vars.specs.Ends.{Closes};
+ghost use Rattle.tcl_vars.specs.declared.stop.Stop.TheVariants as stop;
+
+use std::alloc::AllocError;
+use tcl_steps::Completion;
+
+/// Why a part of a command has no value.
+#[derive(Drop)]
+pub enum Stop {
+    /// The script's error.
+    Error(Completion),
+    /// A growth was refused.
+    Memory,
+}
+
+impl From<AllocError> for Stop {
+    ghost from_gives = { λ _ s. s ≡ stop.Memory };
+
+    fn from(_refused: AllocError) -> Stop {
+        Stop::Memory
+    }
+}
+
+/// The command's completion, normal or the script's error.
+pub(crate) fn closed(ending: Result<Completion, Stop>) -> Result<Completion, AllocError>
+    ensures { Closes ending result }
+{
+    match ending {
+        Ok(completion) => Ok(completion),
+        Err(Stop::Error(completion)) => Ok(completion),
+        Err(Stop::Memory) => Err(AllocError),
+    }
+}
