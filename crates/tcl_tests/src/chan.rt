@@ -3,4 +3,5 @@ mod callers;
 mod cuts;
 mod devices;
 mod input;
+mod large;
 mod output;

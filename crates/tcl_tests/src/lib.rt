@@ -7,15 +7,23 @@ mod chan;
 #[cfg(test)]
 mod chars;
 #[cfg(test)]
+mod code;
+#[cfg(test)]
+mod dicts;
+#[cfg(test)]
 mod expr;
 #[cfg(test)]
 mod interp;
 #[cfg(test)]
 mod list;
 #[cfg(test)]
+mod lists;
+#[cfg(test)]
 mod names;
 #[cfg(test)]
 mod shell;
+#[cfg(test)]
+mod strings;
 #[cfg(test)]
 mod values;
 #[cfg(test)]

@@ -1,157 +1,115 @@
 //! The program's words, statuses and lines.
-use std::alloc::Global;
-use std::process::Abort;
-use std::test::Fail;
+use std::alloc::{AllocError, Global};
 use tcl_chan::faulty::FaultyOutput;
 use tcl_chan::memory::{MemoryInput, MemoryOutput};
 use tcl_shell::{file_word, tool};
 
 #[test]
 fn files(rt: HostRuntime) {
-    assert_eq!(rt; file_word(&["a.tcl"]), Some(0));
-    assert_eq!(rt; file_word(&["-budget", "5", "a.tcl", "x"]), Some(2));
-    assert_eq!(rt; file_word(&["-budget", "5"]), None);
-    assert_eq!(rt; file_word(&["-budget", "x", "a.tcl"]), None);
-    assert_eq!(rt;
-        file_word(&["-budget", "9223372036854775807", "a"]),
-        Some(2)
-    );
-    assert_eq!(rt; file_word(&["-budget", "9223372036854775808", "a"]), None);
-    assert_eq!(rt; file_word(&["-budget", "", "a"]), None);
-    assert_eq!(rt; file_word(&[]), None);
+    for (words, place) in [
+        ([].as_slice(), None),
+        (&["a.tcl"], Some(0)),
+        (&["-budget", "5", "a.tcl", "x"], Some(2)),
+        (&["-budget", "5"], None),
+        (&["-budget", "x", "a.tcl"], None),
+        (&["-budget", "9223372036854775807", "a"], Some(2)),
+        (&["-budget", "9223372036854775808", "a"], None),
+        (&["-budget", "", "a"], None),
+    ] {
+        assert!(rt; file_word(words) == place, "{} words", words.len());
+    }
 }
 
-// What the program must write and answer for its words and its file.
-#[derive(Clone, Copy)]
-struct Want {
-    status: u8,
-    out: &'static str,
-    err: &'static str,
-}
-
-fn check(
-    rt: &impl Abort,
+/// Does the program answer this status, and write this, for its words and its file?
+fn answers(
     alloc: Global,
     words: &[&str],
     file: Option<&[u8]>,
-    want: Want,
-) -> Result<(), Fail> {
+    status: u8,
+    want: (&str, &str),
+) -> Result<bool, AllocError> {
     let mut input = MemoryInput::new(b"");
     let mut out = MemoryOutput::new(alloc, 64)?;
     let mut err = MemoryOutput::new(alloc, 64)?;
-    let status = tool(alloc, words, file, &mut input, &mut out, &mut err);
-    assert_eq!(rt; status, want.status);
-    assert_eq!(rt; out.bytes(), want.out.as_bytes());
-    assert_eq!(rt; err.bytes(), want.err.as_bytes());
-    Ok(())
+    let answer = tool(alloc, words, file, &mut input, &mut out, &mut err);
+    Ok(answer == status && out.bytes() == want.0.as_bytes() && err.bytes() == want.1.as_bytes())
 }
 
 #[test]
-fn scripts_run(rt: HostRuntime) -> Result<(), Fail> {
-    let alloc = rt.alloc();
-    let good = Want {
-        status: 0,
-        out: "a\n",
-        err: "",
-    };
-    for text in [
-        b"puts a".as_slice(),
-        b"puts stdout a\n",
-        b"set x a\r\nputs $x\r\n",
-        b"puts \\\r\n a",
+fn scripts_run(rt: HostRuntime) {
+    for (text, want) in [
+        (b"puts a".as_slice(), "a\n"),
+        (b"puts stdout a\n", "a\n"),
+        (b"set x a\r\nputs $x\r\n", "a\n"),
+        (b"puts \\\r\n a", "a\n"),
+        (b"puts {a\rb}", "a\rb\n"),
+        (b"", ""),
     ] {
-        check(&rt, alloc, &["a.tcl"], Some(text), good)?;
-    }
-    let kept = Want {
-        out: "a\rb\n",
-        ..good
-    };
-    check(&rt, alloc, &["a.tcl"], Some(b"puts {a\rb}"), kept)?;
-    check(
-        &rt,
-        alloc,
-        &["-budget", "1", "a.tcl"],
-        Some(b"puts a"),
-        good,
-    )?;
-    check(&rt, alloc, &["a.tcl"], Some(b""), Want { out: "", ..good })
-}
-
-#[test]
-fn bad_words_and_files(rt: HostRuntime) -> Result<(), Fail> {
-    let alloc = rt.alloc();
-    let usage = Want {
-        status: 5,
-        out: "",
-        err: "usage: tclint ?-budget N? ?file arg ...?\n",
-    };
-    check(&rt, alloc, &[], None, usage)?;
-    check(&rt, alloc, &["-budget", "5"], None, usage)?;
-    check(
-        &rt,
-        alloc,
-        &["-budget", "-1", "a.tcl"],
-        Some(b"puts a"),
-        usage,
-    )?;
-    let unread = Want {
-        err: "couldn't read file \"a.tcl\"\n",
-        ..usage
-    };
-    check(&rt, alloc, &["a.tcl"], None, unread)?;
-    let bytes = Want {
-        err: "file \"a.tcl\" is not UTF-8\n",
-        ..usage
-    };
-    check(&rt, alloc, &["a.tcl"], Some(b"puts \xff"), bytes)
-}
-
-#[test]
-fn runs_that_do_not_end_well(rt: HostRuntime) -> Result<(), Fail> {
-    let alloc = rt.alloc();
-    let error = Want {
-        status: 1,
-        out: "a\n",
-        err: "missing close-brace\n",
-    };
-    check(&rt, alloc, &["a.tcl"], Some(b"puts a; puts {"), error)?;
-    let budget = Want {
-        status: 2,
-        out: "a\n",
-        err: "budget spent\n",
-    };
-    check(
-        &rt,
-        alloc,
-        &["-budget", "1", "a.tcl"],
-        Some(b"puts a; puts b"),
-        budget,
-    )?;
-    let arguments = Want {
-        status: 1,
-        out: "",
-        err: "script arguments come with lists\n",
-    };
-    check(&rt, alloc, &["a.tcl", "b"], Some(b"puts a"), arguments)
-}
-
-#[test]
-fn failing_devices(rt: HostRuntime) -> Result<(), Fail> {
-    let alloc = rt.alloc();
-    for (fail_write, fail_flush) in [(1, 0), (0, 1)] {
-        let mut input = MemoryInput::new(b"");
-        let mut out = FaultyOutput::new(MemoryOutput::new(alloc, 64)?, fail_write, fail_flush);
-        let mut err = MemoryOutput::new(alloc, 64)?;
-        let status = tool(
-            alloc,
-            &["a.tcl"],
-            Some(b"puts a"),
-            &mut input,
-            &mut out,
-            &mut err,
+        assert!(rt;
+            answers(rt.alloc(), &["a.tcl"], Some(text), 0, (want, "")) == Ok(true),
+            "{want}"
         );
-        assert_eq!(rt; status, 4);
-        assert_eq!(rt; err.bytes(), b"read or write failed\n".as_slice());
     }
-    Ok(())
+}
+
+static USAGE: &str = "usage: tclint ?-budget N? ?file arg ...?\n";
+
+#[test]
+fn bad_words_and_files(rt: HostRuntime) {
+    for (words, file, want) in [
+        ([].as_slice(), None, USAGE),
+        (&["-budget", "5"], None, USAGE),
+        (
+            &["-budget", "-1", "a.tcl"],
+            Some(b"puts a".as_slice()),
+            USAGE,
+        ),
+        (&["a.tcl"], None, "couldn't read file \"a.tcl\"\n"),
+        (
+            &["a.tcl"],
+            Some(b"puts \xff"),
+            "file \"a.tcl\" is not UTF-8\n",
+        ),
+    ] {
+        assert!(rt;
+            answers(rt.alloc(), words, file, 5, ("", want)) == Ok(true),
+            "{want}"
+        );
+    }
+}
+
+#[test]
+fn budgets(rt: HostRuntime) {
+    let words = ["-budget", "1", "a.tcl"];
+    let fits = answers(rt.alloc(), &words, Some(b"puts a"), 0, ("a\n", ""));
+    assert!(rt; fits == Ok(true));
+    let want = ("a\n", "budget spent\n");
+    let spent = answers(rt.alloc(), &words, Some(b"puts a; puts b"), 2, want);
+    assert!(rt; spent == Ok(true));
+}
+
+#[test]
+fn runs_that_do_not_end_well(rt: HostRuntime) {
+    let want = ("a\n", "missing close-brace\n");
+    let error = answers(rt.alloc(), &["a.tcl"], Some(b"puts a; puts {"), 1, want);
+    assert!(rt; error == Ok(true));
+    let want = ("", "script arguments come with lists\n");
+    let arguments = answers(rt.alloc(), &["a.tcl", "b"], Some(b"puts a"), 1, want);
+    assert!(rt; arguments == Ok(true));
+}
+
+/// Does the program say that a device failed, where the output's write and flush fail at these calls?
+fn complains(alloc: Global, fail_write: u64, fail_flush: u64) -> Result<bool, AllocError> {
+    let mut input = MemoryInput::new(b"");
+    let mut out = FaultyOutput::new(MemoryOutput::new(alloc, 64)?, fail_write, fail_flush);
+    let mut err = MemoryOutput::new(alloc, 64)?;
+    let file = Some(b"puts a".as_slice());
+    let status = tool(alloc, &["a.tcl"], file, &mut input, &mut out, &mut err);
+    Ok(status == 4 && err.bytes() == b"read or write failed\n".as_slice())
+}
+
+#[test]
+fn failing_devices(rt: HostRuntime) {
+    assert!(rt; complains(rt.alloc(), 1, 0) == Ok(true));
+    assert!(rt; complains(rt.alloc(), 0, 1) == Ok(true));
 }

@@ -2,12 +2,35 @@
 //! texts, counts and numbers; a test compares these.
 use std::alloc::Global;
 use std::rc::RcStr;
-use std::test::Fail;
 use tcl_chars::{Dialect, Fault, Whole};
 use tcl_values::Value;
 
 fn value(alloc: Global, text: &str) -> Result<Value, Fault> {
     Ok(Value::of_text(RcStr::from_str(alloc, text)?))
+}
+
+/// Is this what was worked out?
+fn is(found: Result<RcStr, Fault>, want: &str) -> bool {
+    match found {
+        Ok(text) => text.as_str() == want,
+        Err(_) => false,
+    }
+}
+
+/// Is this the count that was worked out?
+fn counts(found: Result<usize, Fault>, want: usize) -> bool {
+    match found {
+        Ok(count) => count == want,
+        Err(_) => false,
+    }
+}
+
+/// Was the question answered, by yes?
+fn holds(found: Result<bool, Fault>) -> bool {
+    match found {
+        Ok(answer) => answer,
+        Err(_) => false,
+    }
 }
 
 fn values(alloc: Global, texts: &[&str]) -> Result<Vec<Value>, Fault> {
@@ -26,15 +49,19 @@ fn decimal(alloc: Global, number: i64) -> Result<RcStr, Fault> {
     text(alloc, Value::of_int(number))
 }
 
+fn length(text: Result<RcStr, Fault>) -> Result<usize, Fault> {
+    Ok(text?.len())
+}
+
 fn copied(alloc: Global, start: &str) -> Result<RcStr, Fault> {
     text(alloc, value(alloc, start)?.copy()?)
 }
 
-/// The number that a text is read as, the second time.
-fn whole(alloc: Global, start: &str) -> Result<Whole, Fault> {
+/// Is the text read as this, the second time?
+fn reads(alloc: Global, start: &str, want: Whole) -> Result<bool, Fault> {
     let mut read = value(alloc, start)?;
     read.whole(alloc, Dialect::Tcl86)?;
-    Ok(read.whole(alloc, Dialect::Tcl86)?)
+    Ok(read.whole(alloc, Dialect::Tcl86)? == want)
 }
 
 /// A text that was read as a number.
@@ -63,10 +90,11 @@ fn count(alloc: Global, start: &str) -> Result<usize, Fault> {
     value(alloc, start)?.count(alloc)
 }
 
-fn item(alloc: Global, start: &str, place: usize) -> Result<Option<RcStr>, Fault> {
+/// An element as a text, or that there is none.
+fn item(alloc: Global, start: &str, place: usize) -> Result<RcStr, Fault> {
     match value(alloc, start)?.item(alloc, place)? {
-        Some(item) => Ok(Some(text(alloc, item)?)),
-        None => Ok(None),
+        Some(item) => text(alloc, item),
+        None => Ok(RcStr::from_str(alloc, "none")?),
     }
 }
 
@@ -174,7 +202,8 @@ fn nested(alloc: Global, times: u32) -> Result<Value, Fault> {
 }
 
 /// The first element's first element, and so on, so many times.
-fn descended(alloc: Global, mut list: Value, times: u32) -> Result<RcStr, Fault> {
+fn descended(alloc: Global, list: Result<Value, Fault>, times: u32) -> Result<RcStr, Fault> {
+    let mut list = list?;
     for _ in 0..times {
         if let Some(inner) = list.take_item(alloc, 0)? {
             list = inner;
@@ -196,125 +225,110 @@ fn braces(alloc: Global, times: u32) -> Result<Value, Fault> {
 }
 
 #[test]
-fn texts_and_numbers(rt: HostRuntime) -> Result<(), Fail> {
+fn texts_and_numbers(rt: HostRuntime) {
     let alloc = rt.alloc();
-    assert_eq!(rt; copied(alloc, "a  b")?.as_str(), "a  b");
-    assert_eq!(rt; decimal(alloc, -7)?.as_str(), "-7");
-    assert_eq!(rt; decimal(alloc, i64::MIN)?.as_str(), "-9223372036854775808");
-    assert_eq!(rt; shown(alloc, "né")?, 3);
-    Ok(())
+    assert!(rt; is(copied(alloc, "a  b"), "a  b"));
+    assert!(rt; is(decimal(alloc, -7), "-7"));
+    assert!(rt; is(decimal(alloc, i64::MIN), "-9223372036854775808"));
+    assert!(rt; counts(shown(alloc, "né"), 3));
 }
 
 #[test]
-fn numbers_are_read(rt: HostRuntime) -> Result<(), Fail> {
+fn numbers_are_read(rt: HostRuntime) {
     let alloc = rt.alloc();
-    for (spelling, number) in [
-        ("0x10", 16),
-        ("010", 8),
-        ("+5", 5),
-        (" 5 ", 5),
-        ("-0", 0),
-        ("12", 12),
+    for (spelling, want) in [
+        ("0x10", Whole::Number(16)),
+        ("010", Whole::Number(8)),
+        ("+5", Whole::Number(5)),
+        (" 5 ", Whole::Number(5)),
+        ("-0", Whole::Number(0)),
+        ("12", Whole::Number(12)),
+        ("08", Whole::Not),
+        ("9223372036854775808", Whole::TooLarge),
     ] {
-        assert_eq!(rt; whole(alloc, spelling)?, Whole::Number(number));
-        assert_eq!(rt; read(alloc, spelling)?.as_str(), spelling);
+        assert!(rt; holds(reads(alloc, spelling, want)), "{spelling}");
+        assert!(rt; is(read(alloc, spelling), spelling), "{spelling}");
     }
-    assert_eq!(rt; whole(alloc, "08")?, Whole::Not);
-    assert_eq!(rt; whole(alloc, "9223372036854775808")?, Whole::TooLarge);
-    Ok(())
 }
 
 #[test]
-fn texts_grow(rt: HostRuntime) -> Result<(), Fail> {
+fn texts_grow(rt: HostRuntime) {
     let alloc = rt.alloc();
-    assert_eq!(rt; grown(alloc, "a b", " c", 2)?.as_str(), "a b c c");
-    assert_eq!(rt; grown(alloc, "1", "é", 1000)?.len(), 2001);
-    Ok(())
+    assert!(rt; is(grown(alloc, "a b", " c", 2), "a b c c"));
+    assert!(rt; counts(length(grown(alloc, "1", "é", 1000)), 2001));
 }
 
 #[test]
-fn lists_are_read(rt: HostRuntime) -> Result<(), Fail> {
+fn lists_are_read(rt: HostRuntime) {
     let alloc = rt.alloc();
-    assert_eq!(rt; count(alloc, "a  {b c} d")?, 3);
-    assert_eq!(rt; lengths(alloc, "a  {b c} de")?, 132);
-    assert!(rt; item(alloc, "a  {b c} d", 3)?.is_none());
-    if let Some(found) = item(alloc, "a  {b c} d", 1)? {
-        assert_eq!(rt; found.as_str(), "b c");
+    assert!(rt; counts(count(alloc, "a  {b c} d"), 3));
+    assert!(rt; counts(lengths(alloc, "a  {b c} de"), 132));
+    assert!(rt; is(item(alloc, "a  {b c} d", 1), "b c"));
+    assert!(rt; is(item(alloc, "a  {b c} d", 3), "none"));
+    assert!(rt; is(written(alloc, "a  {b c} d"), "a {b c} d"));
+}
+
+#[test]
+fn parts_of_lists(rt: HostRuntime) {
+    let alloc = rt.alloc();
+    for (first, count, want) in [(1, 9, "{b c} d"), (9, 1, ""), (0, 1, "a")] {
+        assert!(rt; is(part(alloc, "a  {b c} d", first, count), want), "{want}");
     }
-    assert_eq!(rt; written(alloc, "a  {b c} d")?.as_str(), "a {b c} d");
-    Ok(())
 }
 
 #[test]
-fn parts_of_lists(rt: HostRuntime) -> Result<(), Fail> {
+fn lists_are_made_and_changed(rt: HostRuntime) {
     let alloc = rt.alloc();
-    assert_eq!(rt; part(alloc, "a  {b c} d", 1, 9)?.as_str(), "{b c} d");
-    assert_eq!(rt; part(alloc, "a  {b c} d", 9, 1)?.as_str(), "");
-    assert_eq!(rt; part(alloc, "a  {b c} d", 0, 1)?.as_str(), "a");
-    Ok(())
+    assert!(rt; is(listed(alloc, &["#", "", "a b"]), "{#} {} {a b}"));
+    assert!(rt; is(pushed(alloc, "a  b", "{"), "a b \\{"));
+    assert!(rt; is(replaced(alloc, "a  b", 1, "x"), "a x"));
+    assert!(rt; is(replaced(alloc, "a  b", 2, "x"), "a  b"));
+    assert!(rt; is(before_a_push(alloc, "a  b"), "a  b"));
+    assert!(rt; is(changed_inside(alloc, "{a b} {a b}", "z"), "{z b} {a b}"));
 }
 
 #[test]
-fn lists_are_made_and_changed(rt: HostRuntime) -> Result<(), Fail> {
+fn elements_take_the_place_of_others(rt: HostRuntime) {
     let alloc = rt.alloc();
-    assert_eq!(rt; listed(alloc, &["#", "", "a b"])?.as_str(), "{#} {} {a b}");
-    assert_eq!(rt; pushed(alloc, "a  b", "{")?.as_str(), "a b \\{");
-    assert_eq!(rt; replaced(alloc, "a  b", 1, "x")?.as_str(), "a x");
-    assert_eq!(rt; replaced(alloc, "a  b", 2, "x")?.as_str(), "a  b");
-    assert_eq!(rt; before_a_push(alloc, "a  b")?.as_str(), "a  b");
-    assert_eq!(rt;
-        changed_inside(alloc, "{a b} {a b}", "z")?.as_str(),
-        "{z b} {a b}"
+    assert!(rt;
+        is(
+            spliced(alloc, "a b c d", 1, 2, &["x", "y", "z"]),
+            "a x y z d"
+        )
     );
-    Ok(())
+    assert!(rt; is(spliced(alloc, "a b c", 0, 1, &[]), "b c"));
+    assert!(rt; is(spliced(alloc, "a b c", 9, 9, &["z"]), "a b c z"));
+    assert!(rt; is(spliced(alloc, "a b c", 1, usize::MAX, &["z"]), "a z"));
 }
 
-#[test]
-fn elements_take_the_place_of_others(rt: HostRuntime) -> Result<(), Fail> {
-    let alloc = rt.alloc();
-    assert_eq!(rt;
-        spliced(alloc, "a b c d", 1, 2, &["x", "y", "z"])?.as_str(),
-        "a x y z d"
-    );
-    assert_eq!(rt; spliced(alloc, "a b c", 0, 1, &[])?.as_str(), "b c");
-    assert_eq!(rt; spliced(alloc, "a b c", 9, 9, &["z"])?.as_str(), "a b c z");
-    assert_eq!(rt;
-        spliced(alloc, "a b c", 1, usize::MAX, &["z"])?.as_str(),
-        "a z"
-    );
-    Ok(())
+/// Does a script's error say this?
+fn fails(found: Result<usize, Fault>, want: &str) -> bool {
+    match found {
+        Err(Fault::Error(message)) => message.as_str() == want,
+        _ => false,
+    }
 }
 
 #[test]
 fn a_text_that_is_no_list(rt: HostRuntime) {
-    let alloc = rt.alloc();
-    match count(alloc, "{a}b c") {
-        Err(Fault::Error(message)) => assert_eq!(rt;
-            message.as_str(),
-            "list element in braces followed by \"b\" instead of space"
-        ),
-        _ => assert!(rt; false),
-    }
+    let want = "list element in braces followed by \"b\" instead of space";
+    assert!(rt; fails(count(rt.alloc(), "{a}b c"), want));
 }
 
 #[test]
-fn a_thousand_elements(rt: HostRuntime) -> Result<(), Fail> {
-    let alloc = rt.alloc();
-    assert_eq!(rt; all_replaced(alloc)?.len(), 1999);
-    assert_eq!(rt; put_into_itself(alloc)?, 2000);
-    Ok(())
+fn a_thousand_elements(rt: HostRuntime) {
+    assert!(rt; counts(length(all_replaced(rt.alloc())), 1999));
+    assert!(rt; counts(put_into_itself(rt.alloc()), 2000));
 }
 
 #[test]
-fn deeply_nested(rt: HostRuntime) -> Result<(), Fail> {
+fn deeply_nested(rt: HostRuntime) {
     let alloc = rt.alloc();
-    assert_eq!(rt;
-        descended(alloc, nested(alloc, 1000)?, 1000)?.as_str(),
-        "a b"
+    assert!(rt; is(descended(alloc, nested(alloc, 1000), 1000), "a b"));
+    assert!(rt;
+        counts(
+            length(descended(alloc, braces(alloc, 100_000), 10)),
+            199_980
+        )
     );
-    assert_eq!(rt;
-        descended(alloc, braces(alloc, 100_000)?, 10)?.len(),
-        199_980
-    );
-    Ok(())
 }

@@ -1,5 +1,6 @@
 //! What the rules say of given texts.
 mod commands;
 mod depth;
+mod large;
 mod places;
 mod shown;

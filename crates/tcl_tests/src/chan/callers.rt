@@ -2,8 +2,7 @@
 ghost use Rattle.std.specs.Prelude.{◌≡◌, ◌++◌, [], OnOk, Some};
 ghost use Rattle.tcl_chan.specs.Devices.{put_behind};
 
-use std::alloc::Global;
-use std::test::Fail;
+use std::alloc::{AllocError, Global};
 use tcl_chan::device::{Input, Output};
 use tcl_chan::fault::{ChanFault, Out};
 use tcl_chan::memory::{MemoryInput, MemoryOutput};
@@ -29,13 +28,14 @@ fn write_both<R: Input, W: Output, E: Output>(
 }
 
 #[test]
-fn devices_end_as_the_world_leaves_them(rt: HostRuntime) -> Result<(), Fail> {
+fn devices_end_as_the_world_leaves_them(rt: HostRuntime) -> Result<(), AllocError> {
     let alloc = rt.alloc();
     let mut input = MemoryInput::new(b"");
     let mut out = MemoryOutput::new(alloc, 9)?;
     let mut err = MemoryOutput::new(alloc, 9)?;
-    write_both(alloc, &mut input, &mut out, &mut err, "one", "two")?;
-    assert_eq!(rt; out.bytes(), b"one".as_slice());
-    assert_eq!(rt; err.bytes(), b"two".as_slice());
+    let wrote = write_both(alloc, &mut input, &mut out, &mut err, "one", "two");
+    assert!(rt; wrote.is_ok());
+    assert!(rt; out.bytes() == b"one".as_slice());
+    assert!(rt; err.bytes() == b"two".as_slice());
     Ok(())
 }

@@ -1,90 +1,143 @@
 //! The devices by themselves.
+use std::alloc::{AllocError, Global};
 use std::io::{self, ErrorKind, Read, Write};
-use std::test::Fail;
 use tcl_chan::device::{Broken, Input, Output};
 use tcl_chan::faulty::{FaultyInput, FaultyOutput};
 use tcl_chan::memory::{MemoryInput, MemoryOutput};
 use tcl_chan::pieces::OneByte;
 use tcl_chan::standard::{StandardInput, StandardOutput};
 
-#[test]
-fn memory_is_read_in_order(rt: HostRuntime) {
-    let mut input = MemoryInput::new(b"abc");
-    let mut buffer = [0; 2];
-    assert_eq!(rt; input.read(&mut []), Ok(0));
-    assert_eq!(rt; input.read(&mut buffer), Ok(2));
-    assert_eq!(rt; buffer, *b"ab");
-    assert_eq!(rt; input.read(&mut buffer), Ok(1));
-    assert_eq!(rt; buffer[0], b'c');
-    assert_eq!(rt; input.read(&mut buffer), Ok(0));
-    assert_eq!(rt; input.failures(), 0);
+/// What four reads of up to two bytes give, each with `;` behind it, or `!` where it failed, and the failures.
+fn reads<R: Input>(alloc: Global, input: &mut R) -> Result<String, AllocError> {
+    let mut shown = String::new(alloc);
+    for _ in 0..4u8 {
+        let mut buffer = [0; 2];
+        match input.read(&mut buffer) {
+            Ok(size) => add_bytes(&mut shown, &buffer, size)?,
+            Err(Broken) => shown.push('!')?,
+        }
+    }
+    write!(shown, "{}", input.failures())?;
+    Ok(shown)
+}
+
+fn add_bytes(shown: &mut String, buffer: &[u8], size: usize) -> Result<(), AllocError> {
+    for byte in buffer.iter().take(size) {
+        shown.push(char::from(*byte))?;
+    }
+    shown.push(';')
+}
+
+/// What writes of these texts answer, a flush where there is none: the sizes, `!` where a call failed, and the failures.
+fn writes<W: Output>(
+    alloc: Global,
+    output: &mut W,
+    texts: &[Option<&str>],
+) -> Result<String, AllocError> {
+    let mut shown = String::new(alloc);
+    for text in texts {
+        match text {
+            Some(text) => add_size(&mut shown, output.write(text.as_bytes()))?,
+            None => add_size(&mut shown, output.flush().map(|_| 0))?,
+        }
+    }
+    write!(shown, "{}", output.failures())?;
+    Ok(shown)
+}
+
+fn add_size(shown: &mut String, size: Result<usize, Broken>) -> Result<(), AllocError> {
+    match size {
+        Ok(size) => write!(shown, "{size};"),
+        Err(Broken) => shown.push('!'),
+    }
+}
+
+/// Is this the text that was made?
+fn is(made: Result<String, AllocError>, want: &str) -> bool {
+    match made {
+        Ok(text) => text.as_str() == want,
+        Err(_) => false,
+    }
 }
 
 #[test]
-fn one_byte_a_call(rt: HostRuntime) -> Result<(), Fail> {
-    let mut input = OneByte::new(MemoryInput::new(b"ab"));
-    let mut buffer = [0; 9];
-    assert_eq!(rt; input.read(&mut []), Ok(0));
-    assert_eq!(rt; input.read(&mut buffer), Ok(1));
-    assert_eq!(rt; input.read(&mut buffer), Ok(1));
-    assert_eq!(rt; input.read(&mut buffer), Ok(0));
-    assert_eq!(rt; input.failures(), 0);
-    let mut output = OneByte::new(MemoryOutput::new(rt.alloc(), 2)?);
-    assert_eq!(rt; output.write(b"xyz"), Ok(1));
-    assert_eq!(rt; output.write(b""), Ok(0));
-    assert_eq!(rt; output.write(b"y"), Ok(1));
-    assert_eq!(rt; output.write(b"z"), Err(Broken));
-    assert_eq!(rt; output.flush(), Ok(()));
-    assert_eq!(rt; output.failures(), 1);
-    assert_eq!(rt; output.inner().bytes(), b"xy".as_slice());
-    Ok(())
+fn inputs_give_their_bytes_in_order(rt: HostRuntime) {
+    let alloc = rt.alloc();
+    assert!(rt; is(reads(alloc, &mut MemoryInput::new(b"abc")), "ab;c;;;0"));
+    assert!(rt;
+        is(
+            reads(alloc, &mut OneByte::new(MemoryInput::new(b"ab"))),
+            "a;b;;;0"
+        )
+    );
+    assert!(rt;
+        is(
+            reads(alloc, &mut StandardInput::new(b"abc".as_slice())),
+            "ab;c;;;0"
+        )
+    );
 }
 
 #[test]
-fn a_flush_is_passed_on(rt: HostRuntime) -> Result<(), Fail> {
-    let inner = FaultyOutput::new(MemoryOutput::new(rt.alloc(), 0)?, 0, 1);
+fn inputs_fail_at_the_chosen_call(rt: HostRuntime) {
+    let alloc = rt.alloc();
+    let mut once = FaultyInput::new(MemoryInput::new(b"abc"), 2);
+    assert!(rt; is(reads(alloc, &mut once), "ab;!c;;1"));
+    assert!(rt; is(reads(alloc, &mut StandardInput::new(Interrupted)), "!!!!4"));
+}
+
+#[test]
+fn a_read_of_no_bytes(rt: HostRuntime) {
+    assert!(rt; MemoryInput::new(b"abc").read(&mut []) == Ok(0));
+    assert!(rt; OneByte::new(MemoryInput::new(b"abc")).read(&mut []) == Ok(0));
+    assert!(rt; StandardInput::new(rt.stdin()).read(&mut []) == Ok(0));
+}
+
+/// A device over memory that takes a byte a call.
+fn one_byte(alloc: Global) -> Result<String, AllocError> {
+    let mut output = OneByte::new(MemoryOutput::new(alloc, 2)?);
+    let mut shown = writes(
+        alloc,
+        &mut output,
+        &[Some("xyz"), Some(""), Some("y"), Some("z"), None],
+    )?;
+    add_bytes(&mut shown, output.inner().bytes(), 9)?;
+    Ok(shown)
+}
+
+/// A device that fails at two chosen calls.
+fn faulty(alloc: Global) -> Result<String, AllocError> {
+    let mut output = FaultyOutput::new(MemoryOutput::new(alloc, 9)?, 2, 1);
+    let mut shown = writes(
+        alloc,
+        &mut output,
+        &[Some("a"), None, Some("b"), None, Some("c")],
+    )?;
+    add_bytes(&mut shown, output.inner().bytes(), 9)?;
+    Ok(shown)
+}
+
+/// A device that passes a flush on to one that fails.
+fn passing(alloc: Global) -> Result<String, AllocError> {
+    let inner = FaultyOutput::new(MemoryOutput::new(alloc, 0)?, 0, 1);
     let mut output = OneByte::new(FaultyOutput::new(inner, 0, 0));
-    assert_eq!(rt; output.flush(), Err(Broken));
-    assert_eq!(rt; output.flush(), Ok(()));
-    assert_eq!(rt; output.failures(), 1);
-    Ok(())
+    writes(alloc, &mut output, &[None, None])
 }
 
 #[test]
-fn the_chosen_call_fails_and_no_other(rt: HostRuntime) -> Result<(), Fail> {
-    let mut input = FaultyInput::new(MemoryInput::new(b"abc"), 2);
-    let mut buffer = [0; 1];
-    assert_eq!(rt; input.read(&mut buffer), Ok(1));
-    assert_eq!(rt; input.read(&mut buffer), Err(Broken));
-    assert_eq!(rt; input.read(&mut buffer), Ok(1));
-    assert_eq!(rt; buffer, *b"b");
-    assert_eq!(rt; input.read(&mut buffer), Ok(1));
-    assert_eq!(rt; input.failures(), 1);
-    let mut output = FaultyOutput::new(MemoryOutput::new(rt.alloc(), 9)?, 2, 1);
-    assert_eq!(rt; output.write(b"a"), Ok(1));
-    assert_eq!(rt; output.flush(), Err(Broken));
-    assert_eq!(rt; output.write(b"b"), Err(Broken));
-    assert_eq!(rt; output.flush(), Ok(()));
-    assert_eq!(rt; output.write(b"c"), Ok(1));
-    assert_eq!(rt; output.failures(), 2);
-    assert_eq!(rt; output.inner().bytes(), b"ac".as_slice());
-    Ok(())
+fn outputs_over_memory(rt: HostRuntime) {
+    assert!(rt; is(one_byte(rt.alloc()), "1;0;1;!0;1xy;"));
+    assert!(rt; is(faulty(rt.alloc()), "1;!!0;1;2ac;"));
+    assert!(rt; is(passing(rt.alloc()), "!0;1"));
 }
 
 #[test]
-fn standard_streams(rt: HostRuntime) {
-    let mut input = StandardInput::new(rt.stdin());
-    assert_eq!(rt; input.read(&mut []), Ok(0));
-    assert_eq!(rt; input.failures(), 0);
+fn standard_outputs(rt: HostRuntime) {
+    let texts = [Some("ab"), Some(""), None];
     let mut output = StandardOutput::stdout(rt.stdout());
-    assert_eq!(rt; output.write(b"ab"), Ok(2));
-    assert_eq!(rt; output.write(b""), Ok(0));
-    assert_eq!(rt; output.flush(), Ok(()));
-    assert_eq!(rt; output.failures(), 0);
+    assert!(rt; is(writes(rt.alloc(), &mut output, &texts), "2;0;0;0"));
     let mut errors = StandardOutput::stderr(rt.stderr());
-    assert_eq!(rt; errors.write(b"cd"), Ok(2));
-    assert_eq!(rt; errors.flush(), Ok(()));
-    assert_eq!(rt; errors.failures(), 0);
+    assert!(rt; is(writes(rt.alloc(), &mut errors, &texts), "2;0;0;0"));
 }
 
 /// A stream of which every call is interrupted.
@@ -108,18 +161,11 @@ impl Write for Interrupted {
 }
 
 #[test]
-fn streams_that_fail(rt: HostRuntime) {
-    let mut input = StandardInput::new(Interrupted);
-    assert_eq!(rt; input.read(&mut [0; 2]), Err(Broken));
-    assert_eq!(rt; input.failures(), 1);
+fn outputs_that_fail(rt: HostRuntime) {
+    let texts = [Some("ab"), Some("b"), Some(""), None];
     let mut output = StandardOutput::over(Interrupted);
-    assert_eq!(rt; output.write(b"a"), Err(Broken));
-    assert_eq!(rt; output.flush(), Err(Broken));
-    assert_eq!(rt; output.failures(), 2);
+    assert!(rt; is(writes(rt.alloc(), &mut output, &texts), "!!!!4"));
     let mut room = [0; 1];
     let mut full = StandardOutput::over(room.as_mut_slice());
-    assert_eq!(rt; full.write(b"ab"), Ok(1));
-    assert_eq!(rt; full.write(b"b"), Err(Broken));
-    assert_eq!(rt; full.failures(), 1);
-    assert_eq!(rt; full.write(b""), Ok(0));
+    assert!(rt; is(writes(rt.alloc(), &mut full, &texts), "1;!0;0;1"));
 }

@@ -1,239 +1,296 @@
 //! Rows of input: the bytes, and what the calls answer, over a device that gives all it has, over one that gives a byte a
 //! call, and over those that cut at one place.
 use super::cuts::{CutInput, Resuming};
-use std::alloc::Global;
+use std::alloc::{AllocError, Global};
 use std::rc::RcStr;
 use std::string::String;
-use std::test::Fail;
-use tcl_chan::device::Input;
+use tcl_chan::device::{Input, Output};
 use tcl_chan::fault::ChanFault;
 use tcl_chan::faulty::FaultyInput;
 use tcl_chan::memory::{MemoryInput, MemoryOutput};
 use tcl_chan::pieces::OneByte;
+use tcl_chan::standard::StandardInput;
 use tcl_chan::world::World;
 
-/// What four calls of `gets` answer, each with `!` where the end was met by then and `;` else.
-fn lines<R: Input>(alloc: Global, input: &mut R) -> Result<String, ChanFault> {
+/// A call: `gets`, or a `read` of so many characters or of all.
+#[derive(Clone, Copy)]
+pub(super) enum Ask {
+    Line,
+    Chars(u64),
+    All,
+}
+
+pub(super) fn answer<R: Input, W: Output, E: Output>(
+    world: &mut World<'_, '_, '_, R, W, E>,
+    ask: Ask,
+) -> Result<Option<RcStr>, ChanFault> {
+    match ask {
+        Ask::Line => world.gets(),
+        Ask::Chars(count) => Ok(Some(world.read(Some(count))?)),
+        Ask::All => Ok(Some(world.read(None)?)),
+    }
+}
+
+/// Adds an answer, with `!` behind it where the end was met by then and `;` else.
+fn add_answer(
+    shown: &mut String,
+    answer: Result<Option<RcStr>, ChanFault>,
+    ended: bool,
+) -> Result<(), AllocError> {
+    match answer {
+        Ok(Some(text)) => shown.push_str(&text)?,
+        Ok(None) => shown.push_str("none")?,
+        Err(fault) => write!(shown, "{fault}")?,
+    }
+    shown.push(if ended { '!' } else { ';' })
+}
+
+fn add_answers<R: Input, W: Output, E: Output>(
+    shown: &mut String,
+    world: &mut World<'_, '_, '_, R, W, E>,
+    asks: &[Ask],
+) -> Result<(), AllocError> {
+    for ask in asks {
+        let answer = answer(world, *ask);
+        add_answer(shown, answer, world.eof())?;
+    }
+    Ok(())
+}
+
+/// What the calls answer, one after another.
+fn answers<R: Input>(alloc: Global, input: &mut R, asks: &[Ask]) -> Result<String, AllocError> {
+    let mut shown = String::new(alloc);
     let mut out = MemoryOutput::new(alloc, 0)?;
     let mut err = MemoryOutput::new(alloc, 0)?;
     let mut world = World::new(alloc, input, &mut out, &mut err);
-    let mut shown = String::new(alloc);
-    for _ in 0..4u8 {
-        match world.gets()? {
-            Some(line) => shown.push_str(&line)?,
-            None => shown.push_str("none")?,
-        }
-        shown.push(if world.eof() { '!' } else { ';' })?;
-    }
+    add_answers(&mut shown, &mut world, asks)?;
     Ok(shown)
 }
 
-#[test]
-fn lines_of_rows(rt: HostRuntime) -> Result<(), Fail> {
-    let alloc = rt.alloc();
-    let rows: [(&[u8], &str); 17] = [
-        (b"a\r\nb", "a;b!none!none!"),
-        (b"\xFF\n", "\u{FFFD};none!none!none!"),
-        (
-            b"\xE2\x82\x41\xF0\x80\x80\n",
-            "\u{FFFD}A\u{FFFD}\u{FFFD}\u{FFFD};none!none!none!",
-        ),
-        (b"a\r", "a\r!none!none!none!"),
-        (b"a\r\r\nb\n", "a\r;b;none!none!"),
-        (b"\ra\n", "\ra;none!none!none!"),
-        (b"\r", "\r!none!none!none!"),
-        (b"\xE2\x82\xAC\r\n", "\u{20AC};none!none!none!"),
-        (b"\xE2\n\xE2\x82\n", "\u{FFFD};\u{FFFD};none!none!"),
-        (b"\xF0\x80\x80", "\u{FFFD}\u{FFFD}\u{FFFD}!none!none!none!"),
-        (b"\r\n\r\n\n", ";;;none!"),
-        (b"\xE2\x82", "\u{FFFD}!none!none!none!"),
-        (
-            b"\xF0\x9F\x98\x80\xF0\x9F\x98\n\xF0\x9F\nx",
-            "\u{1F600}\u{FFFD};\u{FFFD};x!none!",
-        ),
-        (b"\xEF\xBB\xBFa\n", "\u{FEFF}a;none!none!none!"),
-        (b"", "none!none!none!none!"),
-        (b"a\0b\n", "a\0b;none!none!none!"),
-        (b"a\nb\nc\nd\n", "a;b;c;d;"),
-    ];
-    for (bytes, want) in rows {
-        let whole = lines(alloc, &mut MemoryInput::new(bytes))?;
-        assert_eq!(rt; whole.as_str(), want, "read whole");
-        let cut = lines(alloc, &mut OneByte::new(MemoryInput::new(bytes)))?;
-        assert_eq!(rt; cut.as_str(), want, "read in bytes");
-        for front in 1..bytes.len() {
-            let inner = MemoryInput::new(bytes);
-            let cut = lines(alloc, &mut CutInput { inner, front })?;
-            assert_eq!(rt; cut.as_str(), want, "cut at {front}");
+/// Do the calls answer this?
+fn answer_is<R: Input>(alloc: Global, input: &mut R, asks: &[Ask], want: &str) -> bool {
+    match answers(alloc, input, asks) {
+        Ok(text) => text.as_str() == want,
+        Err(_) => false,
+    }
+}
+
+/// The places at which the input, cut there, is not answered so.
+fn wrong_cut(alloc: Global, bytes: &[u8], asks: &[Ask], want: &str) -> Option<usize> {
+    for front in 0..bytes.len() {
+        let inner = MemoryInput::new(bytes);
+        if !answer_is(alloc, &mut CutInput { inner, front }, asks, want) {
+            return Some(front);
         }
     }
-    Ok(())
+    None
 }
 
-/// What calls of `read` with these counts answer, marked as the lines are.
-fn texts<R: Input>(
-    alloc: Global,
-    input: &mut R,
-    counts: [Option<u64>; 3],
-) -> Result<String, ChanFault> {
-    let mut out = MemoryOutput::new(alloc, 0)?;
-    let mut err = MemoryOutput::new(alloc, 0)?;
-    let mut world = World::new(alloc, input, &mut out, &mut err);
-    let mut shown = String::new(alloc);
-    for count in counts {
-        shown.push_str(&world.read(count)?)?;
-        shown.push(if world.eof() { '!' } else { ';' })?;
+/// Do the calls answer this, however the bytes come?
+fn agrees(alloc: Global, bytes: &[u8], asks: &[Ask], want: &str) -> bool {
+    answer_is(alloc, &mut MemoryInput::new(bytes), asks, want)
+        && answer_is(
+            alloc,
+            &mut OneByte::new(MemoryInput::new(bytes)),
+            asks,
+            want,
+        )
+        && wrong_cut(alloc, bytes, asks, want).is_none()
+}
+
+/// What four calls of `gets` answer.
+static LINES: [(&[u8], &str); 17] = [
+    (b"a\r\nb", "a;b!none!none!"),
+    (b"\xFF\n", "\u{FFFD};none!none!none!"),
+    (
+        b"\xE2\x82\x41\xF0\x80\x80\n",
+        "\u{FFFD}A\u{FFFD}\u{FFFD}\u{FFFD};none!none!none!",
+    ),
+    (b"a\r", "a\r!none!none!none!"),
+    (b"a\r\r\nb\n", "a\r;b;none!none!"),
+    (b"\ra\n", "\ra;none!none!none!"),
+    (b"\r", "\r!none!none!none!"),
+    (b"\xE2\x82\xAC\r\n", "\u{20AC};none!none!none!"),
+    (b"\xE2\n\xE2\x82\n", "\u{FFFD};\u{FFFD};none!none!"),
+    (b"\xF0\x80\x80", "\u{FFFD}\u{FFFD}\u{FFFD}!none!none!none!"),
+    (b"\r\n\r\n\n", ";;;none!"),
+    (b"\xE2\x82", "\u{FFFD}!none!none!none!"),
+    (
+        b"\xF0\x9F\x98\x80\xF0\x9F\x98\n\xF0\x9F\nx",
+        "\u{1F600}\u{FFFD};\u{FFFD};x!none!",
+    ),
+    (b"\xEF\xBB\xBFa\n", "\u{FEFF}a;none!none!none!"),
+    (b"", "none!none!none!none!"),
+    (b"a\0b\n", "a\0b;none!none!none!"),
+    (b"a\nb\nc\nd\n", "a;b;c;d;"),
+];
+
+#[test]
+fn lines_of_rows(rt: HostRuntime) {
+    for row in &LINES {
+        assert!(rt;
+            agrees(rt.alloc(), row.0, &[Ask::Line; 4], row.1),
+            "{}",
+            row.1
+        );
     }
-    Ok(shown)
+}
+
+static TEXTS: [(&[u8], &[Ask], &str); 16] = [
+    (
+        b"abcd",
+        &[Ask::Chars(3), Ask::Chars(0), Ask::Chars(9)],
+        "abc;;d!",
+    ),
+    (
+        b"abcd",
+        &[Ask::Chars(9), Ask::All, Ask::Chars(0)],
+        "abcd!!!",
+    ),
+    (
+        b"abcd",
+        &[Ask::Chars(4), Ask::Chars(0), Ask::Chars(1)],
+        "abcd;;!",
+    ),
+    (b"abcd", &[Ask::All, Ask::All, Ask::All], "abcd!!!"),
+    (
+        b"\xE2\x82\x41\xF0\x80\x80\n",
+        &[Ask::Chars(2), Ask::Chars(3), Ask::All],
+        "\u{FFFD}A;\u{FFFD}\u{FFFD}\u{FFFD};\n!",
+    ),
+    (
+        b"a\r\nb\r\r\nc\r",
+        &[Ask::Chars(3), Ask::Chars(2), Ask::All],
+        "a\nb;\r\n;c\r!",
+    ),
+    (
+        b"\r\n\r\n",
+        &[Ask::Chars(1), Ask::Chars(1), Ask::Chars(1)],
+        "\n;\n;!",
+    ),
+    (
+        b"\r\r\n",
+        &[Ask::Chars(1), Ask::Chars(1), Ask::Chars(1)],
+        "\r;\n;!",
+    ),
+    (b"a\rb", &[Ask::Chars(2), Ask::All, Ask::All], "a\r;b!!"),
+    (
+        b"\xE2\x82\xAC",
+        &[Ask::Chars(1), Ask::Chars(1), Ask::All],
+        "\u{20AC};!!",
+    ),
+    (
+        b"\xE2\x82",
+        &[Ask::Chars(1), Ask::Chars(1), Ask::All],
+        "\u{FFFD};!!",
+    ),
+    (
+        b"\xF0\x80\x80",
+        &[Ask::Chars(2), Ask::Chars(9), Ask::All],
+        "\u{FFFD}\u{FFFD};\u{FFFD}!!",
+    ),
+    (
+        b"\xF0\x9F\x98\x80\xF0\x9F\x98",
+        &[Ask::Chars(1), Ask::Chars(1), Ask::Chars(1)],
+        "\u{1F600};\u{FFFD};!",
+    ),
+    (
+        b"\xEF\xBB\xBFa",
+        &[Ask::Chars(1), Ask::Chars(1), Ask::Chars(1)],
+        "\u{FEFF};a;!",
+    ),
+    (b"", &[Ask::Chars(0), Ask::Chars(1), Ask::All], ";!!"),
+    (
+        b"ab\r\ncd\nef",
+        &[Ask::Chars(1), Ask::Line, Ask::Chars(3), Ask::Line],
+        "a;b;cd\n;ef!",
+    ),
+];
+
+#[test]
+fn texts_of_rows(rt: HostRuntime) {
+    for row in &TEXTS {
+        assert!(rt; agrees(rt.alloc(), row.0, row.1, row.2), "{}", row.2);
+    }
 }
 
 #[test]
-fn texts_of_rows(rt: HostRuntime) -> Result<(), Fail> {
-    let alloc = rt.alloc();
-    let rows: [(&[u8], [Option<u64>; 3], &str); 15] = [
-        (b"abcd", [Some(3), Some(0), Some(9)], "abc;;d!"),
-        (b"abcd", [Some(9), None, Some(0)], "abcd!!!"),
-        (b"abcd", [Some(4), Some(0), Some(1)], "abcd;;!"),
-        (b"abcd", [None, None, None], "abcd!!!"),
-        (
-            b"\xE2\x82\x41\xF0\x80\x80\n",
-            [Some(2), Some(3), None],
-            "\u{FFFD}A;\u{FFFD}\u{FFFD}\u{FFFD};\n!",
-        ),
-        (
-            b"a\r\nb\r\r\nc\r",
-            [Some(3), Some(2), None],
-            "a\nb;\r\n;c\r!",
-        ),
-        (b"\r\n\r\n", [Some(1), Some(1), Some(1)], "\n;\n;!"),
-        (b"\r\r\n", [Some(1), Some(1), Some(1)], "\r;\n;!"),
-        (b"a\rb", [Some(2), None, None], "a\r;b!!"),
-        (b"\xE2\x82\xAC", [Some(1), Some(1), None], "\u{20AC};!!"),
-        (b"\xE2\x82", [Some(1), Some(1), None], "\u{FFFD};!!"),
-        (
-            b"\xF0\x80\x80",
-            [Some(2), Some(9), None],
-            "\u{FFFD}\u{FFFD};\u{FFFD}!!",
-        ),
-        (
-            b"\xF0\x9F\x98\x80\xF0\x9F\x98",
-            [Some(1), Some(1), Some(1)],
-            "\u{1F600};\u{FFFD};!",
-        ),
-        (
-            b"\xEF\xBB\xBFa",
-            [Some(1), Some(1), Some(1)],
-            "\u{FEFF};a;!",
-        ),
-        (b"", [Some(0), Some(1), None], ";!!"),
-    ];
-    for (bytes, counts, want) in rows {
-        let whole = texts(alloc, &mut MemoryInput::new(bytes), counts)?;
-        assert_eq!(rt; whole.as_str(), want, "read whole");
-        let cut = texts(alloc, &mut OneByte::new(MemoryInput::new(bytes)), counts)?;
-        assert_eq!(rt; cut.as_str(), want, "read in bytes");
-        for front in 1..bytes.len() {
-            let inner = MemoryInput::new(bytes);
-            let cut = texts(alloc, &mut CutInput { inner, front }, counts)?;
-            assert_eq!(rt; cut.as_str(), want, "cut at {front}");
-        }
-    }
-    Ok(())
+fn the_first_end_is_the_end(rt: HostRuntime) {
+    let lines = [Ask::Line; 4];
+    let mut input = Resuming { at_end: false };
+    assert!(rt; answer_is(rt.alloc(), &mut input, &lines, "x!none!none!none!"));
+    let texts = [Ask::Chars(2), Ask::Chars(1), Ask::All];
+    let mut input = Resuming { at_end: false };
+    assert!(rt; answer_is(rt.alloc(), &mut input, &texts, "x!!!"));
 }
 
 #[test]
-fn the_first_end_is_the_end(rt: HostRuntime) -> Result<(), Fail> {
-    let alloc = rt.alloc();
-    let read = lines(alloc, &mut Resuming { at_end: false })?;
-    assert_eq!(rt; read.as_str(), "x!none!none!none!");
-    let counts = [Some(2), Some(1), None];
-    let read = texts(alloc, &mut Resuming { at_end: false }, counts)?;
-    assert_eq!(rt; read.as_str(), "x!!!");
-    Ok(())
-}
-
-/// A character, the rest of the line, a line with its end, and the last line.
-fn by_turns<R: Input>(alloc: Global, input: &mut R) -> Result<String, ChanFault> {
-    let mut out = MemoryOutput::new(alloc, 0)?;
-    let mut err = MemoryOutput::new(alloc, 0)?;
-    let mut world = World::new(alloc, input, &mut out, &mut err);
-    let mut shown = String::new(alloc);
-    shown.push_str(&world.read(Some(1))?)?;
-    shown.push(';')?;
-    if let Some(line) = world.gets()? {
-        shown.push_str(&line)?;
-    }
-    shown.push(';')?;
-    shown.push_str(&world.read(Some(3))?)?;
-    shown.push(if world.eof() { '!' } else { ';' })?;
-    if let Some(line) = world.gets()? {
-        shown.push_str(&line)?;
-    }
-    shown.push(if world.eof() { '!' } else { ';' })?;
-    Ok(shown)
-}
-
-#[test]
-fn lines_and_texts_take_turns(rt: HostRuntime) -> Result<(), Fail> {
-    let mut input = OneByte::new(MemoryInput::new(b"ab\r\ncd\nef"));
-    assert_eq!(rt; by_turns(rt.alloc(), &mut input)?.as_str(), "a;b;cd\n;ef!");
-    Ok(())
-}
-
-/// What a `read` of all and then a `gets` answer, and whether the end was met between them.
-fn read_again<R: Input>(
-    alloc: Global,
-    input: &mut R,
-) -> Result<(Option<ChanFault>, bool, Option<RcStr<Global>>), ChanFault> {
-    let mut out = MemoryOutput::new(alloc, 0)?;
-    let mut err = MemoryOutput::new(alloc, 0)?;
-    let mut world = World::new(alloc, input, &mut out, &mut err);
-    let fault = world.read(None).err();
-    let end = world.eof();
-    Ok((fault, end, world.gets()?))
-}
-
-#[test]
-fn after_a_fault_the_input_is_as_it_was(rt: HostRuntime) -> Result<(), Fail> {
+fn after_a_fault_the_input_is_as_it_was(rt: HostRuntime) {
     for fail_read in 1..4u64 {
         let mut input = FaultyInput::new(OneByte::new(MemoryInput::new(b"x\n")), fail_read);
-        let (fault, end, line) = read_again(rt.alloc(), &mut input)?;
-        assert_eq!(rt; fault, Some(ChanFault::Read));
-        assert!(rt; !end);
-        assert_eq!(rt; line.ok_or("no line")?.as_str(), "x");
-        assert_eq!(rt; input.failures(), 1);
-        assert_eq!(rt; input.inner().failures(), 0);
+        let asks = [Ask::All, Ask::Line];
+        assert!(rt; answer_is(rt.alloc(), &mut input, &asks, "can't read the input;x;"));
+        assert!(rt; input.failures() == 1);
+        assert!(rt; input.inner().failures() == 0);
     }
-    Ok(())
 }
 
-/// The lengths of all lines, summed up with their numbers, from 1.
-fn weighed_lengths<R: Input>(alloc: Global, input: &mut R) -> Result<u64, ChanFault> {
-    let mut out = MemoryOutput::new(alloc, 0)?;
-    let mut err = MemoryOutput::new(alloc, 0)?;
-    let mut world = World::new(alloc, input, &mut out, &mut err);
-    let mut sum = 0u64;
-    for number in 1..u64::MAX {
-        match world.gets()? {
-            Some(line) => sum = sum.wrapping_add(number.wrapping_mul(line.len() as u64)),
-            None => break,
-        }
-    }
-    Ok(sum)
+/// Standard input with bytes in place of the process's own.
+#[test]
+fn standard_input_gives_its_bytes(rt: HostRuntime) {
+    let mut input = StandardInput::new(b"ab\r\n\xFF\nc".as_slice());
+    let lines = [Ask::Line; 4];
+    assert!(rt; answer_is(rt.alloc(), &mut input, &lines, "ab;\u{FFFD};c!none!"));
+    let mut input = OneByte::new(StandardInput::new(b"a\r\n\xE2\x82\xACb".as_slice()));
+    let texts = [Ask::Chars(2), Ask::Chars(1), Ask::All];
+    assert!(rt; answer_is(rt.alloc(), &mut input, &texts, "a\n;\u{20AC};b!"));
+    assert!(rt; input.failures() == 0);
 }
+
+/// Rows of bytes of which one read of a terminal gives the front, and another one would not return: it fails here.
+static ENOUGH: [(&[u8], usize, Ask, &str); 18] = [
+    (b"ab\ncd\n", 3, Ask::Line, "ab;"),
+    (b"ab\ncd\n", 5, Ask::Line, "ab;"),
+    (b"ab\r\ncd\n", 4, Ask::Line, "ab;"),
+    (b"\nb", 1, Ask::Line, ";"),
+    (b"\xFF\nb", 2, Ask::Line, "\u{FFFD};"),
+    (b"abc", 2, Ask::Chars(0), ";"),
+    (b"abc", 2, Ask::Chars(1), "a;"),
+    (b"abc", 2, Ask::Chars(2), "ab;"),
+    (b"\r\nb", 2, Ask::Chars(1), "\n;"),
+    (b"\rab", 2, Ask::Chars(1), "\r;"),
+    (b"\xFFab", 1, Ask::Chars(1), "\u{FFFD};"),
+    (b"\xC1ab", 1, Ask::Chars(1), "\u{FFFD};"),
+    (b"\x80ab", 1, Ask::Chars(1), "\u{FFFD};"),
+    (b"\xF5ab", 1, Ask::Chars(1), "\u{FFFD};"),
+    (b"\xE2ab", 2, Ask::Chars(1), "\u{FFFD};"),
+    (b"\xE2\x82ab", 3, Ask::Chars(1), "\u{FFFD};"),
+    (b"\xF0\x80ab", 2, Ask::Chars(2), "\u{FFFD}\u{FFFD};"),
+    (b"\xE2\x82\xAC", 3, Ask::Chars(1), "\u{20AC};"),
+];
 
 #[test]
-fn long_lines(rt: HostRuntime) -> Result<(), Fail> {
-    let mut bytes = Vec::new(rt.alloc());
-    let mut want = 0u64;
-    for length in 0..300usize {
-        bytes.resize(bytes.len().wrapping_add(97 * length), b'x')?;
-        bytes.push(b'\n')?;
-        want = want.wrapping_add((length as u64 + 1) * (97 * length as u64));
+fn no_more_is_asked_than_needed(rt: HostRuntime) {
+    for row in &ENOUGH {
+        let (bytes, front, ask, want) = *row;
+        let inner = MemoryInput::new(bytes);
+        let mut input = FaultyInput::new(CutInput { inner, front }, 2);
+        assert!(rt; answer_is(rt.alloc(), &mut input, &[ask], want), "{want}");
     }
-    assert_eq!(rt;
-        weighed_lengths(rt.alloc(), &mut MemoryInput::new(&bytes))?,
-        want
-    );
-    Ok(())
+}
+
+/// Rows of bytes that what follows may change: another read is asked for.
+#[test]
+fn more_is_asked_where_it_is_needed(rt: HostRuntime) {
+    for (bytes, ask) in [
+        (b"ab".as_slice(), Ask::Line),
+        (b"ab\r", Ask::Line),
+        (b"ab", Ask::Chars(3)),
+        (b"\r", Ask::Chars(1)),
+        (b"\xE2\x82", Ask::Chars(1)),
+        (b"\xF0\x9F\x98", Ask::Chars(1)),
+    ] {
+        let mut input = FaultyInput::new(MemoryInput::new(bytes), 2);
+        assert!(rt; answer_is(rt.alloc(), &mut input, &[ask], "can't read the input;"));
+    }
 }

@@ -1,30 +1,39 @@
 //! Rows of output: what is written, over devices that take all, a byte a call, or fail.
 use std::alloc::{AllocError, Global};
-use std::test::Fail;
 use tcl_chan::device::{Input, Output};
-use tcl_chan::fault::{ChanFault, Out};
+use tcl_chan::fault::Out;
 use tcl_chan::faulty::FaultyOutput;
 use tcl_chan::memory::{MemoryInput, MemoryOutput};
 use tcl_chan::pieces::OneByte;
 use tcl_chan::world::World;
 
-/// What four calls of `puts` answer.
-type Answers = [Result<(), ChanFault>; 4];
+/// Puts the texts, where there is none flushes, and counts in decimals which calls failed, the first one in front.
+fn failed_calls<R: Input, W: Output, E: Output>(
+    world: &mut World<'_, '_, '_, R, W, E>,
+    calls: &[(Out, Option<&str>)],
+) -> u32 {
+    let mut failed = 0u32;
+    for (to, text) in calls {
+        let answer = match text {
+            Some(text) => world.puts(*to, text),
+            None => world.flush(*to),
+        };
+        failed = failed
+            .wrapping_mul(10)
+            .wrapping_add(u32::from(answer.is_err()));
+    }
+    failed
+}
 
-/// Writes four texts to these outputs.
-fn write_texts<R: Input, W: Output, E: Output>(
+fn failed<R: Input, W: Output, E: Output>(
     alloc: Global,
     input: &mut R,
     out: &mut W,
     err: &mut E,
-    texts: [(Out, &str); 4],
-) -> Answers {
+    calls: &[(Out, Option<&str>)],
+) -> u32 {
     let mut world = World::new(alloc, input, out, err);
-    let mut answers = [Ok(()); 4];
-    for (answer, (to, text)) in answers.iter_mut().zip(texts) {
-        *answer = world.puts(to, text);
-    }
-    answers
+    failed_calls(&mut world, calls)
 }
 
 /// A device over memory that takes a byte a call, and fails at these calls.
@@ -33,86 +42,69 @@ fn device(
     fail_write: u64,
     fail_flush: u64,
 ) -> Result<FaultyOutput<OneByte<MemoryOutput>>, AllocError> {
-    Ok(FaultyOutput::new(
-        OneByte::new(MemoryOutput::new(alloc, 20)?),
-        fail_write,
-        fail_flush,
-    ))
+    let inner = OneByte::new(MemoryOutput::new(alloc, 20)?);
+    Ok(FaultyOutput::new(inner, fail_write, fail_flush))
+}
+
+/// Did the device fail so often, and does it hold these bytes?
+fn ended(device: &FaultyOutput<OneByte<MemoryOutput>>, failures: u64, bytes: &str) -> bool {
+    device.failures() == failures && device.inner().inner().bytes() == bytes.as_bytes()
 }
 
 #[test]
-fn a_failing_write_leaves_a_beginning(rt: HostRuntime) -> Result<(), Fail> {
-    let alloc = rt.alloc();
-    let mut out = device(alloc, 4, 0)?;
-    let mut err = device(alloc, 0, 0)?;
-    let texts = [
-        (Out::Stdout, "a\n"),
-        (Out::Stdout, "b\n"),
-        (Out::Stderr, "\u{E9}"),
-        (Out::Stdout, ""),
+fn a_failing_write_leaves_a_beginning(rt: HostRuntime) -> Result<(), AllocError> {
+    let mut input = MemoryInput::new(b"");
+    let mut out = device(rt.alloc(), 4, 0)?;
+    let mut err = device(rt.alloc(), 0, 0)?;
+    let calls = [
+        (Out::Stdout, Some("a\n")),
+        (Out::Stdout, Some("b\n")),
+        (Out::Stderr, Some("\u{E9}")),
+        (Out::Stdout, Some("")),
     ];
-    let answers = write_texts(alloc, &mut MemoryInput::new(b""), &mut out, &mut err, texts);
-    assert!(rt; answers == [Ok(()), Err(ChanFault::Write), Ok(()), Ok(())]);
-    assert_eq!(rt; out.failures(), 1);
-    assert_eq!(rt; out.inner().inner().bytes(), b"a\nb".as_slice());
-    assert_eq!(rt; err.failures(), 0);
-    assert_eq!(rt; err.inner().inner().bytes(), b"\xC3\xA9".as_slice());
+    assert!(rt; failed(rt.alloc(), &mut input, &mut out, &mut err, &calls) == 100);
+    assert!(rt; ended(&out, 1, "a\nb"));
+    assert!(rt; ended(&err, 0, "\u{E9}"));
     Ok(())
 }
 
 #[test]
-fn texts_past_the_capacity_are_refused_whole(rt: HostRuntime) -> Result<(), Fail> {
-    let alloc = rt.alloc();
-    let mut out = MemoryOutput::new(alloc, 3)?;
-    let mut err = MemoryOutput::new(alloc, 0)?;
-    let texts = [
-        (Out::Stdout, "ab"),
-        (Out::Stdout, "cd"),
-        (Out::Stdout, "c"),
-        (Out::Stderr, "x"),
+fn texts_past_the_capacity_are_refused_whole(rt: HostRuntime) -> Result<(), AllocError> {
+    let mut input = MemoryInput::new(b"");
+    let mut out = MemoryOutput::new(rt.alloc(), 3)?;
+    let mut err = MemoryOutput::new(rt.alloc(), 0)?;
+    let calls = [
+        (Out::Stdout, Some("ab")),
+        (Out::Stdout, Some("cd")),
+        (Out::Stdout, Some("c")),
+        (Out::Stderr, Some("x")),
     ];
-    let answers = write_texts(alloc, &mut MemoryInput::new(b""), &mut out, &mut err, texts);
-    assert!(rt; answers == [Ok(()), Err(ChanFault::Write), Ok(()), Err(ChanFault::Write)]);
-    assert_eq!(rt; out.bytes(), b"abc".as_slice());
-    assert_eq!(rt; out.failures(), 1);
-    assert_eq!(rt; err.failures(), 1);
+    assert!(rt; failed(rt.alloc(), &mut input, &mut out, &mut err, &calls) == 101);
+    assert!(rt; out.bytes() == b"abc".as_slice());
+    assert!(rt; out.failures() == 1);
+    assert!(rt; err.failures() == 1);
     Ok(())
 }
 
-/// Flushes an output, the other one, and the first one again.
-fn flush_by_turns<R: Input, W: Output, E: Output>(
+/// Flushes an output, the other one, and the first one again, where the first flush of each of some outputs fails.
+fn flushed(
     alloc: Global,
-    input: &mut R,
-    out: &mut W,
-    err: &mut E,
     to: Out,
     other: Out,
-) -> [Result<(), ChanFault>; 3] {
-    let mut world = World::new(alloc, input, out, err);
-    [world.flush(to), world.flush(other), world.flush(to)]
+    out_fault: u64,
+    err_fault: u64,
+) -> Result<bool, AllocError> {
+    let mut input = MemoryInput::new(b"");
+    let mut out = device(alloc, 0, out_fault)?;
+    let mut err = device(alloc, 0, err_fault)?;
+    let calls = [(to, None), (other, None), (to, None)];
+    let failed = failed(alloc, &mut input, &mut out, &mut err, &calls);
+    Ok(failed == 100 && ended(&out, out_fault, "") && ended(&err, err_fault, ""))
 }
 
 #[test]
-fn a_flush_reaches_its_device(rt: HostRuntime) -> Result<(), Fail> {
+fn a_flush_reaches_its_device(rt: HostRuntime) {
     let alloc = rt.alloc();
-    let want = [Err(ChanFault::Write), Ok(()), Ok(())];
-    for (to, other, out_fault, err_fault) in [
-        (Out::Stdout, Out::Stderr, 1, 0),
-        (Out::Stderr, Out::Stdout, 0, 1),
-    ] {
-        let mut out = device(alloc, 0, out_fault)?;
-        let mut err = device(alloc, 0, err_fault)?;
-        let answers = flush_by_turns(
-            alloc,
-            &mut MemoryInput::new(b""),
-            &mut out,
-            &mut err,
-            to,
-            other,
-        );
-        assert!(rt; answers == want);
-        assert_eq!(rt; out.failures(), out_fault);
-        assert_eq!(rt; err.failures(), err_fault);
-    }
-    Ok(())
+    assert!(rt; flushed(alloc, Out::Stdout, Out::Stderr, 1, 0) == Ok(true));
+    assert!(rt; flushed(alloc, Out::Stderr, Out::Stdout, 0, 1) == Ok(true));
 }

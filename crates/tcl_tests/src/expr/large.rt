@@ -1,49 +1,61 @@
 //! Large texts: a long chain stays flat, so neither the parser nor a drop goes deep.
 
 use std::alloc::{AllocError, Global};
-use std::test::Fail;
 use tcl_chars::Dialect;
 use tcl_expr::{Tree, parse_expr};
 
-fn chain(alloc: Global, n: usize, part: &str) -> Result<String, AllocError> {
+/// A front, a part so many times, and a back.
+fn repeated(
+    alloc: Global,
+    front: &str,
+    part: &str,
+    times: usize,
+    back: &str,
+) -> Result<String, AllocError> {
     let mut text = String::new(alloc);
-    for _ in 0..n {
+    text.push_str(front)?;
+    for _ in 0..times {
         text.push_str(part)?;
     }
-    text.push_str("1")?;
+    text.push_str(back)?;
     Ok(text)
 }
 
-#[test]
-fn a_long_sum(rt: HostRuntime) -> Result<(), Fail> {
-    let text = chain(rt.alloc(), 200_000, "1+")?;
-    match parse_expr(rt.alloc(), &text, Dialect::Tcl86)? {
-        Ok(Tree::Chain(3, _, parts)) => assert_eq!(rt; parts.len(), 200_000),
-        _ => assert!(rt; false, "no chain"),
+/// The parts behind the first of a chain, the arguments of a call, one of another tree, and none where there is no tree.
+fn parts(alloc: Global, text: &str) -> Result<usize, AllocError> {
+    match parse_expr(alloc, text, Dialect::Tcl86)? {
+        Ok(Tree::Chain(_, _, parts)) => Ok(parts.len()),
+        Ok(Tree::Call(_, _, arguments)) => Ok(arguments.len()),
+        Ok(_) => Ok(1),
+        Err(_) => Ok(0),
     }
-    Ok(())
+}
+
+fn many_parts(
+    alloc: Global,
+    front: &str,
+    part: &str,
+    times: usize,
+    back: &str,
+) -> Result<usize, AllocError> {
+    let text = repeated(alloc, front, part, times, back)?;
+    parts(alloc, &text)
 }
 
 #[test]
-fn other_long_chains(rt: HostRuntime) -> Result<(), Fail> {
-    for part in ["1*1+1==1&&", "$a eq [b] || ", "(1)-!2 in "] {
-        let text = chain(rt.alloc(), 15_000, part)?;
+fn large_texts(rt: HostRuntime) {
+    for (front, part, times, back, want) in [
+        ("", "1+", 200_000, "1", 200_000),
+        ("", "1*1+1==1&&", 15_000, "1", 15_000),
+        ("", "$a eq [b] || ", 15_000, "1", 15_000),
+        ("", "(1)-!2 in ", 15_000, "1", 15_000),
+        ("", "7", 1_000_000, "", 1),
+        ("", "7", 1_000_000, "x", 0),
+        ("max(1", ", $a", 999, ")", 1000),
+    ] {
         assert!(rt;
-            parse_expr(rt.alloc(), &text, Dialect::Tcl86)?.is_ok(),
+            many_parts(rt.alloc(), front, part, times, back) == Ok(want),
             "{part}"
         );
     }
-    Ok(())
-}
-
-#[test]
-fn a_long_run(rt: HostRuntime) -> Result<(), Fail> {
-    let mut text = String::new(rt.alloc());
-    for _ in 0..1_000_000 {
-        text.push('7')?;
-    }
-    assert!(rt; parse_expr(rt.alloc(), &text, Dialect::Tcl86)?.is_ok());
-    text.push('x')?;
-    assert!(rt; parse_expr(rt.alloc(), &text, Dialect::Tcl86)?.is_err());
-    Ok(())
 }

@@ -1,147 +1,136 @@
 //! Texts that are expressions. The trees are those of the table of operators in expr(n).
 
-use super::show::parse;
-use std::process::Abort;
-use std::test::Fail;
+use super::show::{parses, wrong};
+use std::alloc::{AllocError, Global};
 
-fn check<R: Abort + AllocGlobal>(rt: &R, text: &str, wanted: &str) -> Result<(), Fail> {
-    let found = parse(rt.alloc(), text)?;
-    assert_eq!(rt; found.as_str(), wanted, "of {text}");
-    Ok(())
-}
-
-#[test]
-fn operands(rt: HostRuntime) -> Result<(), Fail> {
-    for (text, wanted) in [
-        ("1", "1"),
-        (" \t\n 0x1F \r\u{b}\u{c}", "0x1F"),
-        ("010", "010"),
-        ("0b101", "0b101"),
-        ("0o17", "0o17"),
-        ("99999999999999999999999", "99999999999999999999999"),
-        ("-9223372036854775808", "-9223372036854775808"),
-        ("- 9223372036854775808", "(- 9223372036854775808)"),
-        ("-$x", "(- $x)"),
-        ("+5", "(+ 5)"),
-        ("true", "true"),
-        ("oFF", "oFF"),
-        ("n", "n"),
-        ("$a", "$a"),
-        ("${a b}", "${a b}"),
-        ("$a(x y)", "$a(x y)"),
-        ("\"a $b [c d] \\n\"", "\"a $b [c d] \\n\""),
-        ("{a {b} \\}}", "{a {b} \\}}"),
-        ("[llength \"6 2\"]", "[llength \"6 2\"]"),
-        ("$::x", "$::x"),
-    ] {
-        check(&rt, text, wanted)?;
-    }
-    Ok(())
-}
+static OPERANDS: [(&str, &str); 20] = [
+    ("1", "1"),
+    (" \t\n 0x1F \r\u{b}\u{c}", "0x1F"),
+    ("010", "010"),
+    ("0b101", "0b101"),
+    ("0o17", "0o17"),
+    ("99999999999999999999999", "99999999999999999999999"),
+    ("-9223372036854775808", "-9223372036854775808"),
+    ("- 9223372036854775808", "(- 9223372036854775808)"),
+    ("-$x", "(- $x)"),
+    ("+5", "(+ 5)"),
+    ("true", "true"),
+    ("oFF", "oFF"),
+    ("n", "n"),
+    ("$a", "$a"),
+    ("${a b}", "${a b}"),
+    ("$a(x y)", "$a(x y)"),
+    ("\"a $b [c d] \\n\"", "\"a $b [c d] \\n\""),
+    ("{a {b} \\}}", "{a {b} \\}}"),
+    ("[llength \"6 2\"]", "[llength \"6 2\"]"),
+    ("$::x", "$::x"),
+];
 
 #[test]
-fn examples_of_the_manual(rt: HostRuntime) -> Result<(), Fail> {
-    for (text, wanted) in [
-        ("31 + $a", "(31 + $a)"),
-        ("2 + \"$a.$b\"", "(2 + \"$a.$b\")"),
-        ("4*[llength \"6 2\"]", "(4 * [llength \"6 2\"])"),
-        ("{word one} < \"word $a\"", "({word one} < \"word $a\")"),
-        ("-57 / 10", "(-57 / 10)"),
-        ("-57 % 10", "(-57 % 10)"),
-        ("4*2 < 7", "((4 * 2) < 7)"),
-        ("2**3**2", "(2 ** (3 ** 2))"),
-        ("$v?[a]:[b]", "($v ? [a] : [b])"),
-        ("5 / 4", "(5 / 4)"),
-        (
-            "5 / ( [string length \"abcd\"] + 0 )",
-            "(5 / (([string length \"abcd\"] + 0)))",
-        ),
-        ("\"0x03\" > \"2\"", "(\"0x03\" > \"2\")"),
-        ("\"0y\" > \"0x12\"", "(\"0y\" > \"0x12\")"),
-        ("[expr $b] * 4", "([expr $b] * 4)"),
-        ("$a + 2*4", "($a + (2 * 4))"),
-        (
-            "$a eq $b ? {equal} : {different}",
-            "(($a eq $b) ? {equal} : {different})",
-        ),
-        (
-            " ($x**2 - $y**2) / max($x**2 + $y**2) ",
-            "(((($x ** 2) - ($y ** 2))) / max((($x ** 2) + ($y ** 2))))",
-        ),
-        (
-            "[info exists ::env(SOME_ENV_VAR)] &&\n [string is true -strict $::env(SOME_ENV_VAR)]",
-            "([info exists ::env(SOME_ENV_VAR)] && [string is true -strict $::env(SOME_ENV_VAR)])",
-        ),
-        (
-            "[tcl::mathfunc::sin [expr {$x+$y}]]",
-            "[tcl::mathfunc::sin [expr {$x+$y}]]",
-        ),
-    ] {
-        check(&rt, text, wanted)?;
-    }
-    Ok(())
+fn operands(rt: HostRuntime) {
+    assert_eq!(rt; wrong(rt.alloc(), &OPERANDS), None);
 }
 
-#[test]
-fn grouping(rt: HostRuntime) -> Result<(), Fail> {
-    for (text, wanted) in [
-        ("1 - 2 - 3", "((1 - 2) - 3)"),
-        ("1-2-3", "((1 - 2) - 3)"),
-        ("1 - -2", "(1 - -2)"),
-        ("1--2", "(1 - -2)"),
-        ("8 / 2 * 2 % 3", "(((8 / 2) * 2) % 3)"),
-        ("-2 ** 2", "(-2 ** 2)"),
-        ("- 2 ** 2", "((- 2) ** 2)"),
-        ("2 ** - 1", "(2 ** (- 1))"),
-        ("!2 ** 2", "((! 2) ** 2)"),
-        ("~2 ** 2", "((~ 2) ** 2)"),
-        ("+ 2 ** 2", "((+ 2) ** 2)"),
-        ("2 ** ! 2 ** 3", "(2 ** ((! 2) ** 3))"),
-        ("2 ** ~ 2 ** +3", "(2 ** ((~ 2) ** (+ 3)))"),
-        (
-            "1 ** 2 ? 3 ** 4 : 5 ** 6",
-            "((1 ** 2) ? (3 ** 4) : (5 ** 6))",
-        ),
-        ("- 1 ? - 2 : - 3", "((- 1) ? (- 2) : (- 3))"),
-        ("!~- +1", "(! (~ (- (+ 1))))"),
-        ("! !1", "(! (! 1))"),
-        ("1 ? 2 : 3 ? 4 : 5", "(1 ? 2 : (3 ? 4 : 5))"),
-        ("1 ? 2 ? 3 : 4 : 5", "(1 ? (2 ? 3 : 4) : 5)"),
-        (
-            "1 || 2 ? 3 || 4 : 5 || 6",
-            "((1 || 2) ? (3 || 4) : (5 || 6))",
-        ),
-        ("1 + (2 ? 3 : 4) + 5", "((1 + ((2 ? 3 : 4))) + 5)"),
-        ("((1))", "((1))"),
-        ("1 == 2 != 3", "((1 == 2) != 3)"),
-        ("1eq 2", "invalid bareword \"1eq\""),
-        ("\"a\"eq{b}", "(\"a\" eq {b})"),
-        ("$a in$b", "($a in $b)"),
-    ] {
-        check(&rt, text, wanted)?;
-    }
-    Ok(())
-}
+static EXAMPLES_OF_THE_MANUAL: [(&str, &str); 19] = [
+    ("31 + $a", "(31 + $a)"),
+    ("2 + \"$a.$b\"", "(2 + \"$a.$b\")"),
+    ("4*[llength \"6 2\"]", "(4 * [llength \"6 2\"])"),
+    ("{word one} < \"word $a\"", "({word one} < \"word $a\")"),
+    ("-57 / 10", "(-57 / 10)"),
+    ("-57 % 10", "(-57 % 10)"),
+    ("4*2 < 7", "((4 * 2) < 7)"),
+    ("2**3**2", "(2 ** (3 ** 2))"),
+    ("$v?[a]:[b]", "($v ? [a] : [b])"),
+    ("5 / 4", "(5 / 4)"),
+    (
+        "5 / ( [string length \"abcd\"] + 0 )",
+        "(5 / (([string length \"abcd\"] + 0)))",
+    ),
+    ("\"0x03\" > \"2\"", "(\"0x03\" > \"2\")"),
+    ("\"0y\" > \"0x12\"", "(\"0y\" > \"0x12\")"),
+    ("[expr $b] * 4", "([expr $b] * 4)"),
+    ("$a + 2*4", "($a + (2 * 4))"),
+    (
+        "$a eq $b ? {equal} : {different}",
+        "(($a eq $b) ? {equal} : {different})",
+    ),
+    (
+        " ($x**2 - $y**2) / max($x**2 + $y**2) ",
+        "(((($x ** 2) - ($y ** 2))) / max((($x ** 2) + ($y ** 2))))",
+    ),
+    (
+        "[info exists ::env(SOME_ENV_VAR)] &&\n [string is true -strict $::env(SOME_ENV_VAR)]",
+        "([info exists ::env(SOME_ENV_VAR)] && [string is true -strict $::env(SOME_ENV_VAR)])",
+    ),
+    (
+        "[tcl::mathfunc::sin [expr {$x+$y}]]",
+        "[tcl::mathfunc::sin [expr {$x+$y}]]",
+    ),
+];
 
 #[test]
-fn calls(rt: HostRuntime) -> Result<(), Fail> {
-    for (text, wanted) in [
-        ("abs(-1)", "abs(-1)"),
-        ("bool (1)", "bool(1)"),
-        ("int\n(1)", "int(1)"),
-        ("wide( 1 )", "wide(1)"),
-        ("max(1)", "max(1)"),
-        ("max(1, 0x3, 2)", "max(1, 0x3, 2)"),
-        (
-            "min(1 ? 2 : 3, (4), 5 + 6)",
-            "min((1 ? 2 : 3), (4), (5 + 6))",
-        ),
-        ("- max(1,2) ** 2", "((- max(1, 2)) ** 2)"),
-        ("max(max(1),min(2))", "max(max(1), min(2))"),
-    ] {
-        check(&rt, text, wanted)?;
-    }
-    Ok(())
+fn examples_of_the_manual(rt: HostRuntime) {
+    assert_eq!(rt; wrong(rt.alloc(), &EXAMPLES_OF_THE_MANUAL), None);
+}
+
+static GROUPING: [(&str, &str); 26] = [
+    ("1 - 2 - 3", "((1 - 2) - 3)"),
+    ("1-2-3", "((1 - 2) - 3)"),
+    ("1 - -2", "(1 - -2)"),
+    ("1--2", "(1 - -2)"),
+    ("8 / 2 * 2 % 3", "(((8 / 2) * 2) % 3)"),
+    ("-2 ** 2", "(-2 ** 2)"),
+    ("- 2 ** 2", "((- 2) ** 2)"),
+    ("2 ** - 1", "(2 ** (- 1))"),
+    ("!2 ** 2", "((! 2) ** 2)"),
+    ("~2 ** 2", "((~ 2) ** 2)"),
+    ("+ 2 ** 2", "((+ 2) ** 2)"),
+    ("2 ** ! 2 ** 3", "(2 ** ((! 2) ** 3))"),
+    ("2 ** ~ 2 ** +3", "(2 ** ((~ 2) ** (+ 3)))"),
+    (
+        "1 ** 2 ? 3 ** 4 : 5 ** 6",
+        "((1 ** 2) ? (3 ** 4) : (5 ** 6))",
+    ),
+    ("- 1 ? - 2 : - 3", "((- 1) ? (- 2) : (- 3))"),
+    ("!~- +1", "(! (~ (- (+ 1))))"),
+    ("! !1", "(! (! 1))"),
+    ("1 ? 2 : 3 ? 4 : 5", "(1 ? 2 : (3 ? 4 : 5))"),
+    ("1 ? 2 ? 3 : 4 : 5", "(1 ? (2 ? 3 : 4) : 5)"),
+    (
+        "1 || 2 ? 3 || 4 : 5 || 6",
+        "((1 || 2) ? (3 || 4) : (5 || 6))",
+    ),
+    ("1 + (2 ? 3 : 4) + 5", "((1 + ((2 ? 3 : 4))) + 5)"),
+    ("((1))", "((1))"),
+    ("1 == 2 != 3", "((1 == 2) != 3)"),
+    ("1eq 2", "invalid bareword \"1eq\""),
+    ("\"a\"eq{b}", "(\"a\" eq {b})"),
+    ("$a in$b", "($a in $b)"),
+];
+
+#[test]
+fn grouping(rt: HostRuntime) {
+    assert_eq!(rt; wrong(rt.alloc(), &GROUPING), None);
+}
+
+static CALLS: [(&str, &str); 9] = [
+    ("abs(-1)", "abs(-1)"),
+    ("bool (1)", "bool(1)"),
+    ("int\n(1)", "int(1)"),
+    ("wide( 1 )", "wide(1)"),
+    ("max(1)", "max(1)"),
+    ("max(1, 0x3, 2)", "max(1, 0x3, 2)"),
+    (
+        "min(1 ? 2 : 3, (4), 5 + 6)",
+        "min((1 ? 2 : 3), (4), (5 + 6))",
+    ),
+    ("- max(1,2) ** 2", "((- max(1, 2)) ** 2)"),
+    ("max(max(1),min(2))", "max(max(1), min(2))"),
+];
+
+#[test]
+fn calls(rt: HostRuntime) {
+    assert_eq!(rt; wrong(rt.alloc(), &CALLS), None);
 }
 
 // The operators that group from the left, one line a level, the tightest first. expr(n), Operators.
@@ -170,52 +159,57 @@ const LEVELS: [(&str, u8); 22] = [
     ("||", 13),
 ];
 
-#[test]
-fn each_operator_beside_each(rt: HostRuntime) -> Result<(), Fail> {
-    let alloc = rt.alloc();
-    for (op, level) in LEVELS {
-        for (other, below) in LEVELS {
-            let text = format!(in alloc; "1 {op} 2 {other} 3")?;
-            let wanted = if level <= below {
-                format!(in alloc; "((1 {op} 2) {other} 3)")?
-            } else {
-                format!(in alloc; "(1 {op} (2 {other} 3))")?
-            };
-            check(&rt, &text, &wanted)?;
+/// Two operators beside each other, and the tree that they make.
+fn beside(alloc: Global, left: (&str, u8), right: (&str, u8)) -> Result<bool, AllocError> {
+    let (op, level) = left;
+    let (other, below) = right;
+    let text = format!(in alloc; "1 {op} 2 {other} 3")?;
+    let want = if level <= below {
+        format!(in alloc; "((1 {op} 2) {other} 3)")?
+    } else {
+        format!(in alloc; "(1 {op} (2 {other} 3))")?
+    };
+    Ok(parses(alloc, &text, &want))
+}
+
+/// The operator beside which this one stands otherwise than by its level.
+fn wrong_beside(alloc: Global, left: (&'static str, u8)) -> Option<&'static str> {
+    for right in LEVELS {
+        if beside(alloc, left, right) != Ok(true) {
+            return Some(right.0);
         }
     }
-    Ok(())
+    None
 }
 
 #[test]
-fn each_operator_beside_the_others(rt: HostRuntime) -> Result<(), Fail> {
-    let alloc = rt.alloc();
-    for (op, _) in LEVELS {
-        check(
-            &rt,
-            &format!(in alloc; "1 {op} 2 ** 3")?,
-            &format!(in alloc; "(1 {op} (2 ** 3))")?,
-        )?;
-        check(
-            &rt,
-            &format!(in alloc; "1 ** 2 {op} 3")?,
-            &format!(in alloc; "((1 ** 2) {op} 3)")?,
-        )?;
-        check(
-            &rt,
-            &format!(in alloc; "! 1 {op} ~ 2")?,
-            &format!(in alloc; "((! 1) {op} (~ 2))")?,
-        )?;
-        check(
-            &rt,
-            &format!(in alloc; "1 {op} 2 ? 3 {op} 4 : 5 {op} 6")?,
-            &format!(in alloc; "((1 {op} 2) ? (3 {op} 4) : (5 {op} 6))")?,
-        )?;
-        check(
-            &rt,
-            &format!(in alloc; "1 {op} (2 {op} 3)")?,
-            &format!(in alloc; "(1 {op} ((2 {op} 3)))")?,
-        )?;
+fn each_operator_beside_each(rt: HostRuntime) {
+    for left in LEVELS {
+        assert!(rt; wrong_beside(rt.alloc(), left).is_none(), "{}", left.0);
     }
-    Ok(())
+}
+
+/// An operator in place of each `@` of a text, and of its tree.
+fn stands(alloc: Global, op: &str, text: &str, tree: &str) -> Result<bool, AllocError> {
+    let text = text.replace(alloc, "@", op)?;
+    let tree = tree.replace(alloc, "@", op)?;
+    Ok(parses(alloc, &text, &tree))
+}
+
+#[test]
+fn each_operator_beside_the_others(rt: HostRuntime) {
+    for (text, tree) in [
+        ("1 @ 2 ** 3", "(1 @ (2 ** 3))"),
+        ("1 ** 2 @ 3", "((1 ** 2) @ 3)"),
+        ("! 1 @ ~ 2", "((! 1) @ (~ 2))"),
+        ("1 @ 2 ? 3 @ 4 : 5 @ 6", "((1 @ 2) ? (3 @ 4) : (5 @ 6))"),
+        ("1 @ (2 @ 3)", "(1 @ ((2 @ 3)))"),
+    ] {
+        for (op, _) in LEVELS {
+            assert!(rt;
+                stands(rt.alloc(), op, text, tree) == Ok(true),
+                "{op} in {text}"
+            );
+        }
+    }
 }

@@ -1,65 +1,44 @@
 //! An interpreter whose output fails.
 
-use super::setting::{eval_over, fresh};
-use std::test::Fail;
+use super::setting::{eval_over, fresh, holds};
+use std::alloc::{AllocError, Global};
+use tcl_chan::device::Output;
 use tcl_chan::faulty::FaultyOutput;
 use tcl_chan::memory::{MemoryInput, MemoryOutput};
-use tcl_interp::{HostFault, Outcome};
+use tcl_chars::Fault;
+use tcl_interp::{HostFault, Interp, Outcome};
 
-#[test]
-fn a_failed_write_ends_all(rt: HostRuntime) -> Result<(), Fail> {
-    let alloc = rt.alloc();
-    let mut interp = fresh(alloc)?;
+/// How a script ends over an output whose first write fails, and how often it failed.
+fn broken(alloc: Global, interp: &mut Interp, script: &str) -> Result<(Outcome, u64), AllocError> {
     let mut input = MemoryInput::new(b"");
     let mut out = FaultyOutput::new(MemoryOutput::new(alloc, 9)?, 1, 0);
     let mut err = MemoryOutput::new(alloc, 9)?;
-    let first = eval_over(
-        alloc,
-        &mut interp,
-        &mut input,
-        &mut out,
-        &mut err,
-        "puts a",
-        9,
-    );
-    assert!(rt; matches!(first, Outcome::Io));
+    let outcome = eval_over(alloc, interp, &mut input, &mut out, &mut err, script, 9);
+    Ok((outcome, out.failures()))
+}
+
+#[test]
+fn a_failed_write_ends_all(rt: HostRuntime) -> Result<(), Fault> {
+    let mut interp = fresh(rt.alloc())?;
+    let first = broken(rt.alloc(), &mut interp, "puts a");
+    assert!(rt; matches!(first, Ok((Outcome::Io, 1))));
     assert!(rt; interp.is_failed());
     for script in ["puts a", "", "set x 1", "puts {"] {
-        let later = eval_over(
-            alloc,
-            &mut interp,
-            &mut input,
-            &mut out,
-            &mut err,
-            script,
-            9,
-        );
-        assert!(rt; matches!(later, Outcome::Failed), "at {script}");
+        let later = broken(rt.alloc(), &mut interp, script);
+        assert!(rt; matches!(later, Ok((Outcome::Failed, 0))), "at {script}");
     }
-    assert_eq!(rt; out.inner().bytes(), b"".as_slice());
     Ok(())
 }
 
 #[test]
-fn a_failed_interpreter_tells_nothing(rt: HostRuntime) -> Result<(), Fail> {
-    let alloc = rt.alloc();
-    let mut interp = fresh(alloc)?;
-    interp.set_var("x", "1")?;
-    let mut input = MemoryInput::new(b"");
-    let mut out = FaultyOutput::new(MemoryOutput::new(alloc, 9)?, 1, 0);
-    let mut err = MemoryOutput::new(alloc, 9)?;
-    let outcome = eval_over(
-        alloc,
-        &mut interp,
-        &mut input,
-        &mut out,
-        &mut err,
-        "puts a",
-        9,
-    );
-    assert!(rt; matches!(outcome, Outcome::Io));
+fn a_failed_interpreter_tells_nothing(rt: HostRuntime) -> Result<(), Fault> {
+    let mut interp = fresh(rt.alloc())?;
+    assert!(rt; interp.set_var("x", "1") == Ok(()));
+    assert!(rt; holds(&mut interp, "x", "1"));
+    let outcome = broken(rt.alloc(), &mut interp, "puts a");
+    assert!(rt; matches!(outcome, Ok((Outcome::Io, _))));
     assert!(rt; matches!(interp.var("x"), Err(HostFault::Failed)));
     assert!(rt; matches!(interp.vars(), Err(HostFault::Failed)));
-    assert_eq!(rt; interp.set_var("x", "2"), Err(HostFault::Failed));
+    assert!(rt; interp.set_var("x", "2") == Err(HostFault::Failed));
     Ok(())
 }

@@ -1,11 +1,12 @@
 //! What a host reads and writes.
 
-use super::setting::{fresh, holds};
-use std::test::Fail;
-use tcl_interp::{HostFault, VarFault};
+use super::setting::{fresh, holds, lacks};
+use std::alloc::{AllocError, Global};
+use tcl_chars::Fault;
+use tcl_interp::{HostFault, Interp, VarFault};
 
 #[test]
-fn a_host_reads_what_it_writes(rt: HostRuntime) -> Result<(), Fail> {
+fn a_host_reads_what_it_writes(rt: HostRuntime) -> Result<(), Fault> {
     let mut interp = fresh(rt.alloc())?;
     assert!(rt; !interp.is_failed());
     for (name, value) in [
@@ -15,50 +16,57 @@ fn a_host_reads_what_it_writes(rt: HostRuntime) -> Result<(), Fail> {
         ("::a(x)", ""),
         ("Z", "5"),
     ] {
-        interp.set_var(name, value)?;
-        assert!(rt; holds(&mut interp, name, Some(value))?, "at {name}");
+        assert!(rt; interp.set_var(name, value) == Ok(()), "at {name}");
+        assert!(rt; holds(&mut interp, name, value), "at {name}");
     }
     for name in ["a", "b(x)", "a(z)", "z"] {
-        assert!(rt; holds(&mut interp, name, None)?, "at {name}");
+        assert!(rt; lacks(&mut interp, name), "at {name}");
     }
     Ok(())
 }
 
 #[test]
-fn a_refused_write_changes_nothing(rt: HostRuntime) -> Result<(), Fail> {
+fn a_refused_write_changes_nothing(rt: HostRuntime) -> Result<(), Fault> {
     let mut interp = fresh(rt.alloc())?;
-    interp.set_var("a(1)", "x")?;
-    interp.set_var("b", "y")?;
-    assert_eq!(rt;
-        interp.set_var("a", "z"),
-        Err(HostFault::Var(VarFault::IsArray))
-    );
-    assert_eq!(rt;
-        interp.set_var("b(1)", "z"),
-        Err(HostFault::Var(VarFault::IsntArray))
-    );
-    for (name, want) in [
-        ("a(1)", Some("x")),
-        ("a", None),
-        ("b", Some("y")),
-        ("b(1)", None),
+    let is_array = Err(HostFault::Var(VarFault::IsArray));
+    let isnt_array = Err(HostFault::Var(VarFault::IsntArray));
+    for (name, value, want) in [
+        ("a(1)", "x", Ok(())),
+        ("b", "y", Ok(())),
+        ("a", "z", is_array),
+        ("b(1)", "z", isnt_array),
     ] {
-        assert!(rt; holds(&mut interp, name, want)?, "at {name}");
+        assert!(rt; interp.set_var(name, value) == want, "at {name}");
     }
+    assert!(rt; holds(&mut interp, "a(1)", "x"));
+    assert!(rt; lacks(&mut interp, "a"));
+    assert!(rt; holds(&mut interp, "b", "y"));
+    assert!(rt; lacks(&mut interp, "b(1)"));
     Ok(())
 }
 
-#[test]
-fn variables_stand_in_the_order_of_code_points(rt: HostRuntime) -> Result<(), Fail> {
-    let alloc = rt.alloc();
-    let mut interp = fresh(alloc)?;
-    for name in ["b", "é", "a(y)", "a(x)", "Z"] {
-        interp.set_var(name, name)?;
+/// The variables as the host is told them.
+fn shown(alloc: Global, interp: &mut Interp) -> Result<String, AllocError> {
+    let vars = interp.vars();
+    format!(in alloc; "{vars:?}")
+}
+
+/// Are these the variables?
+fn shows(alloc: Global, interp: &mut Interp, want: &str) -> bool {
+    match shown(alloc, interp) {
+        Ok(text) => text.as_str() == want,
+        Err(_) => false,
     }
-    let vars = interp.vars()?;
-    let shown = format!(in alloc; "{vars:?}")?;
+}
+
+#[test]
+fn variables_stand_in_the_order_of_code_points(rt: HostRuntime) -> Result<(), Fault> {
+    let mut interp = fresh(rt.alloc())?;
+    for name in ["b", "é", "a(y)", "a(x)", "Z"] {
+        assert!(rt; interp.set_var(name, name) == Ok(()));
+    }
     let want =
-        "[(\"Z\", Text(\"Z\")), (\"a\", Array([(\"x\", \"a(x)\"), (\"y\", \"a(y)\")])), (\"b\", Text(\"b\")), (\"é\", Text(\"é\"))]";
-    assert_eq!(rt; shown.as_str(), want);
+        "Ok([(\"Z\", Text(\"Z\")), (\"a\", Array([(\"x\", \"a(x)\"), (\"y\", \"a(y)\")])), (\"b\", Text(\"b\")), (\"é\", Text(\"é\"))])";
+    assert!(rt; shows(rt.alloc(), &mut interp, want));
     Ok(())
 }

@@ -1,10 +1,8 @@
 //! What scripts put out and answer, and what they cost.
 
-use super::setting::{eval_over, fresh, holds, is_done};
+use super::setting::{evaluated, fresh, holds, is_done};
 use std::alloc::Global;
-use std::process::Abort;
-use std::test::Fail;
-use tcl_chan::memory::{MemoryInput, MemoryOutput};
+use tcl_chars::Fault;
 use tcl_interp::Outcome;
 
 // A script, and how it ends.
@@ -43,45 +41,20 @@ fn bad(script: &'static str, cost: u64, answer: &'static str, out: &'static str)
     }
 }
 
-// Evaluates the script with these units to spare, and compares.
-fn check(rt: &impl Abort, alloc: Global, row: Row, spare: u64) -> Result<(), Fail> {
+// Does the script end so, and put this out, with these units to spare?
+fn agrees(alloc: Global, row: Row, spare: u64) -> Result<bool, Fault> {
     let mut interp = fresh(alloc)?;
-    let mut input = MemoryInput::new(b"");
-    let mut out = MemoryOutput::new(alloc, 64)?;
-    let mut err = MemoryOutput::new(alloc, 64)?;
     let budget = row.cost.saturating_add(spare);
-    let outcome = eval_over(
-        alloc,
-        &mut interp,
-        &mut input,
-        &mut out,
-        &mut err,
-        row.script,
-        budget,
-    );
-    assert!(rt;
-        is_done(&outcome, row.code, row.answer, spare),
-        "the end of {}",
-        row.script
-    );
-    assert_eq!(rt;
-        out.bytes(),
-        row.out.as_bytes(),
-        "the output of {}",
-        row.script
-    );
-    assert_eq!(rt;
-        err.bytes(),
-        row.err.as_bytes(),
-        "the error output of {}",
-        row.script
-    );
-    Ok(())
+    let end = evaluated(alloc, &mut interp, 64, row.script, budget)?;
+    Ok(
+        is_done(&end.outcome, row.code, row.answer, spare)
+            && end.out.bytes() == row.out.as_bytes()
+            && end.err.bytes() == row.err.as_bytes(),
+    )
 }
 
 #[test]
-fn scripts_end_well(rt: HostRuntime) -> Result<(), Fail> {
-    let alloc = rt.alloc();
+fn scripts_end_well(rt: HostRuntime) {
     for row in [
         good("", 0, "", ""),
         good("# a [\nputs x", 1, "", "x\n"),
@@ -98,19 +71,31 @@ fn scripts_end_well(rt: HostRuntime) -> Result<(), Fail> {
         good("::set ::x 1; puts -nonewline $x", 2, "", "1"),
         good("puts -nonewline stdout é;puts stdout b", 2, "", "éb\n"),
     ] {
-        check(&rt, alloc, row, 3)?;
-        check(&rt, alloc, row, 0)?;
+        assert!(rt;
+            matches!(agrees(rt.alloc(), row, 3), Ok(true)),
+            "{}",
+            row.script
+        );
+        assert!(rt;
+            matches!(agrees(rt.alloc(), row, 0), Ok(true)),
+            "{}",
+            row.script
+        );
     }
-    let to_err = Row {
-        err: "a\nb",
-        ..good("puts stderr a; puts -nonewline stderr b", 2, "", "")
-    };
-    check(&rt, alloc, to_err, 1)
 }
 
 #[test]
-fn scripts_end_in_errors(rt: HostRuntime) -> Result<(), Fail> {
-    let alloc = rt.alloc();
+fn the_error_output(rt: HostRuntime) {
+    let script = "puts stderr a; puts -nonewline stderr b";
+    let row = Row {
+        err: "a\nb",
+        ..good(script, 2, "", "")
+    };
+    assert!(rt; matches!(agrees(rt.alloc(), row, 1), Ok(true)));
+}
+
+#[test]
+fn scripts_end_in_errors(rt: HostRuntime) {
     for row in [
         bad("puts a; puts {", 1, "missing close-brace", "a\n"),
         bad("puts {a}b", 0, "extra characters after close-brace", ""),
@@ -172,31 +157,21 @@ fn scripts_end_in_errors(rt: HostRuntime) -> Result<(), Fail> {
         bad("puts $a(1)", 0, "nesting too deep", ""),
         bad("puts {*}x", 1, "word expansion comes with lists", ""),
     ] {
-        check(&rt, alloc, row, 2)?;
+        assert!(rt;
+            matches!(agrees(rt.alloc(), row, 2), Ok(true)),
+            "{}",
+            row.script
+        );
     }
-    Ok(())
 }
 
 #[test]
-fn a_budget_ends_at_the_command_that_it_wants(rt: HostRuntime) -> Result<(), Fail> {
-    let alloc = rt.alloc();
-    let mut interp = fresh(alloc)?;
-    let mut input = MemoryInput::new(b"");
-    let mut out = MemoryOutput::new(alloc, 9)?;
-    let mut err = MemoryOutput::new(alloc, 9)?;
-    let script = "set x 1; puts \"$x;$x\"";
-    let outcome = eval_over(
-        alloc,
-        &mut interp,
-        &mut input,
-        &mut out,
-        &mut err,
-        script,
-        1,
-    );
-    assert!(rt; matches!(outcome, Outcome::Budget));
-    assert!(rt; holds(&mut interp, "x", Some("1"))?);
-    assert_eq!(rt; out.bytes(), b"".as_slice());
+fn a_budget_ends_at_the_command_that_it_wants(rt: HostRuntime) -> Result<(), Fault> {
+    let mut interp = fresh(rt.alloc())?;
+    let end = evaluated(rt.alloc(), &mut interp, 9, "set x 1; puts \"$x;$x\"", 1)?;
+    assert!(rt; matches!(end.outcome, Outcome::Budget));
+    assert!(rt; holds(&mut interp, "x", "1"));
+    assert!(rt; end.out.bytes() == b"".as_slice());
     assert!(rt; !interp.is_failed());
     Ok(())
 }

@@ -1,11 +1,21 @@
 //! First commands of whole texts, by the manual's rules.
-use super::shown::shown;
-use std::test::Fail;
+use super::shown::{is, shown};
+use std::alloc::{AllocError, Global};
 use tcl_words::parse_first;
 
-fn first(rt: &HostRuntime, text: &str) -> Result<String, Fail> {
-    let parsed = parse_first(rt.alloc(), text, 200)?;
-    shown(rt, &parsed)
+fn first(alloc: Global, text: &str) -> Result<String, AllocError> {
+    let parsed = parse_first(alloc, text, 200)?;
+    shown(alloc, &parsed)
+}
+
+/// The first row whose text is shown otherwise.
+fn wrong(alloc: Global, rows: &[(&'static str, &'static str)]) -> Option<&'static str> {
+    for row in rows {
+        if !is(first(alloc, row.0), row.1) {
+            return Some(row.0);
+        }
+    }
+    None
 }
 
 static SEPARATORS: [(&str, &str); 18] = [
@@ -31,12 +41,8 @@ static SEPARATORS: [(&str, &str); 18] = [
 
 /// Rules 1, 3 and 10.
 #[test]
-fn separators(rt: HostRuntime) -> Result<(), Fail> {
-    for row in &SEPARATORS {
-        let (text, want) = *row;
-        assert_eq!(rt; first(&rt, text)?.as_str(), want, "{text}");
-    }
-    Ok(())
+fn separators(rt: HostRuntime) {
+    assert_eq!(rt; wrong(rt.alloc(), &SEPARATORS), None);
 }
 
 static BRACES: [(&str, &str); 17] = [
@@ -67,12 +73,8 @@ static BRACES: [(&str, &str); 17] = [
 
 /// Rules 5 and 6.
 #[test]
-fn braces(rt: HostRuntime) -> Result<(), Fail> {
-    for row in &BRACES {
-        let (text, want) = *row;
-        assert_eq!(rt; first(&rt, text)?.as_str(), want, "{text}");
-    }
-    Ok(())
+fn braces(rt: HostRuntime) {
+    assert_eq!(rt; wrong(rt.alloc(), &BRACES), None);
 }
 
 static QUOTES_AND_ESCAPES: [(&str, &str); 11] = [
@@ -100,12 +102,8 @@ static QUOTES_AND_ESCAPES: [(&str, &str); 11] = [
 
 /// Rules 4 and 9.
 #[test]
-fn quotes_and_escapes(rt: HostRuntime) -> Result<(), Fail> {
-    for row in &QUOTES_AND_ESCAPES {
-        let (text, want) = *row;
-        assert_eq!(rt; first(&rt, text)?.as_str(), want, "{text}");
-    }
-    Ok(())
+fn quotes_and_escapes(rt: HostRuntime) {
+    assert_eq!(rt; wrong(rt.alloc(), &QUOTES_AND_ESCAPES), None);
 }
 
 static VARIABLES_AND_BRACKETS: [(&str, &str); 21] = [
@@ -155,12 +153,8 @@ static VARIABLES_AND_BRACKETS: [(&str, &str); 21] = [
 
 /// Rules 7 and 8.
 #[test]
-fn variables_and_brackets(rt: HostRuntime) -> Result<(), Fail> {
-    for row in &VARIABLES_AND_BRACKETS {
-        let (text, want) = *row;
-        assert_eq!(rt; first(&rt, text)?.as_str(), want, "{text}");
-    }
-    Ok(())
+fn variables_and_brackets(rt: HostRuntime) {
+    assert_eq!(rt; wrong(rt.alloc(), &VARIABLES_AND_BRACKETS), None);
 }
 
 static ODD_CHARACTERS: [(&str, &str); 9] = [
@@ -186,12 +180,8 @@ static ODD_CHARACTERS: [(&str, &str); 9] = [
 
 /// Places count bytes, and no character is special beside those that the rules name.
 #[test]
-fn odd_characters(rt: HostRuntime) -> Result<(), Fail> {
-    for row in &ODD_CHARACTERS {
-        let (text, want) = *row;
-        assert_eq!(rt; first(&rt, text)?.as_str(), want, "{text}");
-    }
-    Ok(())
+fn odd_characters(rt: HostRuntime) {
+    assert_eq!(rt; wrong(rt.alloc(), &ODD_CHARACTERS), None);
 }
 
 static FAULTS: [(&str, &str); 38] = [
@@ -237,10 +227,6 @@ static FAULTS: [(&str, &str); 38] = [
 
 /// The first fault from the left.
 #[test]
-fn faults(rt: HostRuntime) -> Result<(), Fail> {
-    for row in &FAULTS {
-        let (text, want) = *row;
-        assert_eq!(rt; first(&rt, text)?.as_str(), want, "{text}");
-    }
-    Ok(())
+fn faults(rt: HostRuntime) {
+    assert_eq!(rt; wrong(rt.alloc(), &FAULTS), None);
 }

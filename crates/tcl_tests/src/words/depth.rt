@@ -1,30 +1,35 @@
 //! How deep and how large a text may be.
-use super::shown::shown;
-use std::test::Fail;
-use tcl_words::{Parsed, Syntax, parse_first};
+use super::shown::{is, shown};
+use std::alloc::{AllocError, Global};
+use tcl_words::{Syntax, parse_first};
+
+/// A part so many times.
+fn add(text: &mut String, part: &str, times: u32) -> Result<(), AllocError> {
+    for _ in 0..times {
+        text.push_str(part)?;
+    }
+    Ok(())
+}
 
 /// So many openers, a word and so many closers behind `puts `.
-fn nested(rt: &HostRuntime, open: &str, close: &str, levels: u32) -> Result<String, Fail> {
-    let mut text = String::new(rt.alloc());
+fn nested(alloc: Global, open: &str, close: &str, levels: u32) -> Result<String, AllocError> {
+    let mut text = String::new(alloc);
     text.push_str("puts ")?;
-    for _ in 0..levels {
-        text.push_str(open)?;
-    }
+    add(&mut text, open, levels)?;
     text.push_str("a")?;
-    for _ in 0..levels {
-        text.push_str(close)?;
-    }
+    add(&mut text, close, levels)?;
     Ok(text)
 }
 
-fn is_too_deep(rt: &HostRuntime, text: &str) -> Result<bool, Fail> {
-    let parsed = parse_first(rt.alloc(), text, 200)?;
-    let found = shown(rt, &parsed)?;
-    Ok(found.as_str() == Syntax::TooDeep.text())
+/// Is the text with so many levels too deep?
+fn is_too_deep(alloc: Global, open: &str, close: &str, levels: u32) -> Result<bool, AllocError> {
+    let text = nested(alloc, open, close, levels)?;
+    let parsed = parse_first(alloc, &text, 200)?;
+    Ok(is(shown(alloc, &parsed), Syntax::TooDeep.text()))
 }
 
 #[test]
-fn levels(rt: HostRuntime) -> Result<(), Fail> {
+fn levels(rt: HostRuntime) {
     for (open, close, most) in [
         ("[", "]", 200),
         ("$a(", ")", 200),
@@ -32,22 +37,28 @@ fn levels(rt: HostRuntime) -> Result<(), Fail> {
         ("\"[", "]\"", 200),
         ("$a([", "])", 100),
     ] {
-        let fits = nested(&rt, open, close, most)?;
-        assert!(rt; !is_too_deep(&rt, fits.as_str())?, "{open}");
-        let deeper = nested(&rt, open, close, most + 1)?;
-        assert!(rt; is_too_deep(&rt, deeper.as_str())?, "{open}");
+        assert!(rt;
+            is_too_deep(rt.alloc(), open, close, most) == Ok(false),
+            "{open}"
+        );
+        assert!(rt;
+            is_too_deep(rt.alloc(), open, close, most + 1) == Ok(true),
+            "{open}"
+        );
     }
-    Ok(())
+}
+
+/// The length of what is shown of so many levels.
+fn shown_length(alloc: Global, open: &str, close: &str, levels: u32) -> Result<usize, AllocError> {
+    let text = nested(alloc, open, close, levels)?;
+    let parsed = parse_first(alloc, &text, 200)?;
+    Ok(shown(alloc, &parsed)?.len())
 }
 
 /// Braces nest as deep as memory holds.
 #[test]
-fn braces(rt: HostRuntime) -> Result<(), Fail> {
-    let closed = nested(&rt, "{", "}", 500_000)?;
-    let parsed = parse_first(rt.alloc(), closed.as_str(), 200)?;
-    assert!(rt; matches!(parsed, Parsed::Command(_, 1_000_006)));
-    let open = nested(&rt, "{", "", 1_000_000)?;
-    let parsed = parse_first(rt.alloc(), open.as_str(), 200)?;
-    assert_eq!(rt; shown(&rt, &parsed)?.as_str(), "missing close-brace");
-    Ok(())
+fn braces(rt: HostRuntime) {
+    let message = "missing close-brace";
+    assert!(rt; shown_length(rt.alloc(), "{", "}", 500_000) == Ok(1_000_020));
+    assert!(rt; shown_length(rt.alloc(), "{", "", 1_000_000) == Ok(message.len()));
 }

@@ -1,81 +1,80 @@
 //! Parses as texts.
-use std::test::Fail;
+use std::alloc::{AllocError, Global};
 use tcl_words::{Form, Operand, Parsed, Piece, Span, Word};
 
 /// A stretch, as its place and its text.
-fn add_span(out: &mut String, span: &Span<'_>) -> Result<(), Fail> {
-    write!(out, "{}:{}", span.start, span.text)?;
-    Ok(())
+fn add_span(out: &mut String, span: &Span<'_>) -> Result<(), AllocError> {
+    write!(out, "{}:{}", span.start, span.text)
+}
+
+/// A stretch and what stands in it.
+fn add_pair(out: &mut String, span: &Span<'_>, inner: &Span<'_>) -> Result<(), AllocError> {
+    add_span(out, span)?;
+    out.push('=')?;
+    add_span(out, inner)
 }
 
 /// A piece: a text as it stands, an escape with its character, a variable with its name, an element with its name and
 /// its index, a bracket with its script.
-fn add_piece(out: &mut String, piece: &Piece<'_>) -> Result<(), Fail> {
+fn add_piece(out: &mut String, piece: &Piece<'_>) -> Result<(), AllocError> {
     match piece {
-        Piece::Text(span) => add_span(out, span)?,
+        Piece::Text(span) => add_span(out, span),
         Piece::Escape(span, meant) => {
             add_span(out, span)?;
-            write!(out, "={:x}", u32::from(*meant))?;
+            write!(out, "={:x}", u32::from(*meant))
         }
-        Piece::Var(span, name) => {
-            add_span(out, span)?;
-            write!(out, "=")?;
-            add_span(out, name)?;
-        }
+        Piece::Var(span, inner) | Piece::Bracket(span, inner) => add_pair(out, span, inner),
         Piece::Elem(span, name, index) => {
-            add_span(out, span)?;
-            write!(out, "=")?;
-            add_span(out, name)?;
-            write!(out, "{index:?}")?;
-        }
-        Piece::Bracket(span, script) => {
-            add_span(out, span)?;
-            write!(out, "=")?;
-            add_span(out, script)?;
+            add_pair(out, span, name)?;
+            write!(out, "{index:?}")
         }
     }
-    Ok(())
 }
 
 /// A word: `*` where it is expanded, and its pieces in `<>`, `""` or `{}` by its form.
-pub(crate) fn add_word(out: &mut String, word: &Word<'_>) -> Result<(), Fail> {
+pub(crate) fn add_word(out: &mut String, word: &Word<'_>) -> Result<(), AllocError> {
     if word.expands {
-        write!(out, "*")?;
+        out.push('*')?;
     }
     let (open, close) = match word.form {
         Form::Bare => ('<', '>'),
         Form::Quoted => ('"', '"'),
         Form::Braced => ('{', '}'),
     };
-    write!(out, "{open}")?;
-    for (i, piece) in word.pieces.iter().enumerate() {
-        if i > 0 {
-            write!(out, "|")?;
+    out.push(open)?;
+    for (place, piece) in word.pieces.iter().enumerate() {
+        if place > 0 {
+            out.push('|')?;
         }
         add_piece(out, piece)?;
     }
-    write!(out, "{close}")?;
+    out.push(close)
+}
+
+/// A command's words, each with a space behind it.
+fn add_words(out: &mut String, words: &[Word<'_>]) -> Result<(), AllocError> {
+    for word in words {
+        add_word(out, word)?;
+        out.push(' ')?;
+    }
     Ok(())
 }
 
-pub(crate) fn shown(rt: &HostRuntime, parsed: &Parsed<'_>) -> Result<String, Fail> {
-    let mut out = String::new(rt.alloc());
+pub(crate) fn shown(alloc: Global, parsed: &Parsed<'_>) -> Result<String, AllocError> {
+    let mut out = String::new(alloc);
     match parsed {
         Parsed::End(at) => write!(out, "End {at}")?,
         Parsed::Bad(fault) => write!(out, "{fault}")?,
         Parsed::Command(words, at) => {
-            for word in words {
-                add_word(&mut out, word)?;
-                write!(out, " ")?;
-            }
+            add_words(&mut out, words)?;
             write!(out, "{at}")?;
         }
     }
     Ok(out)
 }
 
-pub(crate) fn operand_shown(rt: &HostRuntime, operand: &Operand<'_>) -> Result<String, Fail> {
-    let mut out = String::new(rt.alloc());
+pub(crate) fn operand_shown(alloc: Global, operand: &Operand<'_>) -> Result<String, AllocError> {
+    let mut out = String::new(alloc);
     match operand {
         Operand::Bad(fault) => write!(out, "{fault}")?,
         Operand::Found(word, at) => {
@@ -84,4 +83,12 @@ pub(crate) fn operand_shown(rt: &HostRuntime, operand: &Operand<'_>) -> Result<S
         }
     }
     Ok(out)
+}
+
+/// Is this the text that was made?
+pub(crate) fn is(made: Result<String, AllocError>, want: &str) -> bool {
+    match made {
+        Ok(text) => text.as_str() == want,
+        Err(_) => false,
+    }
 }

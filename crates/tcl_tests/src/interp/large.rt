@@ -1,0 +1,91 @@
+//! Many variables, elements and commands, and long texts.
+
+use super::setting::{evaluated, fresh, holds, is_done};
+use std::alloc::{AllocError, Global};
+use tcl_chars::Fault;
+use tcl_interp::{HostFault, HostVar, Interp};
+
+/// Sets a variable and an element of an array by a number.
+fn add(alloc: Global, interp: &mut Interp, number: u32) -> Result<bool, AllocError> {
+    let name = format!(in alloc; "v{number}")?;
+    let element = format!(in alloc; "a({number})")?;
+    Ok(interp.set_var(&name, &name).is_ok() && interp.set_var(&element, &name).is_ok())
+}
+
+/// Sets a thousand variables, and as many elements of one array.
+fn fill(alloc: Global, interp: &mut Interp) -> Result<bool, AllocError> {
+    for number in 1000..2000u32 {
+        if !add(alloc, interp, number)? {
+            return Ok(false);
+        }
+    }
+    Ok(true)
+}
+
+/// How many elements an array has.
+fn elements(var: Option<&HostVar>) -> usize {
+    match var {
+        Some(HostVar::Array(elements)) => elements.len(),
+        _ => 0,
+    }
+}
+
+/// How many variables there are, and how many elements the first one has.
+fn sizes(interp: &mut Interp) -> Result<(usize, usize), HostFault> {
+    let vars = interp.vars()?;
+    let elements = elements(vars.first().map(|var| &var.1));
+    Ok((vars.len(), elements))
+}
+
+#[test]
+fn a_thousand_variables(rt: HostRuntime) -> Result<(), Fault> {
+    let mut interp = fresh(rt.alloc())?;
+    assert!(rt; fill(rt.alloc(), &mut interp) == Ok(true));
+    assert!(rt; sizes(&mut interp) == Ok((1001, 1000)));
+    assert!(rt; holds(&mut interp, "v1777", "v1777"));
+    assert!(rt; holds(&mut interp, "a(1999)", "v1999"));
+    Ok(())
+}
+
+/// A thousand lines of two commands.
+fn commands(alloc: Global) -> Result<String, AllocError> {
+    let mut script = String::new(alloc);
+    for number in 1000..2000u32 {
+        write!(script, "set v{number} {number}; puts $v{number}\n")?;
+    }
+    Ok(script)
+}
+
+#[test]
+fn a_thousand_commands(rt: HostRuntime) -> Result<(), Fault> {
+    let mut interp = fresh(rt.alloc())?;
+    let script = commands(rt.alloc())?;
+    let end = evaluated(rt.alloc(), &mut interp, 5000, &script, 2001)?;
+    assert!(rt; is_done(&end.outcome, 0, "", 1));
+    assert!(rt; end.out.bytes().len() == 5000);
+    assert!(rt; end.out.bytes().ends_with(b"1998\n1999\n"));
+    assert!(rt; sizes(&mut interp) == Ok((1000, 0)));
+    Ok(())
+}
+
+/// A letter so many times.
+fn long(alloc: Global, times: u32) -> Result<String, AllocError> {
+    let mut text = String::new(alloc);
+    for _ in 0..times {
+        text.push('é')?;
+    }
+    Ok(text)
+}
+
+#[test]
+fn long_values(rt: HostRuntime) -> Result<(), Fault> {
+    let mut interp = fresh(rt.alloc())?;
+    let text = long(rt.alloc(), 100_000)?;
+    assert!(rt; interp.set_var("x", &text) == Ok(()));
+    let end = evaluated(rt.alloc(), &mut interp, 400_001, "puts $x$x; set y $x", 9)?;
+    assert!(rt; is_done(&end.outcome, 0, &text, 7));
+    assert!(rt; end.out.bytes().len() == 400_001);
+    assert!(rt; end.out.bytes().starts_with(text.as_bytes()));
+    assert!(rt; holds(&mut interp, "y", &text));
+    Ok(())
+}
