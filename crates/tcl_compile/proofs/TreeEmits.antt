@@ -1,5 +1,5 @@
 -- Parts of an expression that are emitted one after another.
-use Rattle.std.proofs.Common.{◌≡◌, ℕ, zero, suc, ◌+◌, ◌<◌, ◌≤◌, Bool, false, List, [], ◌∷◌, ◌++◌, length, get_or, drop, Some, None, refl, sym, ap, ◌∙◌, subst, arith, append_assoc, append-nil, length-append, add-one, drop-cons}
+use Rattle.std.proofs.Common.{◌≡◌, ℕ, zero, suc, ◌+◌, ◌<◌, ◌≤◌, Bool, false, List, [], ◌∷◌, ◌++◌, length, get_or, drop, Some, None, refl, sym, ap, ◌∙◌, subst, arith, append_assoc, append-nil, length-append}
 use Rattle.std.specs.Prelude.{◌-◌, MatchOption, slice_get, slice_set}
 use Rattle.std.proofs.lemmas.Option.{slice_get-get_or}
 use Rattle.std.proofs.Math.Seq.{get_or-append_seam, set-append_seam}
@@ -17,7 +17,7 @@ use Rattle.tcl_compile.specs.Emitted.{WordCode}
 use Rattle.tcl_compile.specs.Fragments.{Grown, Leads}
 use Rattle.tcl_compile.specs.Trees.{decided_by, Applies, TreeCode, StepCode, RestCode, ArgsLeft, TreeIsRead, RestIsRead, ArgsAreRead}
 use Rattle.tcl_compile.proofs.Changing.{does_change, change_change, change_none, change_choice, chosen, lazy_code, choice_code}
-use Rattle.tcl_compile.proofs.Emits.{ext, join, leads_on, leads_end}
+use Rattle.tcl_compile.proofs.Emits.{ext, join, drop_here, drop_end, leads_on, leads_end}
 use Rattle.tcl_compile.proofs.Operators.{unary_does, power_does, eager_step, lazy_step, applies_end, applies_next, call_does}
 use Rattle.tcl_compile.proofs.Pieces.{push_does}
 
@@ -109,17 +109,6 @@ grown_choice m0 m1 m2 m3 m4 m5 m6 m7 t c e f is g h x k l y n =
           (λ dialect. does_change dialect g.0 (choice_code x.0 y.0) (λ d. tree_text dialect d c) (chosen dialect (λ d. tree_text dialect d e) (λ d. tree_text dialect d f)) (g.2 dialect)
           (change_choice dialect x.0 y.0 (λ d. tree_text dialect d e) (λ d. tree_text dialect d f) (x.2 dialect) (y.2 dialect))),
     )
-
--- ---- lists from a place on
-
-drop_here : {A : Type 0} (xs : List A) (i : ℕ) (x : A) → i < length xs → x ≡ get_or xs i x → drop i xs ≡ x ∷ drop (i + 1) xs
-drop_here xs i x h e = rw (add-one, drop-cons xs i x h) (ap (λ y. y ∷ drop (suc i) xs) (sym e))
-
-drop_end : {A : Type 0} (xs : List A) (i : ℕ) → length xs ≤ i → drop i xs ≡ []
-drop_end [] zero h = refl
-drop_end [] (suc i) h = refl
-drop_end (x ∷ xs) zero h = absurd (omega arith)
-drop_end (x ∷ xs) (suc i) h = drop_end xs i (omega arith)
 
 -- ---- a chain's parts
 

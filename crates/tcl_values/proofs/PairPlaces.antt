@@ -12,20 +12,16 @@ use Rattle.std.proofs.lemmas.Str.{encodes-chars, IsUtf8-string_bytes}
 use Rattle.tcl_chars.specs.Texts.{same_text, text_of}
 use Rattle.tcl_pages.specs.Dictionaries.{Pairs, put_key, keys_of, values_of}
 use Rattle.tcl_pages.specs.DictPages.{value_at, without_key}
+use Rattle.tcl_pages.proofs.Glob.{same_truth}
 use Rattle.tcl_pages.specs.Texts.{Text}
 use Rattle.tcl_values.specs.Kept.{Kept, texts}
 use Rattle.tcl_values.specs.Paired.{zipped}
 use Rattle.tcl_values.proofs.PairTexts.{same_is, or_false}
 
-both_ways : (a b : Bool) → (a ≡ true → b ≡ true) → (b ≡ true → a ≡ true) → a ≡ b
-both_ways true b f g = sym (f refl)
-both_ways false true f g = g refl
-both_ways false false f g = refl
-
 -- texts are the same where their bytes are
 same_key : (a : List ℕ) → IsUtf8 a → (j : RcStr Global) → bytes_eq a (rc_str_bytes j) ≡ same_text (text_of j) (chars a)
 same_key a u j =
-    both_ways (bytes_eq a (rc_str_bytes j)) (same_text (text_of j) (chars a))
+    same_truth (bytes_eq a (rc_str_bytes j)) (same_text (text_of j) (chars a))
     (λ e. (bytes_decides (text_of j) (chars a)).1 (ap chars (sym ((bytes_decides a (rc_str_bytes j)).0 e))))
     (λ e. (bytes_decides a (rc_str_bytes j)).1 (sym (encodes-chars a u) ∙ ap encode_utf8_all (sym ((bytes_decides (text_of j) (chars a)).0 e)) ∙ encodes-chars (rc_str_bytes j) (IsUtf8-string_bytes j.text.value)))
 

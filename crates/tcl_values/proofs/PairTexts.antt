@@ -8,21 +8,17 @@ use Rattle.tcl_list.specs.Elements.{elements_of}
 use Rattle.tcl_pages.specs.Answers.{Answer, ◌>>=◌}
 use Rattle.tcl_pages.specs.Dictionaries.{Pairs, put_key, put_keys, with_pair, in_pairs, pairs_of}
 use Rattle.tcl_pages.specs.DictPages.{flat, dictionary, without_key}
+use Rattle.tcl_pages.proofs.Glob.{same_truth}
 use Rattle.tcl_pages.specs.Texts.{Text}
 use Rattle.tcl_values.specs.Kept.{Kept, texts}
 use Rattle.tcl_values.specs.Paired.{has_key, AreDistinct, read_pairs}
 use Rattle.tcl_values.proofs.Joined.{reads_written}
 
-both_ways : (a b : Bool) → (a ≡ true → b ≡ true) → (b ≡ true → a ≡ true) → a ≡ b
-both_ways true b f g = sym (f refl)
-both_ways false true f g = g refl
-both_ways false false f g = refl
-
 pub same_is : (a b : Text) → same_text a b ≡ true → a ≡ b
 same_is a b e = (bytes_decides a b).0 e
 
 same_symm : (a b : Text) → same_text a b ≡ same_text b a
-same_symm a b = both_ways (same_text a b) (same_text b a) (λ e. (bytes_decides b a).1 (sym (same_is a b e))) (λ e. (bytes_decides a b).1 (sym (same_is b a e)))
+same_symm a b = same_truth (same_text a b) (same_text b a) (λ e. (bytes_decides b a).1 (sym (same_is a b e))) (λ e. (bytes_decides a b).1 (sym (same_is b a e)))
 
 pub or_false : (a b : Bool) → (a || b) ≡ false → (a ≡ false) × (b ≡ false)
 or_false true b e = absurd cc

@@ -61,7 +61,7 @@ left_push (v ∷ ws) w = let e = left_push ws w in omega arith
 pub begun_fits : (code : List Instruction) (d : ℕ) → Valid code → d ≤ most_depth → FitsHere (record { code = code; spot = first_spot d }) 0
 begun_fits code d v le = record { shape = bare; valid = v; comes = record { steps = 0; comes = (refl, refl) }; texts = refl; lists = refl; results = refl; brackets = omega arith; deep = le; paid_for = refl }
 
-entered_units : (scope : Scope) (s : State) → (entered scope s).units ≡ s.units
+pub entered_units : (scope : Scope) (s : State) → (entered scope s).units ≡ s.units
 entered_units Here s = refl
 entered_units (At level) s = refl
 entered_units (Within vs) s = refl

@@ -9,9 +9,8 @@ use Rattle.tcl_meaning.specs.Pages.{owed}
 use Rattle.tcl_meaning.specs.Script.{Run, page_in}
 use Rattle.tcl_meaning.specs.State.{Channels, State, with_store, with_active, with_frames}
 use Rattle.tcl_meaning.specs.Tasks.{Step, Owes}
-use Rattle.tcl_code.specs.Instructions.{Instruction}
 pub use Rattle.tcl_code.specs.Running.{Running}
-use Rattle.tcl_code.specs.Machine.{Spot, Move, move, result_at, Ended, landed, exec_code}
+use Rattle.tcl_code.specs.Machine.{Move, move, result_at, Ended, landed, exec_code}
 
 -- ---- the machine
 
