@@ -4,17 +4,22 @@ use Rattle.std.specs.Prelude.{slice_set, IfOk, IfErr, IfSome, ◌==◌, if◌the
 use Rattle.std.specs.FinMap as map
 use Rattle.tcl_pages.specs.Texts.{Text}
 use Rattle.tcl_meaning.specs.declared.refusal.Refusal.{Refusal}
-use Rattle.tcl_meaning.specs.Frames.{Variable, Variables, Part, Spot, Frame, frame_at, set_frame, Level, up, at, chain_of, chain, nth, of_level, frame_of_level}
-use Rattle.tcl_meaning.specs.Arrays.{whole_array, array_of}
+use Rattle.tcl_meaning.specs.Frames.{Variable, Variables, Part, whole, Spot, Frame, frame_at, set_frame, Level, up, at, chain_of, chain, nth, of_level, frame_of_level}
+use Rattle.tcl_meaning.specs.Arrays.{whole_array, array_of, spot_named}
+use Rattle.tcl_meaning.specs.SeenPages.{is_there, is_there_at, exists_here, names_of, frame_names}
 use Rattle.tcl_meaning.specs.Links.{links_of, destination, spot_in, home}
 use Rattle.tcl_meaning.specs.Names.{Name, divided_name}
-use Rattle.tcl_meaning.specs.State.{Commands, Store, Change, with_call}
+use Rattle.tcl_meaning.specs.State.{Commands, Store, Change, with_call, active_frame}
 use Rattle.tcl_meaning.specs.Variables.{spot_of, variable_at, missing, get_part, get, put_part, stored, put_change, remove_part, removed, remove_change}
 use Rattle.tcl_frames.specs.Standing.{Standing, store_of, applied, after, with_put, with_variables, joined, called, left}
 use Rattle.tcl_frames.specs.Written.{or_else, stored_in, with_text, variables_of, variable_in, with_frame_of, stored_at, removed_at, with_text_at, with_text_in}
+use Rattle.tcl_frames.specs.Edits.{edit_part, edit_change}
+use Rattle.tcl_frames.specs.declared.edit.Edit.{Edit}
 use Rattle.tcl_frames.specs.Refusals.{Refuses}
 use Rattle.tcl_frames.specs.declared.fault.VarFault.{VarFault}
 use Rattle.tcl_frames.specs.declared.fault.VarFault.TheVariants as fault
+use Rattle.tcl_frames.specs.NameSets.{with_names}
+use Rattle.tcl_frames.proofs.NameSets.{together}
 use Rattle.tcl_frames.proofs.Chains.{lead, destination_leads}
 
 pub links_joined : (fs : List Frame) (vs : List Variables) → links_of (with_variables fs vs) ≡ links_of fs
@@ -41,6 +46,13 @@ variables_joined [] (v ∷ vs) i h = absurd (omega (arith, h))
 variables_joined (f ∷ fs) [] i h = absurd (omega (arith, h))
 variables_joined (f ∷ fs) (v ∷ vs) zero h = refl
 variables_joined (f ∷ fs) (v ∷ vs) (suc i) h = variables_joined fs vs i (omega (arith, h))
+
+-- and so are the links
+pub frame_links : (fs : List Frame) (vs : List Variables) (i : ℕ) → (frame_at (with_variables fs vs) i).links ≡ (frame_at fs i).links
+frame_links [] vs i = refl
+frame_links (f ∷ fs) [] i = refl
+frame_links (f ∷ fs) (v ∷ vs) zero = refl
+frame_links (f ∷ fs) (v ∷ vs) (suc i) = frame_links fs vs i
 
 -- and are changed there
 pub changed_joined : (fs : List Frame) (vs : List Variables) (i : ℕ) (m : Variables) → length fs ≡ length vs
@@ -83,13 +95,39 @@ module _ (f : Standing) (vs : List Variables) (now : Standing) (view : joined f 
   pub array_joined : array_of (store_of cs now) name ≡ whole_array (variable_in vs p) p.part
   array_joined = at_place (λ q v. whole_array v q.part)
 
+  pub there_joined : is_there_at (store_of cs now) (spot_named (store_of cs now) name) ≡ is_there (variable_in vs p) p.part
+  there_joined = at_place (λ q v. is_there v q.part)
+
   pub put_joined : (t : Text) → put_change (store_of cs now) name t ≡ stored p (put_part (variable_in vs p) p.part t)
   unfolding put_change
   put_joined t = at_place (λ q v. stored q (put_part v q.part t))
 
+  pub edit_joined : (e : Edit) → edit_change (store_of cs now) name e ≡ stored p (edit_part e (variable_in vs p) p.part)
+  edit_joined e = at_place (λ q v. stored q (edit_part e v q.part))
+
   pub remove_joined : (miss : Refusal) → miss ≡ missing (divided_name name).part → remove_change (store_of cs now) name ≡ removed p (remove_part miss (variable_in vs p) p.part)
   unfolding remove_change
   remove_joined miss e = at_place (λ q v. removed q (remove_part (missing (divided_name name).part) v q.part)) ∙ ap (λ x. removed p (remove_part x (variable_in vs p) p.part)) (sym e)
+
+-- a name of the active frame, which is not divided
+pub here_joined : (f : Standing) (vs : List Variables) (now : Standing) → joined f vs ≡ now → length f.frames ≡ length vs → (cs : Commands) (name : Text) (p : Spot)
+    → p ≡ destination f.frames (record { frame = f.active; name = name; part = whole }) → exists_here (store_of cs now) name ≡ is_there (variable_in vs p) p.part
+here_joined f vs now view even cs name p leads =
+    let q : Spot = record { frame = f.active; name = name; part = whole } in
+    ap (λ (n : Standing). exists_here (store_of cs n) name) (sym view)
+    ∙ ap (λ (k : Spot). is_there_at (store_of cs (joined f vs)) k) (destination_joined f.frames vs q ∙ sym leads)
+    ∙ ap (λ v. is_there (map.get v p.name) p.part) (variables_joined f.frames vs p.frame even)
+
+-- the names of the active frame's variables and links
+pub names_joined : (f : Standing) (vs : List Variables) (now : Standing) → joined f vs ≡ now → length f.frames ≡ length vs → (cs : Commands)
+    → with_names (with_names map.empty (names_of (frame_at f.frames f.active).links)) (names_of (variables_of vs f.active)) ≡ frame_names (active_frame (store_of cs now))
+names_joined f vs now view even cs =
+    let fs = with_variables f.frames vs in
+    let i = f.active in
+    together (names_of (variables_of vs i)) (names_of (frame_at f.frames i).links)
+    ∙ ap (λ m. map.from_entries (names_of m ++ names_of (frame_at f.frames i).links)) (sym (variables_joined f.frames vs i even))
+    ∙ ap (λ m. map.from_entries (names_of (frame_at fs i).variables ++ names_of m)) (sym (frame_links f.frames vs i))
+    ∙ ap (λ (n : Standing). frame_names (active_frame (store_of cs n))) view
 
 -- ---- changes
 

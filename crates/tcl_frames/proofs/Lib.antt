@@ -1,6 +1,10 @@
 pub mod NamesLemmas
+pub mod NameSets
+pub mod EditLemmas
 pub mod Chains
 pub mod Standings
 pub mod LentTexts
 pub mod Joined
 pub mod LinkTests
+pub mod HighLevels
+pub mod OneFrame

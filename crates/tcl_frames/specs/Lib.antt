@@ -1,5 +1,6 @@
 pub mod Parts
 pub mod Standing
+pub mod Unwound
 pub mod Coding
 pub mod Refusals
 pub mod Places
@@ -8,6 +9,8 @@ pub mod CallShape
 pub mod StackShape
 pub mod VariableShape
 pub mod Written
+pub mod NameSets
+pub mod Edits
 pub mod VariableLent
 pub mod VariablesLent
 pub mod FramesShape

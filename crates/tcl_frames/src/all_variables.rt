@@ -7,14 +7,19 @@ ghost use Rattle.tcl_meaning.specs.Variables.{get_part, put_part, remove_part};
 ghost use Rattle.tcl_frames.specs.AllLent.{LendsAt};
 ghost use Rattle.std.specs.Option.{option_copied};
 ghost use Rattle.tcl_meaning.specs.Arrays.{whole_array};
+ghost use Rattle.tcl_meaning.specs.SeenPages.{is_there, names_of};
+ghost use Rattle.tcl_frames.specs.NameSets.{with_names};
 ghost use Rattle.tcl_frames.specs.Places.{spot_of};
-ghost use Rattle.tcl_frames.specs.Refusals.{Refuses};
+ghost use Rattle.tcl_frames.specs.Refusals.{OnRefused, Refuses};
+ghost use Rattle.tcl_frames.specs.Edits.{edit_part};
 ghost use Rattle.tcl_frames.specs.Written.{variables_of, variable_in, stored_at, removed_at};
 
+use crate::edit::Edit;
 use crate::fault::VarFault;
+use crate::name_set::add_names;
 use crate::place::Place;
 use crate::variable::Variable;
-use crate::variables::{array_in, find_in, place_in, put_in, remove_in};
+use crate::variables::{array_in, edit_in, find_in, is_there_in, place_in, put_in, remove_in};
 use std::alloc::{AllocError, Global};
 use std::marker::Model;
 use tcl_meaning::Refusal;
@@ -95,6 +100,27 @@ impl AllVariables {
         array_in(&self.frames[at.frame], at.name, at.part)
     }
 
+    /// Is there a variable or an element at a place?
+    pub(crate) fn is_there(&self, at: Place<'_>) -> bool
+        requires { at.frame < length self.now }
+        ensures { result ≡ is_there (variable_in self.now (spot_of at.entry)) (spot_of at.entry).part }
+    {
+        is_there_in(&self.frames[at.frame], at.name, at.part)
+    }
+
+    /// Puts the names of a frame's variables into a set of names.
+    pub(crate) fn add_names(
+        &self,
+        alloc: Global,
+        frame: usize,
+        names: &mut NameMap<()>,
+    ) -> Result<(), AllocError>
+        requires { frame < length self.now }
+        ensures { OnOk result (names.new ≡ with_names names.old (names_of (variables_of self.now frame))) }
+    {
+        add_names(alloc, names, &self.frames[frame])
+    }
+
     /// Gives a place a text.
     pub(crate) fn put(&mut self, alloc: Global, at: Place<'_>, value: Value) -> Result<(), VarFault>
         requires { at.frame < length self.old }
@@ -103,6 +129,22 @@ impl AllVariables {
         ensures same { OnErr result (self.new ≡ self.old) }
     {
         put_in(&mut self.frames[at.frame], alloc, at.name, at.part, value)
+    }
+
+    /// Changes the elements of the array at a place.
+    pub(crate) fn edit(
+        &mut self,
+        alloc: Global,
+        at: Place<'_>,
+        edit: Edit<'_>,
+    ) -> Result<(), VarFault>
+        requires { at.frame < length self.old }
+        ensures done { OnOk result (stored_at self.old (spot_of at.entry) (edit_part edit.entry (variable_in self.old (spot_of at.entry)) (spot_of at.entry).part) ≡ Ok self.new) }
+        ensures refused { IfErr result (Refuses (edit_part edit.entry (variable_in self.old (spot_of at.entry)) (spot_of at.entry).part)) }
+        ensures same { OnRefused result (self.new ≡ self.old) }
+        ensures count { length self.new ≡ length self.old }
+    {
+        edit_in(&mut self.frames[at.frame], alloc, at.name, at.part, edit)
     }
 
     /// Takes away what is at a place.

@@ -1,6 +1,6 @@
 //! Frames that are called and left, and the levels of frames.
-ghost use Rattle.std.specs.Prelude.{◌≡◌, ◌<◌, length, IfSome, OnOk, OnErr};
-ghost use Rattle.tcl_meaning.specs.Frames.{frame_of_level};
+ghost use Rattle.std.specs.Prelude.{◌≡◌, ℕ, ◌<◌, ◌≤◌, ◌^◌, length, None, IfSome, OnOk, OnErr};
+ghost use Rattle.tcl_meaning.specs.Frames.{frame_of_level, up, at};
 ghost use Rattle.tcl_meaning.specs.State.{Commands, active_frame, with_active, with_call};
 ghost use Rattle.tcl_frames.specs.Levels.{level_of};
 ghost use Rattle.tcl_frames.specs.Standing.{store_of, left};
@@ -25,6 +25,14 @@ impl Frames {
         ensures there { IfSome result (λ i. i < length self.now.frames) }
     {
         self.stack.frame_of(level)
+    }
+
+    /// No level is as large as 2^63: uplevel(n).
+    pub fn levels_fit(&self)
+        ensures up { (n : ℕ) → 2 ^ 63 ≤ n → frame_of_level self.now.frames self.now.active (up n) ≡ None }
+        ensures at { (n : ℕ) → 2 ^ 63 ≤ n → frame_of_level self.now.frames self.now.active (at n) ≡ None }
+    {
+        self.stack.levels_fit();
     }
 
     /// Makes another frame the active one, and answers which one was: uplevel(n).

@@ -2,10 +2,10 @@
 ghost use Rattle.std.specs.Prelude.{◌≡◌, ◌<◌, ◌≤◌, if◌then◌else◌, length, take, ◌++◌, ◌∷◌, [], None, Some, Ok, Err, IfOk, IfErr, IfSome, OnOk, OnErr};
 ghost use Rattle.std.specs.FinMap as map;
 ghost use Rattle.std.specs.Str.{chars};
-ghost use Rattle.tcl_meaning.specs.Frames.{global_frame};
-ghost use Rattle.tcl_meaning.specs.Links.{link_at, links_of, spot_in};
+ghost use Rattle.tcl_meaning.specs.Frames.{global_frame, whole};
+ghost use Rattle.tcl_meaning.specs.Links.{destination, link_at, links_of, spot_in};
 ghost use Rattle.tcl_meaning.specs.Names.{divided_name};
-ghost use Rattle.tcl_frames.specs.Places.{spot_of};
+ghost use Rattle.tcl_frames.specs.Places.{spot, spot_of};
 ghost use Rattle.tcl_meaning.specs.State.{Commands};
 ghost use Rattle.tcl_meaning.specs.Variables.{get, put_change, remove_change};
 ghost use Rattle.tcl_frames.specs.Standing.{store_of, applied};
@@ -15,7 +15,7 @@ ghost use Rattle.tcl_frames.specs.Refusals.{Refuses};
 
 use crate::all_variables::AllVariables;
 use crate::fault::VarFault;
-use crate::name::divide;
+use crate::name::{Part, divide};
 use crate::place::Place;
 use crate::stack::Stack;
 use crate::variable::Variable;
@@ -125,6 +125,14 @@ pub(crate) fn place_in<'a>(stack: &'a Stack, frame: usize, name: &'a str) -> Pla
 {
     let name = divide(name);
     stack.follow(home(frame, name.global), name.base, name.part)
+}
+
+/// The place to which a name of the active frame leads that is not divided.
+pub(crate) fn place_here<'a>(stack: &'a Stack, name: &'a str) -> Place<'a>
+    ensures leads { spot_of result ≡ destination stack.now.frames (spot stack.now.active (chars name.now) whole) }
+    ensures there { result.frame < length stack.now.frames }
+{
+    stack.follow(stack.active(), name, Part::Whole)
 }
 
 /// The place to which a name leads that the active frame's scripts write.

@@ -3,18 +3,26 @@
 
 mod all_variables;
 mod calls;
+mod counting;
+mod edit;
+mod editing;
 mod fault;
 mod frames;
 mod lending;
 mod level;
 mod linking;
+mod looking;
 mod name;
+mod name_set;
 mod place;
 mod stack;
+mod unwinding;
 mod variable;
 mod variables;
 
+pub use edit::Edit;
 pub use fault::{LinkFault, VarFault};
 pub use frames::Frames;
 pub use level::Level;
+pub use name::{is_element, is_global, without_colons};
 pub use variable::Variable;

@@ -61,15 +61,15 @@ fn after_colons(text: &str) -> &str
     rest
 }
 
-// Does a run of two or more colons lead the name?
-fn is_global(name: &str) -> bool
+/// Does a run of two or more colons lead the name?
+pub fn is_global(name: &str) -> bool
     ensures { result ≡ spec.is_global (chars name.now) }
 {
     begins(':', name) && begins(':', tail(name))
 }
 
-// The name without such a run.
-fn without_colons(name: &str) -> &str
+/// The name of a variable or a command without a leading run of two or more colons: Tcl(n), rule 8.
+pub fn without_colons(name: &str) -> &str
     ensures { chars result.now ≡ spec.without_colons (chars name.now) }
 {
     if is_global(name) {
@@ -145,6 +145,13 @@ pub(crate) fn divide(name: &str) -> Name<'_>
         return whole_name(name);
     }
     element_name(before(name, element), before(index, last))
+}
+
+/// Is a name an element's?
+pub fn is_element(name: &str) -> bool
+    ensures { result ≡ spec.is_element (spec.divided_name (chars name.now)).part }
+{
+    divide(name).part.is_element()
 }
 
 /// Does a name mean a global variable, or an element?

@@ -1,5 +1,5 @@
 //! The frames that stand, without their variables: who called whom, and which names are links.
-ghost use Rattle.std.specs.Prelude.{◌≡◌, false, is_some, ◌<◌, ◌≤◌, suc, length, take, ◌++◌, ◌∷◌, [], Some, None, IfOk, IfSome, OnOk, OnErr};
+ghost use Rattle.std.specs.Prelude.{◌≡◌, ℕ, false, is_some, ◌<◌, ◌≤◌, ◌^◌, suc, length, take, ◌++◌, ◌∷◌, [], Some, None, IfOk, IfSome, OnOk, OnErr};
 ghost use Rattle.std.specs.FinMap as map;
 ghost use Rattle.std.specs.Str.{chars};
 ghost use Rattle.std.specs.Option.{option_copied};
@@ -10,9 +10,12 @@ ghost use Rattle.tcl_frames.specs.Standing.{store_of, called, left};
 ghost use Rattle.tcl_frames.specs.Parts.{part_of};
 ghost use Rattle.tcl_frames.specs.Places.{spot, spot_of};
 ghost use Rattle.tcl_frames.specs.Levels.{level_of};
+ghost use Rattle.tcl_frames.specs.NameSets.{with_names};
+ghost use Rattle.tcl_meaning.specs.SeenPages.{names_of};
 
 use crate::level::Level;
 use crate::name::Part;
+use crate::name_set::add_names;
 use crate::place::{Link, Place};
 use std::alloc::{AllocError, Global};
 use std::marker::Model;
@@ -59,6 +62,13 @@ impl Call {
         self.level
     }
 
+    // Puts the names of the links into a set of names.
+    fn add_links(&self, alloc: Global, names: &mut NameMap<()>) -> Result<(), AllocError>
+        ensures { OnOk result (names.new ≡ with_names names.old (names_of self.now.links)) }
+    {
+        add_names(alloc, names, &self.links)
+    }
+
     // Makes a name a link.
     fn set_link(&mut self, alloc: Global, name: &str, target: Link) -> Result<(), AllocError>
         ensures done { OnOk result (self.new ≡ record self.old { links = map.insert self.old.links (chars name.now) target }) }
@@ -102,6 +112,14 @@ fn find<'a>(calls: &'a [Call], frame: usize, name: &str) -> Option<&'a Link>
     }
 }
 
+// How many frames there are.
+fn count(calls: &[Call]) -> usize
+    ensures is { result ≡ length calls.now }
+    ensures fits { result < 2 ^ 63 }
+{
+    calls.len()
+}
+
 impl Stack {
     /// The global frame alone.
     pub(crate) fn new(alloc: Global) -> Result<Stack, AllocError>
@@ -123,6 +141,13 @@ impl Stack {
         ensures there { result < length self.now.frames }
     {
         self.active
+    }
+
+    /// How many frames stand.
+    pub(crate) fn count(&self) -> usize
+        ensures { result ≡ length self.now.frames }
+    {
+        self.calls.len()
     }
 
     /// The place to which a part of a name of a frame leads.
@@ -193,6 +218,14 @@ impl Stack {
         Some(frame)
     }
 
+    /// No level is as large as 2^63.
+    pub(crate) fn levels_fit(&self)
+        ensures up { (n : ℕ) → 2 ^ 63 ≤ n → frame_of_level self.now.frames self.now.active (up n) ≡ None }
+        ensures at { (n : ℕ) → 2 ^ 63 ≤ n → frame_of_level self.now.frames self.now.active (at n) ≡ None }
+    {
+        count(&self.calls);
+    }
+
     /// The frame that a level means.
     pub(crate) fn frame_of(&self, level: Level) -> Option<usize>
         ensures found { result ≡ frame_of_level self.now.frames self.now.active (level_of level) }
@@ -249,6 +282,13 @@ impl Stack {
         ensures { result ≡ is_some (link_at (links_of self.now.frames) frame (chars name.now)) }
     {
         find(&self.calls, frame, name).is_some()
+    }
+
+    /// Puts the names of the active frame's links into a set of names.
+    pub(crate) fn add_links(&self, alloc: Global, names: &mut NameMap<()>) -> Result<(), AllocError>
+        ensures { OnOk result (names.new ≡ with_names names.old (names_of (frame_at self.now.frames self.now.active).links)) }
+    {
+        self.calls[self.active].add_links(alloc, names)
     }
 
     /// Makes a name of the active frame a link to a place that is none.

@@ -8,10 +8,13 @@ ghost use Rattle.tcl_meaning.specs.Variables.{get_part, put_part, remove_part, w
 ghost use Rattle.std.specs.FinMap as map;
 ghost use Rattle.std.specs.Option.{option_copied};
 ghost use Rattle.tcl_meaning.specs.Arrays.{whole_array};
+ghost use Rattle.tcl_meaning.specs.SeenPages.{is_there};
 ghost use Rattle.tcl_frames.specs.Parts.{part_of};
-ghost use Rattle.tcl_frames.specs.Refusals.{Refuses};
+ghost use Rattle.tcl_frames.specs.Refusals.{OnRefused, Refuses};
+ghost use Rattle.tcl_frames.specs.Edits.{edit_part};
 ghost use Rattle.tcl_frames.specs.VariableLent.{LendsHeld, LendsPart};
 
+use crate::edit::Edit;
 use crate::fault::VarFault;
 use crate::name::Part;
 use std::alloc::Global;
@@ -131,6 +134,18 @@ impl Variable {
         }
     }
 
+    /// Is a part there?
+    pub(crate) fn has(&self, part: Part<'_>) -> bool
+        ensures { result ≡ is_there (Some self.now) (part_of part.entry) }
+    {
+        match (&self.held, part) {
+            (_, Part::Deeper) => false,
+            (_, Part::Whole) => true,
+            (Held::Text(_), Part::Element(_)) => false,
+            (Held::Array(elements), Part::Element(index)) => elements.get(index).is_some(),
+        }
+    }
+
     /// Gives a part a text.
     pub(crate) fn write(
         &mut self,
@@ -154,6 +169,27 @@ impl Variable {
             },
         }
         Ok(())
+    }
+
+    /// Changes the elements, where the variable is an array and it is meant as a whole.
+    pub(crate) fn edit(
+        &mut self,
+        alloc: Global,
+        part: Part<'_>,
+        edit: Edit<'_>,
+    ) -> Result<(), VarFault>
+        ensures done { OnOk result (edit_part edit.entry (Some self.old) (part_of part.entry) ≡ Ok self.new) }
+        ensures refused { IfErr result (Refuses (edit_part edit.entry (Some self.old) (part_of part.entry))) }
+        ensures same { OnRefused result (self.new ≡ self.old) }
+    {
+        match &mut self.held {
+            Held::Text(_) => Err(VarFault::Refused(Refusal::IsntArray)),
+            Held::Array(elements) => match part {
+                Part::Whole => Ok(edit.apply(alloc, elements)?),
+                Part::Element(_) => Err(VarFault::Refused(Refusal::IsntArray)),
+                Part::Deeper => Err(VarFault::Refused(Refusal::IsntArray)),
+            },
+        }
     }
 
     /// Takes an element away.

@@ -7,11 +7,14 @@ ghost use Rattle.std.specs.Str.{chars};
 ghost use Rattle.tcl_meaning.specs.Variables.{get_part, put_part, remove_part};
 ghost use Rattle.std.specs.Option.{option_copied};
 ghost use Rattle.tcl_meaning.specs.Arrays.{whole_array};
+ghost use Rattle.tcl_meaning.specs.SeenPages.{is_there};
 ghost use Rattle.tcl_frames.specs.Parts.{part_of};
-ghost use Rattle.tcl_frames.specs.Refusals.{Refuses};
+ghost use Rattle.tcl_frames.specs.Refusals.{OnRefused, Refuses};
+ghost use Rattle.tcl_frames.specs.Edits.{edit_part};
 ghost use Rattle.tcl_frames.specs.Written.{stored_in, removed_in};
 ghost use Rattle.tcl_frames.specs.VariablesLent.{LendsText};
 
+use crate::edit::Edit;
 use crate::fault::VarFault;
 use crate::name::Part;
 use crate::variable::Variable;
@@ -50,6 +53,16 @@ pub(crate) fn array_in<'a>(
     match variables.get(name) {
         Some(variable) => variable.elements(part),
         None => None,
+    }
+}
+
+/// Is there a variable, or an element?
+pub(crate) fn is_there_in(variables: &NameMap<Variable>, name: &str, part: Part<'_>) -> bool
+    ensures { result ≡ is_there (map.get variables.now (chars name.now)) (part_of part.entry) }
+{
+    match variables.get(name) {
+        Some(variable) => variable.has(part),
+        None => false,
     }
 }
 
@@ -124,6 +137,62 @@ pub(crate) fn put_in(
         return write_in(variables, alloc, name, part, value);
     }
     let variable = made(alloc, part, value)?;
+    variables.insert(alloc, name, variable)?;
+    Ok(())
+}
+
+// Changes the elements of a variable that is there.
+fn edit_there(
+    variables: &mut NameMap<Variable>,
+    alloc: Global,
+    name: &str,
+    part: Part<'_>,
+    edit: Edit<'_>,
+) -> Result<(), VarFault>
+    requires { IsSome (map.get variables.old (chars name.now)) }
+    ensures done { OnOk result (stored_in variables.old (chars name.now) (edit_part edit.entry (map.get variables.old (chars name.now)) (part_of part.entry)) ≡ Ok variables.new) }
+    ensures refused { IfErr result (Refuses (edit_part edit.entry (map.get variables.old (chars name.now)) (part_of part.entry))) }
+    ensures same { OnRefused result (variables.new ≡ variables.old) }
+{
+    match variables.get_mut(name) {
+        Some(variable) => variable.edit(alloc, part, edit),
+        None => unreachable!(),
+    }
+}
+
+// The array that is begun by a change.
+fn begun(alloc: Global, part: Part<'_>, edit: Edit<'_>) -> Result<Variable, VarFault>
+    ensures done { IfOk result (λ variable. edit_part edit.entry None (part_of part.entry) ≡ Ok variable) }
+    ensures refused { IfErr result (Refuses (edit_part edit.entry None (part_of part.entry))) }
+{
+    match part {
+        Part::Whole => {
+            let mut elements = NameMap::new(alloc);
+            edit.apply(alloc, &mut elements)?;
+            Ok(Variable::of_array(elements))
+        }
+        Part::Element(_) => Err(VarFault::Refused(Refusal::IsntArray)),
+        Part::Deeper => Err(VarFault::Refused(Refusal::IsntArray)),
+    }
+}
+
+/// Changes the elements of an array, which is made where it is missing.
+pub(crate) fn edit_in(
+    variables: &mut NameMap<Variable>,
+    alloc: Global,
+    name: &str,
+    part: Part<'_>,
+    edit: Edit<'_>,
+) -> Result<(), VarFault>
+    ensures done { OnOk result (stored_in variables.old (chars name.now) (edit_part edit.entry (map.get variables.old (chars name.now)) (part_of part.entry)) ≡ Ok variables.new) }
+    ensures refused { IfErr result (Refuses (edit_part edit.entry (map.get variables.old (chars name.now)) (part_of part.entry))) }
+    ensures same { OnRefused result (variables.new ≡ variables.old) }
+{
+    let is_there = variables.get(name).is_some();
+    if is_there {
+        return edit_there(variables, alloc, name, part, edit);
+    }
+    let variable = begun(alloc, part, edit)?;
     variables.insert(alloc, name, variable)?;
     Ok(())
 }

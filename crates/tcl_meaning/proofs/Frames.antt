@@ -82,7 +82,7 @@ stays_from s t (Exits n x) h k = tt
 stays_from s t (Untold x) h k = tt
 
 module _ {T : Type 0} (run : T → State → Got Completion) (leaves : Leaves run) where
-  exec_stays : {A : Type 0} (p : Prog T A) (s : State) → FramesStay s.store (exec run p s)
+  pub exec_stays : {A : Type 0} (p : Prog T A) (s : State) → FramesStay s.store (exec run p s)
   exec_stays (Give a) s = same_frames s.store
   exec_stays (Look f) s = exec_stays (f s.store) s
   exec_stays (Make ch p) s = stays_from s.store (changed ch s.store) (exec run p (made ch s)) (changed_frames ch s.store) (exec_stays p (made ch s))

@@ -1,13 +1,15 @@
 -- No page asks too often: how often it may ask doesn't show.
-use Rattle.std.proofs.Common.{◌≡◌, ℕ, zero, suc, ◌<◌, ◌≤◌, Bool, true, false, List, [], ◌∷◌, length, take, refl, arith, Option, Some, None}
+use Rattle.std.proofs.Common.{◌≡◌, ℕ, zero, suc, ◌<◌, ◌≤◌, Bool, true, false, List, [], ◌∷◌, length, take, refl, ap, subst, arith, Option, Some, None}
 use Rattle.tcl_chars.specs.declared.numbers.Dialect.{Dialect}
 use Rattle.tcl_meaning.specs.declared.code.Code.{Code}
 use Rattle.tcl_meaning.specs.declared.refusal.LinkRefusal.{LinkRefusal}
 use Rattle.tcl_meaning.specs.declared.code.Code.TheVariants as code
 use Rattle.tcl_pages.specs.Texts.{Text}
 use Rattle.tcl_meaning.specs.Completions.{Completion, code_now, options_text}
-use Rattle.tcl_meaning.specs.State.{Store}
-use Rattle.tcl_meaning.specs.Effects.{Scope, Prog, Plain, Give, Look, Make, Link, Write, Take, HasEnded, Exit, Call, plainly, ◌>>=◌}
+use Rattle.tcl_meaning.specs.Input.{Want, input_taken}
+use Rattle.tcl_meaning.specs.Links.{link}
+use Rattle.tcl_meaning.specs.State.{Store, State}
+use Rattle.tcl_meaning.specs.Effects.{Scope, Prog, Plain, Give, Look, Make, Link, Write, Take, HasEnded, Exit, Call, plainly, ◌>>=◌, Got, Gives, made, linked, wrote, took, take_from, does}
 use Rattle.tcl_meaning.specs.Value.{Value, Has, Fails, completed, ◌>>=◌ as andthen, judged}
 use Rattle.tcl_meaning.specs.Variables.{set_all}
 use Rattle.tcl_chars.specs.Messages.{truth_value}
@@ -19,7 +21,7 @@ use Rattle.tcl_meaning.specs.Control.{ask_if, if_ok, if_goes_on, if_true, body_a
 use Rattle.tcl_meaning.specs.Pages.{owed}
 
 -- every value that a plain program gives meets P
-abbrev AllGive : {A : Type 0} → (A → Type 0) → Plain A → Type 0
+abbrev pub AllGive : {A : Type 0} → (A → Type 0) → Plain A → Type 0
 AllGive P (Give a) = P a
 AllGive P (Look g) = (s : Store) → AllGive P (g s)
 AllGive P (Make ch p) = AllGive P p
@@ -112,6 +114,33 @@ module _ (dialect : Dialect) where
       each_within code.Break = omega arith
       each_within code.Continue = each_next_within 0 e
       each_within (code.Other z) = omega arith
+
+-- ---- what is given
+
+take_from_gives : {A : Type 0} (P : A → Type 0) (want : Want) (i : Option Text) (s t : State) (a : A) (f : Text → State → Got A)
+    → ((x : Text) (u : State) → f x u ≡ Gives a t → P a) → take_from want i s f ≡ Gives a t → P a
+take_from_gives P want None s t a f k e = absurd cc
+take_from_gives P want (Some cs) s t a f k e = k (input_taken want cs) (took want cs s) e
+
+-- what holds of every value that a program gives holds of the one that it comes to
+given : {A : Type 0} (P : A → Type 0) (p : Plain A) (s t : State) (a : A) → AllGive P p → does p s ≡ Gives a t → P a
+given P (Give b) s t a h e = subst P (ap (λ r. value_in a r) e) h
+  where
+    value_in : {A : Type 0} → A → Got A → A
+    value_in b (Gives c t) = c
+    value_in b _ = b
+given P (Look q) s t a h e = given P (q s.store) s t a (h s.store) e
+given P (Make ch p) s t a h e = given P p (made ch s) t a h e
+given P (Link level other local q) s t a h e = given P (q (link s.store level other local).0) (linked level other local s) t a (h (link s.store level other local).0) e
+given P (Write o x p) s t a h e = given P p (wrote o x s) t a h e
+given P (Take want q) s t a h e = take_from_gives P want s.channels.input s t a (λ x after. does (q x) after) (λ x u d. given P (q x) u t a (h x) d) e
+given P (HasEnded q) s t a h e = given P (q s.channels.met_end) s t a (h s.channels.met_end) e
+given P (Exit n) s t a h e = absurd cc
+given P (Call scope task q) s t a h e = absurd task
+
+-- what a page that owes asks for asks at most as often as it owes
+pub owed_asks : (dialect : Dialect) (o : Owes) (c : Completion) (s t : State) (v : Value Step) → does (owed dialect o c) s ≡ Gives v t → questions (value_step v) ≤ questions_owed o
+owed_asks dialect o c s t v e = given (λ w. questions (value_step w) ≤ questions_owed o) (owed dialect o c) s t v (owed_within dialect o c) e
 
 -- ---- so any count that is enough is enough
 

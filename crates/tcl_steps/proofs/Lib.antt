@@ -1,0 +1,2 @@
+pub mod OptionLemmas
+mod TopLemmas

@@ -1,9 +1,12 @@
 //! How a command ended.
-ghost use Rattle.std.specs.Prelude.{◌≡◌, ◌≢◌, true, false, IfOk};
+ghost use Rattle.std.specs.Prelude.{◌≡◌, ◌≢◌, ◌++◌, true, false, IfOk, OnOk};
 ghost use Rattle.tcl_chars.specs.Texts.{text_of};
-ghost use Rattle.tcl_meaning.specs.Completions.{ended, normal, failure, nothing, code_now};
+ghost use Rattle.tcl_meaning.specs.Completions.{ended, normal, failure, nothing, code_now, code_number, options_text};
+ghost use Rattle.tcl_pages.specs.DictPages.{flat};
+ghost use Rattle.tcl_pages.specs.Texts.{count_text, number_text};
 ghost use Rattle.tcl_meaning.specs.declared.code.Code.TheVariants as code;
 
+use itoa::Buffer;
 use std::alloc::{AllocError, Global};
 use std::marker::Model;
 use std::rc::RcStr;
@@ -30,6 +33,48 @@ impl Model for Completion {
     ghost use Rattle.tcl_steps.specs.CompletionShape.{completion_of};
 
     ghost view = { completion_of };
+}
+
+/// The number of a code: return(n), RETURN CODES.
+pub fn code_number(code: Code) -> i64
+    ensures { result ≡ code_number code }
+{
+    match code {
+        Code::Ok => 0,
+        Code::Error => 1,
+        Code::Return => 2,
+        Code::Break => 3,
+        Code::Continue => 4,
+        Code::Other(number) => number,
+    }
+}
+
+/// The decimal text of the number of a code.
+pub fn code_value(code: Code) -> Value
+    ensures { result ≡ number_text (code_number code) }
+{
+    Value::of_int(code_number(code))
+}
+
+// The decimal text of a count.
+fn count_value(alloc: Global, count: u64) -> Result<Value, AllocError>
+    ensures { IfOk result (λ value. value ≡ count_text count) }
+{
+    match i64::try_from(count) {
+        Ok(number) => Ok(Value::of_int(number)),
+        Err(_) => Ok(Value::of_text(message(alloc, Buffer::new().format(count))?)),
+    }
+}
+
+// Adds options, a name and a value in turn.
+fn push_options(items: &mut Vec<Value>, options: &[(Value, Value)]) -> Result<(), AllocError>
+    ensures { OnOk result (items.new.items ≡ items.old.items ++ flat options.now) }
+{
+    for (name, value) in options {
+        items.push(name.copy()?)?;
+        items.push(value.copy()?)?;
+    }
+    Ok(())
 }
 
 impl Completion {
@@ -88,6 +133,19 @@ impl Completion {
         } else {
             Code::Return
         }
+    }
+
+    /// The return options as a list, the code and the level first: catch(n).
+    pub fn options_text(&self, alloc: Global) -> Result<Value, AllocError>
+        ensures { IfOk result (λ text. text ≡ options_text self.now) }
+    {
+        let mut items = Vec::new(alloc);
+        items.push(Value::of_text(message(alloc, "-code")?))?;
+        items.push(code_value(self.code))?;
+        items.push(Value::of_text(message(alloc, "-level")?))?;
+        items.push(count_value(alloc, self.level)?)?;
+        push_options(&mut items, &self.options)?;
+        Value::of_list(alloc, items)
     }
 
     /// Is the code that is in force ok?

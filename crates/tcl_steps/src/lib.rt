@@ -2,10 +2,13 @@
 #![tactic(auto)]
 
 mod completion;
+mod ending;
 mod errors;
 mod fault;
+mod leaving;
+mod returning;
 mod step;
 
-pub use completion::Completion;
+pub use completion::{Completion, code_number, code_value};
 pub use fault::Fault;
 pub use step::{Each, Lane, Loop, Others, Owes, Scope, Step};

@@ -1,0 +1,17 @@
+use Rattle.std.specs.FinMap as map
+use Rattle.std.specs.Str.{chars}
+use Rattle.tcl_frames.specs.Edits.{edit_part}
+use Rattle.tcl_frames.specs.Parts.{part_of}
+use Rattle.tcl_frames.specs.Written.{stored_in}
+use Rattle.tcl_frames.proofs.Joined.{variables_here, done_at}
+use Rattle.tcl_frames.proofs.all_variables.AllVariables.edit.Goals as goal
+
+pub returns-clause-done : goal.returns-clause-done
+returns-clause-done c =
+    let name = chars c.args.at.name.now in
+    done_at c.edit_in.result c.self.inside.frames.items c.args.self.now c.args.at.frame c.index_mut.result.now c.edit_in.new.variables
+    (λ m. stored_in m name (edit_part c.args.edit (map.get m name) (part_of c.args.at.part))) c.self.view_is
+    (variables_here c.self.inside.frames.items c.args.self.now c.args.at.frame c.index_mut.result.now c.self.view_is c.index_mut.ensures.value c.requires) c.edit_in.ensures.done
+
+pub returns-clause-refused : goal.returns-clause-refused
+returns-clause-refused c = rw (variables_here c.self.inside.frames.items c.args.self.now c.args.at.frame c.index_mut.result.now c.self.view_is c.index_mut.ensures.value c.requires) c.edit_in.ensures.refused

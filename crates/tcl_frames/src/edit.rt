@@ -1,0 +1,64 @@
+//! Changes of the elements of an array: array(n).
+ghost use Rattle.std.specs.Prelude.{◌≡◌, map as each, OnOk};
+ghost use Rattle.tcl_chars.specs.Texts.{text_of};
+ghost use Rattle.tcl_frames.specs.Edits.{edited, with_pairs, without_names};
+ghost use Rattle.tcl_values.specs.Kept.{texts};
+
+use std::alloc::{AllocError, Global};
+use std::rc::RcStr;
+use tcl_names::NameMap;
+use tcl_values::{Element, Value};
+
+/// A change of the elements of an array: array(n).
+#[derive(Clone, Copy)]
+pub enum Edit<'a> {
+    /// Names and texts in turn are put in, one after another. A name at the end that has no text is passed over.
+    Put(&'a [Element]),
+    /// The elements of these names are taken out.
+    Remove(&'a [RcStr]),
+}
+
+impl Edit<'_> {
+    /// Changes the elements of an array.
+    pub(crate) fn apply(
+        self,
+        alloc: Global,
+        elements: &mut NameMap<Value>,
+    ) -> Result<(), AllocError>
+        ensures { OnOk result (elements.new ≡ edited self.entry elements.old) }
+    {
+        match self {
+            Edit::Put(pairs) => put_pairs(alloc, elements, pairs),
+            Edit::Remove(names) => {
+                remove_names(elements, names);
+                Ok(())
+            }
+        }
+    }
+}
+
+// Puts names and texts in turn into an array.
+fn put_pairs(
+    alloc: Global,
+    elements: &mut NameMap<Value>,
+    pairs: &[Element],
+) -> Result<(), AllocError>
+    ensures { OnOk result (elements.new ≡ with_pairs elements.old (texts pairs.now)) }
+{
+    let mut place = 0;
+    while pairs.len() - place > 1 {
+        let value = pairs[place + 1].copy()?;
+        elements.insert(alloc, pairs[place].text(), value)?;
+        place += 2;
+    }
+    Ok(())
+}
+
+// Takes the elements of some names out of an array.
+fn remove_names(elements: &mut NameMap<Value>, names: &[RcStr])
+    ensures { elements.new ≡ without_names elements.old (each text_of names.now) }
+{
+    for name in names {
+        elements.remove(name.as_str());
+    }
+}
