@@ -1,5 +1,5 @@
 -- Turn after turn.
-use Rattle.std.proofs.Common.{◌≡◌, inl, ℕ, ◌^◌, ◌≤◌, ◌<◌, [], Result, Ok, Err, refl, sym, ap, ◌∙◌, subst, arith}
+use Rattle.std.proofs.Common.{◌≡◌, inl, ℕ, Bool, ◌^◌, ◌≤◌, ◌<◌, [], Result, Ok, Err, refl, sym, ap, ◌∙◌, subst, arith}
 use Rattle.tcl_chars.specs.declared.numbers.Dialect.{Dialect}
 use Rattle.tcl_pages.specs.Texts.{Text}
 use Rattle.tcl_meaning.specs.Agreement.{IsPart}
@@ -12,7 +12,7 @@ use Rattle.tcl_meaning.specs.Tasks.{Script}
 use Rattle.tcl_meaning.proofs.Onward.{outputs_trans}
 use Rattle.tcl_code.specs.Machine.{first_spot}
 use Rattle.tcl_code.specs.Means.{Means}
-use Rattle.tcl_vm.specs.Engines.{Views, BeginsAs}
+use Rattle.tcl_vm.specs.Engines.{Views, BeginsAs, stops_io, is_io}
 use Rattle.tcl_vm.specs.Fitting.{FitsHere}
 use Rattle.tcl_vm.specs.Unwinding.{Above, Unwinds}
 use Rattle.tcl_vm.proofs.Unwinding.{frames_as}
@@ -116,3 +116,7 @@ module _ (dialect : Dialect) where
 
     pub run_unwinds_first : Unwinds (record { turn = Next; machine = machine_of views m; paid = m.paid; state = t })
     run_unwinds_first = record { base = t; above = subst (λ ws. Above ws t t) (sym (ap (waitings views) none)) (frames_as t t refl) }
+
+-- what a call leaves that says why there is no completion
+pub stops_as : {X A : Type 0} (leaves : Bool → X → X → Type 0) (r : Result A Stop) (e : Stop) (a b : X) → r ≡ Err e → leaves (stops_io e) a b → leaves (is_io r) a b
+stops_as leaves r e a b is h = subst (λ x. leaves (is_io x) a b) (sym is) h

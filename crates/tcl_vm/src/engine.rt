@@ -1,6 +1,6 @@
 //! What a machine runs over: codes, pages, and what scripts keep.
 
-ghost use Rattle.std.specs.Prelude.{◌≡◌, ◌≤◌, ℕ, OnOk, OnErr, IfOk};
+ghost use Rattle.std.specs.Prelude.{◌≡◌, ◌≤◌, ℕ, Bool, false, OnOk, OnErr, IfOk};
 ghost use Rattle.tcl_chars.specs.declared.numbers.Dialect.{Dialect};
 ghost use Rattle.tcl_meaning.specs.Asking.{questions_owed, questions};
 ghost use Rattle.tcl_meaning.specs.Completions.{too_deep};
@@ -10,7 +10,7 @@ ghost use Rattle.tcl_meaning.specs.Pages.{owed};
 ghost use Rattle.tcl_meaning.specs.Script.{most_depth};
 ghost use Rattle.tcl_meaning.specs.State.{State};
 ghost use Rattle.tcl_code.specs.Means.{Means, MeansExpr};
-ghost use Rattle.tcl_vm.specs.Engines.{Views, completion_of, step_of, Answers, Steps, BeginsAs, Spent};
+ghost use Rattle.tcl_vm.specs.Engines.{Views, completion_of, step_of, Answers, Steps, BeginsAs, Spent, is_io, stop_by};
 ghost use Rattle.tcl_vm.specs.Fitting.{answered, FitsHere};
 ghost use Rattle.tcl_vm.specs.Standing.{Nothing, undone_of, undo};
 ghost use Rattle.tcl_vm.specs.Turns.{Onward};
@@ -18,7 +18,7 @@ ghost use Rattle.tcl_vm.specs.Unwinding.{CanUndo, SameFrames};
 ghost use Rattle.tcl_vm.specs.declared.engine.Stop.TheVariants as stop;
 
 use std::alloc::{AllocError, AllocFailed};
-use tcl_steps::{Completion, Step};
+use tcl_steps::{Completion, Fault, Step};
 use tcl_values::Value;
 
 /// Why a run has no completion.
@@ -27,7 +27,7 @@ pub enum Stop {
     /// A unit was wanting.
     Budget,
     /// The script has ended the run, with this status: exit(n).
-    Exit(u64),
+    Exit(u8),
     /// A growth was refused.
     Memory,
     /// A device failed.
@@ -47,6 +47,18 @@ impl<T: Drop> From<AllocFailed<T>> for Stop {
 
     fn from(_refused: AllocFailed<T>) -> Stop {
         Stop::Memory
+    }
+}
+
+impl From<Fault> for Stop {
+    ghost from_gives = { λ f s. s ≡ stop_by f };
+
+    fn from(fault: Fault) -> Stop {
+        match fault {
+            Fault::Exit(status) => Stop::Exit(status),
+            Fault::Memory => Stop::Memory,
+            Fault::Io => Stop::Io,
+        }
     }
 }
 
@@ -84,6 +96,9 @@ pub trait Engine {
     /// What the definition sees.
     ghost shown: { Self → State };
 
+    /// What calls leave of what the definition doesn't see, as the devices; in the last of them a device failed or not.
+    ghost leaves: { Bool → Self → Self → Type 0 };
+
     /// One instruction, or the end of the code. Where a command is called, its page's first step is made.
     fn step(
         &mut self,
@@ -93,7 +108,8 @@ pub trait Engine {
         ensures code { (views.running activation.new).code ≡ (views.running activation.old).code }
         ensures makes { Steps dialect views result (views.running activation.old) (views.running activation.new) (shown self.old) (shown self.new) }
         ensures onward { Onward (shown self.old) (shown self.new) }
-        ensures frames { IfOk result (λ _. SameFrames (shown self.old) (shown self.new)) };
+        ensures frames { IfOk result (λ _. SameFrames (shown self.old) (shown self.new)) }
+        ensures leaves { leaves (is_io result) self.old self.new };
 
     /// In how many scripts the code's script stands, itself among them.
     fn depth(&self, activation: &Self::Activation) -> u64
@@ -115,20 +131,23 @@ pub trait Engine {
     fn script(&mut self, text: Value, depth: u64) -> Result<Self::Activation, AllocError>
         requires { depth ≤ most_depth }
         ensures begins { IfOk result (λ a. BeginsAs (Means dialect) text depth (views.running a)) }
-        ensures same { shown self.new ≡ shown self.old };
+        ensures same { shown self.new ≡ shown self.old }
+        ensures leaves { leaves false self.old self.new };
 
     /// The code of an expression, at its beginning.
     fn expression(&mut self, text: Value, depth: u64) -> Result<Self::Activation, AllocError>
         requires { depth ≤ most_depth }
         ensures begins { IfOk result (λ a. BeginsAs (MeansExpr dialect) text depth (views.running a)) }
-        ensures same { shown self.new ≡ shown self.old };
+        ensures same { shown self.new ≡ shown self.old }
+        ensures leaves { leaves false self.old self.new };
 
     /// A script of this scope begins.
     fn enter(&mut self, scope: Self::Scope) -> Result<Self::Undone, AllocError>
         ensures undone { IfOk result (λ u. views.undone u ≡ undone_of (views.scope scope) (shown self.old)) }
         ensures entered { OnOk result (shown self.new ≡ entered (views.scope scope) (shown self.old)) }
         ensures can { IfOk result (λ u. CanUndo (views.undone u) (shown self.new)) }
-        ensures same { OnErr result (shown self.new ≡ shown self.old) };
+        ensures same { OnErr result (shown self.new ≡ shown self.old) }
+        ensures leaves { leaves false self.old self.new };
 
     /// Where nothing is to be undone.
     fn stay(&self) -> Self::Undone
@@ -137,7 +156,8 @@ pub trait Engine {
     /// A script has ended.
     fn undo(&mut self, undone: Self::Undone)
         requires { CanUndo (views.undone undone) (shown self.old) }
-        ensures { shown self.new ≡ undo (views.undone undone) (shown self.old) };
+        ensures undone { shown self.new ≡ undo (views.undone undone) (shown self.old) }
+        ensures leaves { leaves false self.old self.new };
 
     /// What a page does that owes this, when what it asked for has ended so.
     fn owed(
@@ -149,7 +169,8 @@ pub trait Engine {
         ensures fewer { IfOk result (λ step. questions (step_of views step) ≤ questions_owed (views.owes owes)) }
         ensures onward { Onward (shown self.old) (shown self.new) }
         ensures free { IfOk result (λ _. (shown self.new).units ≡ (shown self.old).units) }
-        ensures frames { IfOk result (λ _. SameFrames (shown self.old) (shown self.new)) };
+        ensures frames { IfOk result (λ _. SameFrames (shown self.old) (shown self.new)) }
+        ensures leaves { leaves (is_io result) self.old self.new };
 
     /// What a loop does at its next turn.
     fn turned(
@@ -159,9 +180,17 @@ pub trait Engine {
         ensures answers { Answers views (does (turned (views.turns turn)) (shown self.old)) result (shown self.new) }
         ensures onward { Onward (shown self.old) (shown self.new) }
         ensures free { IfOk result (λ _. (shown self.new).units ≡ (shown self.old).units) }
-        ensures frames { IfOk result (λ _. SameFrames (shown self.old) (shown self.new)) };
+        ensures frames { IfOk result (λ _. SameFrames (shown self.old) (shown self.new)) }
+        ensures leaves { leaves (is_io result) self.old self.new };
 
     /// A unit is spent, if there is one.
     fn spend(&mut self) -> bool
-        ensures { Spent result (shown self.old) (shown self.new) };
+        ensures spent { Spent result (shown self.old) (shown self.new) }
+        ensures leaves { leaves false self.old self.new };
+
+    /// A call that does nothing leaves all.
+    ghost leaves_same: { (e : Self) → leaves false e e };
+
+    /// What calls leave in which no device failed, and one after them, they leave together.
+    ghost leaves_then: { (io : Bool) (a b c : Self) → leaves false a b → leaves io b c → leaves io a c };
 }

@@ -4,7 +4,7 @@ ghost use Rattle.std.specs.Prelude.{◌≡◌, ◌≤◌, ◌<◌, ◌^◌, ◌+
 ghost use Rattle.tcl_meaning.specs.Completions.{nothing};
 ghost use Rattle.tcl_meaning.specs.Script.{Run, most_depth};
 ghost use Rattle.tcl_meaning.specs.Tasks.{Script};
-ghost use Rattle.tcl_vm.specs.Engines.{completion_of, step_of};
+ghost use Rattle.tcl_vm.specs.Engines.{completion_of, step_of, is_io};
 ghost use Rattle.tcl_vm.specs.Machines.{config_of, Makes, Ends, Follows};
 ghost use Rattle.tcl_vm.specs.Turns.{Fits, Onward};
 ghost use Rattle.tcl_vm.specs.Unwinding.{Unwinds};
@@ -77,7 +77,8 @@ pub(crate) fn advance<E: Engine>(
     machine: &mut Machine<E::Activation, E::Undone, E::Owes>,
 ) -> Result<Made<E::Scope, E::Owes, E::Loop>, Stop>
     requires { Fits (config_of E.views turn.Next machine.old (E.shown engine.old)) }
-    ensures { Makes E.dialect E.views result (config_of E.views turn.Next machine.old (E.shown engine.old)) machine.new (E.shown engine.new) }
+    ensures makes { Makes E.dialect E.views result (config_of E.views turn.Next machine.old (E.shown engine.old)) machine.new (E.shown engine.new) }
+    ensures leaves { E.leaves (is_io result) engine.old engine.new }
 {
     match engine.step(&mut machine.current)? {
         Progress::Moved => Ok(Made::On(Turn::Next)),
@@ -101,7 +102,8 @@ pub(crate) fn done<E: Engine>(
     completion: Completion,
 ) -> Result<Made<E::Scope, E::Owes, E::Loop>, Stop>
     requires { Fits (config_of E.views (turn.Asking (step.Done completion)) machine.old (E.shown engine.old)) }
-    ensures { Makes E.dialect E.views result (config_of E.views (turn.Asking (step.Done completion)) machine.old (E.shown engine.old)) machine.new (E.shown engine.new) }
+    ensures makes { Makes E.dialect E.views result (config_of E.views (turn.Asking (step.Done completion)) machine.old (E.shown engine.old)) machine.new (E.shown engine.new) }
+    ensures leaves { E.leaves (is_io result) engine.old engine.new }
 {
     if completion.is_ok() {
         engine.answer(&mut machine.current, completion)?;
@@ -120,7 +122,8 @@ pub(crate) fn run_script<E: Engine>(
     owes: E::Owes,
 ) -> Result<Made<E::Scope, E::Owes, E::Loop>, Stop>
     requires { Fits (config_of E.views (turn.Asking (step.Run scope text owes)) machine.old (E.shown engine.old)) }
-    ensures { Makes E.dialect E.views result (config_of E.views (turn.Asking (step.Run scope text owes)) machine.old (E.shown engine.old)) machine.new (E.shown engine.new) }
+    ensures makes { Makes E.dialect E.views result (config_of E.views (turn.Asking (step.Run scope text owes)) machine.old (E.shown engine.old)) machine.new (E.shown engine.new) }
+    ensures leaves { E.leaves (is_io result) engine.old engine.new }
 {
     let depth = engine.depth(&machine.current);
     if depth >= 1000 {
@@ -142,7 +145,8 @@ pub(crate) fn evaluate<E: Engine>(
     owes: E::Owes,
 ) -> Result<Made<E::Scope, E::Owes, E::Loop>, Stop>
     requires { Fits (config_of E.views (turn.Asking (step.Evaluate text owes)) machine.old (E.shown engine.old)) }
-    ensures { Makes E.dialect E.views result (config_of E.views (turn.Asking (step.Evaluate text owes)) machine.old (E.shown engine.old)) machine.new (E.shown engine.new) }
+    ensures makes { Makes E.dialect E.views result (config_of E.views (turn.Asking (step.Evaluate text owes)) machine.old (E.shown engine.old)) machine.new (E.shown engine.new) }
+    ensures leaves { E.leaves (is_io result) engine.old engine.new }
 {
     let depth = engine.depth(&machine.current);
     let activation = engine.expression(text, depth)?;
@@ -158,7 +162,8 @@ pub(crate) fn pay<E: Engine>(
     turns: E::Loop,
 ) -> Result<Made<E::Scope, E::Owes, E::Loop>, Stop>
     requires { Fits (config_of E.views (turn.Asking (step.Pay turns)) machine.old (E.shown engine.old)) }
-    ensures { Makes E.dialect E.views result (config_of E.views (turn.Asking (step.Pay turns)) machine.old (E.shown engine.old)) machine.new (E.shown engine.new) }
+    ensures makes { Makes E.dialect E.views result (config_of E.views (turn.Asking (step.Pay turns)) machine.old (E.shown engine.old)) machine.new (E.shown engine.new) }
+    ensures leaves { E.leaves (is_io result) engine.old engine.new }
 {
     if !engine.spend() {
         return Err(Stop::Budget);
@@ -174,7 +179,8 @@ pub(crate) fn ask<E: Engine>(
     asked: Step<E::Scope, E::Owes, E::Loop>,
 ) -> Result<Made<E::Scope, E::Owes, E::Loop>, Stop>
     requires { Fits (config_of E.views (turn.Asking asked) machine.old (E.shown engine.old)) }
-    ensures { Makes E.dialect E.views result (config_of E.views (turn.Asking asked) machine.old (E.shown engine.old)) machine.new (E.shown engine.new) }
+    ensures makes { Makes E.dialect E.views result (config_of E.views (turn.Asking asked) machine.old (E.shown engine.old)) machine.new (E.shown engine.new) }
+    ensures leaves { E.leaves (is_io result) engine.old engine.new }
 {
     match asked {
         Step::Done(completion) => done(engine, machine, completion),
@@ -192,7 +198,8 @@ pub(crate) fn end<E: Engine>(
 ) -> Result<Made<E::Scope, E::Owes, E::Loop>, Stop>
     requires fits { Fits (config_of E.views (turn.Ending completion) machine.old (E.shown engine.old)) }
     requires unwinds { Unwinds (config_of E.views (turn.Ending completion) machine.old (E.shown engine.old)) }
-    ensures { Makes E.dialect E.views result (config_of E.views (turn.Ending completion) machine.old (E.shown engine.old)) machine.new (E.shown engine.new) }
+    ensures makes { Makes E.dialect E.views result (config_of E.views (turn.Ending completion) machine.old (E.shown engine.old)) machine.new (E.shown engine.new) }
+    ensures leaves { E.leaves (is_io result) engine.old engine.new }
 {
     match machine.callers.pop() {
         None => Ok(Made::Over(completion)),
@@ -213,7 +220,8 @@ pub(crate) fn make<E: Engine>(
 ) -> Result<Made<E::Scope, E::Owes, E::Loop>, Stop>
     requires fits { Fits (config_of E.views (now) machine.old (E.shown engine.old)) }
     requires unwinds { Unwinds (config_of E.views (now) machine.old (E.shown engine.old)) }
-    ensures { Makes E.dialect E.views result (config_of E.views (now) machine.old (E.shown engine.old)) machine.new (E.shown engine.new) }
+    ensures makes { Makes E.dialect E.views result (config_of E.views (now) machine.old (E.shown engine.old)) machine.new (E.shown engine.new) }
+    ensures leaves { E.leaves (is_io result) engine.old engine.new }
 {
     match now {
         Turn::Next => advance(engine, machine),
@@ -229,7 +237,8 @@ pub(crate) fn go<E: Engine>(
 ) -> Result<Completion, Stop>
     requires fits { Fits (config_of E.views turn.Next machine.old (E.shown engine.old)) }
     requires unwinds { Unwinds (config_of E.views turn.Next machine.old (E.shown engine.old)) }
-    ensures { Ends E.dialect result (config_of E.views turn.Next machine.old (E.shown engine.old)) (E.shown engine.new) }
+    ensures ends { Ends E.dialect result (config_of E.views turn.Next machine.old (E.shown engine.old)) (E.shown engine.new) }
+    ensures leaves { E.leaves (is_io result) engine.old engine.new }
 {
     let mut now = Turn::Next;
     'used: loop {
@@ -264,6 +273,7 @@ pub fn run<E: Engine>(
     requires units { (E.shown engine.old).units < 2 ^ 64 }
     ensures follows { Follows result (Run E.dialect (Script depth nothing script) (E.shown engine.old)) (E.shown engine.new) }
     ensures onward { Onward (E.shown engine.old) (E.shown engine.new) }
+    ensures leaves { E.leaves (is_io result) engine.old engine.new }
 {
     let current = engine.script(script, depth)?;
     let mut machine = Machine {

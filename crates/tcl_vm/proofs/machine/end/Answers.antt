@@ -4,19 +4,19 @@ use Rattle.tcl_vm.proofs.Advancing.{makes_err}
 use Rattle.tcl_vm.proofs.Making.{back_can, back_made, back_stops, back_unwinds}
 use Rattle.tcl_vm.proofs.machine.end.Goals as goal
 
-pub returns-in_err-next-in-Some : goal.returns-in_err-next-in-Some
-returns-in_err-next-in-Some g c =
+pub returns-in_err-next-in-Some-clause-makes : goal.returns-in_err-next-in-Some-clause-makes
+returns-in_err-next-in-Some-clause-makes g c =
     let p = err_from_is_err_and c.from_residual.result c.from_residual.ensures.1 in
     let e : c.args.machine.now.callers.items ≡ c.pop.new.self.items ++ c.in-Some.waiting ∷ [] = search rules in
     makes_err g.E.Engine.dialect g.E.Engine.views c.from_residual.result c.in_err-next-in-Some.field-0.0 _ _ _ (p.1 ∙ ap Err p.2)
-    (back_stops g.E.Engine.dialect g.E.Engine.views c.args.machine.now c.pop.new.self.items c.in-Some.waiting (g.E.Engine.shown c.args.engine.now) _ _ c.args.completion e c.undo.ensures c.in_err-next-in-Some.ensures.onward c.in_err-next-in-Some.field-0.0 c.in_err-next-in-Some.ensures.answers)
+    (back_stops g.E.Engine.dialect g.E.Engine.views c.args.machine.now c.pop.new.self.items c.in-Some.waiting (g.E.Engine.shown c.args.engine.now) _ _ c.args.completion e c.undo.ensures.undone c.in_err-next-in-Some.ensures.onward c.in_err-next-in-Some.field-0.0 c.in_err-next-in-Some.ensures.answers)
 
-pub returns-in_ok-next-in-Some : goal.returns-in_ok-next-in-Some
-returns-in_ok-next-in-Some g c =
+pub returns-in_ok-next-in-Some-clause-makes : goal.returns-in_ok-next-in-Some-clause-makes
+returns-in_ok-next-in-Some-clause-makes g c =
     let e : c.args.machine.now.callers.items ≡ c.pop.new.self.items ++ c.in-Some.waiting ∷ [] = search rules in
     record {
-      turned = back_made g.E.Engine.dialect g.E.Engine.views c.args.machine.now c.pop.new.self.items c.in-Some.waiting (g.E.Engine.shown c.args.engine.now) _ _ c.args.completion e c.undo.ensures c.in_ok-next-in-Some.ensures.onward c.in_ok-next-in-Some.next c.in_ok-next-in-Some.ensures.answers c.in_ok-next-in-Some.ensures.fewer c.in_ok-next-in-Some.ensures.free;
-      unwinds = back_unwinds g.E.Engine.views c.args.machine.now c.pop.new.self.items c.in-Some.waiting (g.E.Engine.shown c.args.engine.now) _ _ e c.undo.ensures c.in_ok-next-in-Some.ensures.frames _ _ _ _ _;
+      turned = back_made g.E.Engine.dialect g.E.Engine.views c.args.machine.now c.pop.new.self.items c.in-Some.waiting (g.E.Engine.shown c.args.engine.now) _ _ c.args.completion e c.undo.ensures.undone c.in_ok-next-in-Some.ensures.onward c.in_ok-next-in-Some.next c.in_ok-next-in-Some.ensures.answers c.in_ok-next-in-Some.ensures.fewer c.in_ok-next-in-Some.ensures.free;
+      unwinds = back_unwinds g.E.Engine.views c.args.machine.now c.pop.new.self.items c.in-Some.waiting (g.E.Engine.shown c.args.engine.now) _ _ e c.undo.ensures.undone c.in_ok-next-in-Some.ensures.frames _ _ _ _ _;
     }
 
 pub undo-requires : goal.undo-requires

@@ -9,18 +9,18 @@ use Rattle.tcl_vm.proofs.machine.evaluate.Goals as goal
 pub expression-requires : goal.expression-requires
 expression-requires g c = let f = (c.requires.by.2.then_fits nothing).deep in let e = c.depth-depth.ensures in omega arith
 
-pub returns-in_err-activation : goal.returns-in_err-activation
-returns-in_err-activation g c =
+pub returns-in_err-activation-clause-makes : goal.returns-in_err-activation-clause-makes
+returns-in_err-activation-clause-makes g c =
     let p = err_from_is_err_and c.from_residual.result c.from_residual.ensures.1 in
     makes_err g.E.Engine.dialect g.E.Engine.views c.from_residual.result stop.Memory _ _ _ (p.1 ∙ ap Err p.2) (refused_same g.E.Engine.dialect _ _ c.in_err-activation.ensures.same)
 
-pub returns-in_err-begin : goal.returns-in_err-begin
-returns-in_err-begin g c =
+pub returns-in_err-begin-clause-makes : goal.returns-in_err-begin-clause-makes
+returns-in_err-begin-clause-makes g c =
     let p = err_from_is_err_and c.from_residual-in_err-begin.result c.from_residual-in_err-begin.ensures.1 in
     makes_err g.E.Engine.dialect g.E.Engine.views c.from_residual-in_err-begin.result stop.Memory _ _ _ (p.1 ∙ ap Err p.2) (refused_same g.E.Engine.dialect _ _ c.in_ok-activation.ensures.same)
 
-pub returns : goal.returns
-returns g c =
+pub returns-clause-makes : goal.returns-clause-makes
+returns-clause-makes g c =
     let f = (c.requires.by.2.then_fits nothing).deep in
     let e = c.depth-depth.ensures in
     record {

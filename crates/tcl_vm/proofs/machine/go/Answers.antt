@@ -1,41 +1,54 @@
-use Rattle.std.proofs.Common.{Err, ap, ◌∙◌, arith}
+use Rattle.std.proofs.Common.{false, Err, ap, ◌∙◌, arith}
 use Rattle.std.proofs.lemmas.Result.{err_from_is_err_and}
 use Rattle.tcl_vm.specs.Engines.{completion_of}
 use Rattle.tcl_vm.specs.Turns.{On, Begun, Used}
 use Rattle.tcl_vm.specs.declared.machine.Made.TheVariants as made
-use Rattle.tcl_vm.proofs.Going.{keeps_turned, keeps_over, keeps_stops, ends_err, made_as}
+use Rattle.tcl_vm.proofs.Going.{keeps_turned, keeps_over, keeps_stops, ends_err, made_as, stops_as}
 use Rattle.tcl_vm.proofs.machine.go.Goals as goal
 
-pub returns-in_err-completion : goal.returns-in_err-completion
-returns-in_err-completion g c =
+pub returns-in_err-completion-clause-ends : goal.returns-in_err-completion-clause-ends
+returns-in_err-completion-clause-ends g c =
     let p = err_from_is_err_and c.from_residual.result c.from_residual.ensures.1 in
-    ends_err g.E.Engine.dialect c.from_residual.result c.in_err-completion.field-0.0 _ _ (p.1 ∙ ap Err p.2) (keeps_stops g.E.Engine.dialect _ _ c.in_err-completion.field-0.0 _ c.on.invariant.keeps c.in_err-completion.ensures)
+    ends_err g.E.Engine.dialect c.from_residual.result c.in_err-completion.field-0.0 _ _ (p.1 ∙ ap Err p.2) (keeps_stops g.E.Engine.dialect _ _ c.in_err-completion.field-0.0 _ c.on.invariant.keeps c.in_err-completion.ensures.makes)
 
-pub returns-in-Over : goal.returns-in-Over
-returns-in-Over g c =
-    let t = made_as g.E.Engine.dialect g.E.Engine.views c.in_ok-completion.field-0 (made.Over c.in-Over.completion) _ _ _ c.in-Over.is c.in_ok-completion.ensures in
+pub returns-in-Over-clause-ends : goal.returns-in-Over-clause-ends
+returns-in-Over-clause-ends g c =
+    let t = made_as g.E.Engine.dialect g.E.Engine.views c.in_ok-completion.field-0 (made.Over c.in-Over.completion) _ _ _ c.in-Over.is c.in_ok-completion.ensures.makes in
     keeps_over g.E.Engine.dialect _ _ (completion_of c.in-Over.completion) _ c.on.invariant.keeps t
 
 pub on-preserved : goal.on-preserved
 on-preserved g c =
-    let t = made_as g.E.Engine.dialect g.E.Engine.views c.in_ok-completion.field-0 (made.On c.in-On.next) _ _ _ c.in-On.is c.in_ok-completion.ensures in
+    let t = made_as g.E.Engine.dialect g.E.Engine.views c.in_ok-completion.field-0 (made.On c.in-On.next) _ _ _ c.in-On.is c.in_ok-completion.ensures.makes in
     let l = t.turned.less c.on.invariant.keeps.fits in
     record {
       keeps = keeps_turned g.E.Engine.dialect On _ _ _ c.on.invariant.keeps t;
+      leaves = g.met.E.Engine.leaves_then false _ _ _ c.on.invariant.leaves c.in_ok-completion.ensures.leaves;
       less = let a = c.on.invariant.less in let b = l.0 in omega arith;
       fewer = let a = c.on.invariant.fewer in let b = l.1 in omega arith;
     }
 
 pub begun-preserved : goal.begun-preserved
 begun-preserved g c =
-    let t = made_as g.E.Engine.dialect g.E.Engine.views c.in_ok-completion.field-0 (made.Begun c.in-Begun.next) _ _ _ c.in-Begun.is c.in_ok-completion.ensures in
+    let t = made_as g.E.Engine.dialect g.E.Engine.views c.in_ok-completion.field-0 (made.Begun c.in-Begun.next) _ _ _ c.in-Begun.is c.in_ok-completion.ensures.makes in
     let l = t.turned.less c.on.invariant.keeps.fits in
     record {
       keeps = keeps_turned g.E.Engine.dialect Begun _ _ _ c.on.invariant.keeps t;
+      leaves = g.met.E.Engine.leaves_then false _ _ _ c.on.invariant.leaves c.in_ok-completion.ensures.leaves;
       less = let a = c.on.invariant.less in let b = l.0 in let d = c.begun.invariant.less in omega arith;
     }
 
 pub used-preserved : goal.used-preserved
 used-preserved g c =
-    let t = made_as g.E.Engine.dialect g.E.Engine.views c.in_ok-completion.field-0 (made.Used c.in-Used.next) _ _ _ c.in-Used.is c.in_ok-completion.ensures in
-    record { keeps = keeps_turned g.E.Engine.dialect Used _ _ _ c.on.invariant.keeps t }
+    let t = made_as g.E.Engine.dialect g.E.Engine.views c.in_ok-completion.field-0 (made.Used c.in-Used.next) _ _ _ c.in-Used.is c.in_ok-completion.ensures.makes in
+    record {
+      keeps = keeps_turned g.E.Engine.dialect Used _ _ _ c.on.invariant.keeps t;
+      leaves = g.met.E.Engine.leaves_then false _ _ _ c.on.invariant.leaves c.in_ok-completion.ensures.leaves;
+    }
+
+pub returns-in_err-completion-clause-leaves : goal.returns-in_err-completion-clause-leaves
+returns-in_err-completion-clause-leaves g c =
+    let p = err_from_is_err_and c.from_residual.result c.from_residual.ensures.1 in
+    g.met.E.Engine.leaves_then _ _ _ _ c.on.invariant.leaves (stops_as g.E.Engine.leaves c.from_residual.result c.in_err-completion.field-0.0 _ _ (p.1 ∙ ap Err p.2) c.in_err-completion.ensures.leaves)
+
+pub returns-in-Over-clause-leaves : goal.returns-in-Over-clause-leaves
+returns-in-Over-clause-leaves g c = g.met.E.Engine.leaves_then false _ _ _ c.on.invariant.leaves c.in_ok-completion.ensures.leaves

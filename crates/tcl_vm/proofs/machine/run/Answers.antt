@@ -15,4 +15,4 @@ pub go-requires-clause-unwinds : goal.go-requires-clause-unwinds
 go-requires-clause-unwinds g c = run_unwinds_first g.E.Engine.dialect g.E.Engine.views (record { current = c.in_ok-current.current; callers = c.new.result; paid = 0 }) c.args.script c.args.depth (g.E.Engine.shown c.args.engine.now) _ c.in_ok-current.ensures.begins c.requires.shallow c.in_ok-current.ensures.same c.new.ensures.items refl
 
 pub returns-clause-follows : goal.returns-clause-follows
-returns-clause-follows g c = run_follows g.E.Engine.dialect g.E.Engine.views (record { current = c.in_ok-current.current; callers = c.new.result; paid = 0 }) c.args.script c.args.depth (g.E.Engine.shown c.args.engine.now) _ c.in_ok-current.ensures.begins c.requires.shallow c.in_ok-current.ensures.same c.new.ensures.items refl c.go.result _ c.go.ensures
+returns-clause-follows g c = run_follows g.E.Engine.dialect g.E.Engine.views (record { current = c.in_ok-current.current; callers = c.new.result; paid = 0 }) c.args.script c.args.depth (g.E.Engine.shown c.args.engine.now) _ c.in_ok-current.ensures.begins c.requires.shallow c.in_ok-current.ensures.same c.new.ensures.items refl c.go.result _ c.go.ensures.ends
