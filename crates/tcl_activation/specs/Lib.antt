@@ -3,3 +3,4 @@ pub mod Moves
 pub mod Reads
 pub mod Turnings
 pub mod Needs
+pub mod Standing

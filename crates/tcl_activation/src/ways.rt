@@ -1,7 +1,7 @@
 //! Instructions of ways through a code, and its end.
 ghost use Rattle.std.specs.Prelude.{◌≡◌, ◌≤◌, ℕ, None, length};
 ghost use Rattle.tcl_activation.specs.Moves.{here};
-ghost use Rattle.tcl_activation.specs.Turnings.{Leads, Pays};
+ghost use Rattle.tcl_activation.specs.Turnings.{Leads, Spends};
 ghost use Rattle.tcl_chars.specs.declared.numbers.Dialect.{Dialect};
 ghost use Rattle.tcl_code.specs.Machine.{Ends};
 ghost use Rattle.tcl_meaning.specs.Effects.{Gives};
@@ -25,7 +25,7 @@ pub enum Way {
 
 /// A unit is spent, if there is one.
 pub fn spend(units: &mut u64) -> bool
-    ensures { Pays result units.old units.new }
+    ensures { Spends result units.old units.new }
 {
     if *units == 0 {
         return false;
