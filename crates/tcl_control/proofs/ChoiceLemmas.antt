@@ -1,5 +1,5 @@
 -- The words of an if(n), read from the left.
-use Rattle.std.proofs.Common.{◌≡◌, ℕ, zero, suc, ◌+◌, ◌<◌, ◌≤◌, Bool, true, false, true≢false, List, [], ◌∷◌, ◌++◌, Some, None, length, drop, sym, subst, ap, ◌∙◌, refl, arith}
+use Rattle.std.proofs.Common.{◌≡◌, ℕ, ◌+◌, ◌<◌, ◌≤◌, Bool, true, false, true≢false, List, [], ◌∷◌, ◌++◌, Some, None, length, drop, sym, subst, ap, ◌∙◌, refl, arith}
 use Rattle.std.specs.Prelude.{Option, if◌then◌else◌}
 use Rattle.tcl_control.specs.Asked.{word}
 use Rattle.tcl_chars.specs.Texts.{literal}

@@ -1,3 +1,11 @@
+pub mod AnswerLemmas
 pub mod ChoiceLemmas
+pub mod ExitLemmas
+pub mod OptionJoins
+pub mod OptionSizes
 pub mod PageLemmas
+pub mod ReturnWords
+pub mod SwitchChoices
+pub mod SwitchOptions
+pub mod SwitchPairs
 pub mod TestLemmas

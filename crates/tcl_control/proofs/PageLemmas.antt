@@ -1,5 +1,5 @@
 -- What pages ask for, by the count of their words.
-use Rattle.std.proofs.Common.{◌≡◌, ◌≢◌, ℕ, ◌≤◌, ◌<◌, List, [], ◌∷◌, length, drop, sym, ap, ◌∙◌, refl, arith}
+use Rattle.std.proofs.Common.{◌≡◌, ◌≢◌, ◌≤◌, ◌<◌, List, [], ◌∷◌, length, drop, sym, ap, ◌∙◌, refl, arith}
 use Rattle.tcl_control.specs.Asked.{word}
 use Rattle.tcl_chars.specs.Texts.{literal}
 use Rattle.tcl_chars.specs.declared.numbers.Dialect.{Dialect}
@@ -79,6 +79,12 @@ pub expr_usage : (ws : List Text) → length ws ≡ 0 → expr_page ws ≡ usage
 unfolding expr_page
 expr_usage [] h = refl
 expr_usage (a ∷ ws) h = absurd (omega arith)
+
+pub eval_asks : (ws : List Text) (script : Text) → length ws ≢ 0 → script ≡ one_text ws → eval_page ws ≡ ask (Run Here script Nothing)
+eval_asks ws script h e = eval_is ws h ∙ sym (ap (λ z. ask (Run Here z Nothing)) e)
+
+pub expr_asks : (ws : List Text) (expr : Text) → length ws ≢ 0 → expr ≡ one_text ws → expr_page ws ≡ ask (Evaluate expr Nothing)
+expr_asks ws expr h e = expr_is ws h ∙ sym (ap (λ z. ask (Evaluate z Nothing)) e)
 
 pub one_is : (ws : List Text) → length ws ≡ 1 → one_text ws ≡ word ws 0
 one_is [] h = absurd (omega arith)

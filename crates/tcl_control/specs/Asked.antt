@@ -2,12 +2,13 @@
 use Rattle.std.specs.Prelude.{◌≡◌, ℕ, List, [], get_or, Option, Some, None, Result, Ok, Err}
 use Rattle.std.specs.declared.alloc.AllocError.{AllocError}
 use Rattle.tcl_meaning.specs.Asking.{Asks}
-use Rattle.tcl_meaning.specs.Completions.{Completion}
 use Rattle.tcl_meaning.specs.Control.{ask_if}
-use Rattle.tcl_meaning.specs.Effects.{Give}
+use Rattle.tcl_meaning.specs.Effects.{Give, Exit}
 use Rattle.tcl_meaning.specs.Tasks as tasks
 use Rattle.tcl_meaning.specs.Value.{Has, Fails, fail}
 use Rattle.tcl_steps.specs.Views.{step_of}
+use Rattle.tcl_steps.specs.declared.fault.Fault.{Fault}
+use Rattle.tcl_steps.specs.declared.fault.Fault.TheVariants as fault
 use Rattle.tcl_steps.specs.declared.step.Step.{Step}
 use Rattle.tcl_steps.specs.declared.step.Scope.{Scope}
 use Rattle.tcl_steps.specs.declared.step.Owes.{Owes}
@@ -25,6 +26,13 @@ at_once _ = None
 abbrev pub IsAsked : Result (Step Scope Owes Loop) AllocError → Asks → Type 0
 IsAsked (Ok step) asks = at_once asks ≡ Some (step_of step)
 IsAsked (Err e) asks = Unit {0}
+
+-- the definition asks for this at once, or it ends the run with this status
+abbrev pub IsAskedOrExits : Result (Step Scope Owes Loop) Fault → Asks → Type 0
+IsAskedOrExits (Ok step) asks = at_once asks ≡ Some (step_of step)
+IsAskedOrExits (Err (fault.Exit n)) asks = asks ≡ Exit n
+IsAskedOrExits (Err fault.Memory) asks = Unit {0}
+IsAskedOrExits (Err fault.Io) asks = ⊥
 
 -- what a condition has come to: a truth value, or a completion that is the command's
 abbrev pub by_test : Condition → Asks → Asks → Asks

@@ -7,21 +7,11 @@ ghost use Rattle.tcl_meaning.specs.Control as spec;
 ghost use Rattle.tcl_meaning.specs.Shapes as shapes;
 ghost use Rattle.tcl_steps.specs.Views.{others_of};
 
-use crate::answers::{usage, word_at};
+use crate::answers::{is_word, usage, word_at, words_behind};
 use crate::conditions::next_clause;
 use std::alloc::{AllocError, Global};
-use tcl_chars::is_text;
 use tcl_steps::{Loop, Others, Owes, Scope, Step};
 use tcl_values::Value;
-
-// Is a value's text this word?
-fn is_word(alloc: Global, value: &Value, word: &str) -> Result<bool, AllocError>
-    ensures { IfOk result (λ is. is ≡ shapes.is_word (chars word.now) value.now) }
-{
-    let mut copy = value.copy()?;
-    let text = copy.text(alloc)?;
-    Ok(is_text(text.as_str(), word))
-}
 
 // How far behind the condition in front its body stands: a `then` may stand between.
 fn body_offset(alloc: Global, words: &[Value]) -> Result<usize, AllocError>
@@ -36,14 +26,6 @@ fn body_offset(alloc: Global, words: &[Value]) -> Result<usize, AllocError>
         return Ok(2);
     }
     Ok(1)
-}
-
-// The words behind so many.
-fn words_behind(words: &[Value], count: usize) -> &[Value]
-    requires { count ≤ length words.now }
-    ensures { result.now ≡ drop count words.now }
-{
-    &words[count..]
 }
 
 // Does a condition follow behind a body?

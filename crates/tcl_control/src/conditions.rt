@@ -39,8 +39,11 @@ pub(crate) fn tested(
     }
 }
 
-// The script that is run, if there is one.
-fn body_asks(alloc: Global, body: Option<Value>) -> Result<Step<Scope, Owes, Loop>, AllocError>
+/// The script that is run, if there is one.
+pub(crate) fn body_asks(
+    alloc: Global,
+    body: Option<Value>,
+) -> Result<Step<Scope, Owes, Loop>, AllocError>
     ensures { IsAsked result (spec.body_asks body) }
 {
     match body {
