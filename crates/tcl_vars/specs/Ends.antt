@@ -1,12 +1,21 @@
 -- How commands end.
 use Rattle.std.specs.Prelude.{◌≡◌, Result, Ok, Err}
+use Rattle.tcl_chars.specs.Texts.{text_of}
+use Rattle.tcl_chars.specs.declared.fault.Fault.{Fault}
+use Rattle.tcl_chars.specs.declared.fault.Fault.TheVariants as fault
 use Rattle.tcl_frames.specs.Standing.{Standing}
 use Rattle.tcl_meaning.specs.Asking.{Asks, value_step}
-use Rattle.tcl_meaning.specs.Completions.{Completion}
+use Rattle.tcl_meaning.specs.Completions.{Completion, failure}
 use Rattle.tcl_meaning.specs.Effects.{Plain, Give, ◌>>=◌}
+use Rattle.tcl_meaning.specs.State.{Store}
 use Rattle.tcl_meaning.specs.Tasks.{Step, Done}
 use Rattle.tcl_meaning.specs.Value.{Value, Has, Fails}
-use Rattle.tcl_vars.specs.Comes.{Comes}
+use Rattle.tcl_steps.specs.Views.{step_of}
+use Rattle.tcl_steps.specs.declared.step.Step.{Step as Asked}
+use Rattle.tcl_steps.specs.declared.step.Scope.{Scope}
+use Rattle.tcl_steps.specs.declared.step.Owes.{Owes}
+use Rattle.tcl_steps.specs.declared.step.Loop.{Loop}
+use Rattle.tcl_vars.specs.Comes.{Comes, BecomesIn}
 use Rattle.tcl_vars.specs.declared.stop.Stop.{Stop}
 use Rattle.tcl_vars.specs.declared.stop.Stop.TheVariants as stop
 
@@ -38,3 +47,24 @@ abbrev pub EndsDone : Asks → Standing → Result Completion Stop → Standing 
 EndsDone page before (Ok c) after = Comes page before (Has (Done c)) after
 EndsDone page before (Err (stop.Error c)) after = Comes page before (Fails c) after
 EndsDone page before (Err stop.Memory) after = Unit {0}
+
+-- The page asks for this step; or memory was refused.
+abbrev pub DoesAsk : {E : Type 0} → Asks → Standing → Result (Asked Scope Owes Loop) E → Standing → Type 0
+DoesAsk page before (Ok step) after = Comes (first_step page) before (step_of step) after
+DoesAsk page before (Err refused) after = Unit {0}
+
+-- The page is done with this completion, over what scripts keep as a whole; or memory was refused.
+abbrev pub DoesIn : {E : Type 0} → Asks → Store → Result Completion E → Store → Type 0
+DoesIn page before (Ok c) after = BecomesIn (first_step page) before (Give (Done c)) after
+DoesIn page before (Err refused) after = Unit {0}
+
+-- A part that changes nothing gives this value, or stops with the script's error; or memory was refused.
+abbrev pub Gives : {A : Type 0} → Plain (Value A) → Result A Stop → Type 0
+Gives p (Ok a) = p ≡ Give (Has a)
+Gives p (Err (stop.Error c)) = p ≡ Give (Fails c)
+Gives p (Err stop.Memory) = Unit {0}
+
+-- the script's error that a fault is
+abbrev pub stop_of : Fault → Stop
+stop_of (fault.Error message) = stop.Error (failure (text_of message))
+stop_of fault.Memory = stop.Memory

@@ -1,2 +1,4 @@
 pub mod Comes
 pub mod Ends
+pub mod Unsetting
+pub mod Updating

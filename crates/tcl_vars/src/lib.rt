@@ -1,12 +1,23 @@
-//! Commands that read and change variables: set(n). What each comes to is its page in `tcl_meaning/specs/VariablePages`, over
-//! the frames as they stand; the words are those behind the command's name, and stay as they were. And the parts that commands
-//! are made of: one variable is read, given a text, or taken away.
+//! Commands that read and change variables: set(n), unset(n), lassign(n), append(n) and its like. What each comes to is its page in
+//! `tcl_meaning/specs/VariablePages`, over the frames as they stand; the words are those behind the name of the command. And the
+//! parts that commands are made of: one variable is read, given a text, or taken away.
 #![tactic(auto)]
 
+mod assigning;
+mod catching;
+mod changing;
+mod counts;
+mod first;
 mod setting;
 mod stop;
+mod unsetting;
+mod updating;
 mod variables;
 
+pub use assigning::lassign;
+pub use catching::after_catch;
 pub use setting::set;
 pub use stop::Stop;
+pub use unsetting::unset;
+pub use updating::update;
 pub use variables::{assign, read, remove};

@@ -1,9 +1,10 @@
 //! Why a part of a command has no value.
 ghost use Rattle.std.specs.Prelude.{◌≡◌};
-ghost use Rattle.tcl_vars.specs.Ends.{Closes};
+ghost use Rattle.tcl_vars.specs.Ends.{Closes, stop_of};
 ghost use Rattle.tcl_vars.specs.declared.stop.Stop.TheVariants as stop;
 
-use std::alloc::AllocError;
+use std::alloc::{AllocError, Global};
+use tcl_chars::Fault;
 use tcl_steps::Completion;
 
 /// Why a part of a command has no value.
@@ -31,5 +32,15 @@ pub(crate) fn closed(ending: Result<Completion, Stop>) -> Result<Completion, All
         Ok(completion) => Ok(completion),
         Err(Stop::Error(completion)) => Ok(completion),
         Err(Stop::Memory) => Err(AllocError),
+    }
+}
+
+/// What stops a command whose part has a fault.
+pub(crate) fn stop_by(alloc: Global, fault: Fault) -> Stop
+    ensures { result ≡ stop_of fault }
+{
+    match fault {
+        Fault::Error(message) => Stop::Error(Completion::failure(alloc, message)),
+        Fault::Memory => Stop::Memory,
     }
 }

@@ -1,0 +1,163 @@
+-- Variables get texts, from left to right: catch(n), lassign(n).
+use Rattle.std.proofs.Common.{◌≡◌, ◌≢◌, ℕ, zero, suc, ◌+◌, ◌-◌, ◌≤◌, ◌<◌, List, [], ◌∷◌, ◌++◌, length, drop, take, get_or, Result, Ok, Err, refl, sym, ap, subst, ◌∙◌, arith}
+use Rattle.std.proofs.lemmas.List.{take_all}
+use Rattle.tcl_pages.specs.Lists.{values_for, rest_behind}
+use Rattle.tcl_pages.specs.Texts.{Text, number_text}
+use Rattle.tcl_chars.specs.Answers.{Stops}
+use Rattle.tcl_chars.specs.Texts.{literal, text_of}
+use Rattle.tcl_chars.specs.declared.fault.Fault.{Fault}
+use Rattle.tcl_chars.specs.declared.fault.Fault.TheVariants as fault
+use Rattle.tcl_list.specs.Elements.{elements_of}
+use Rattle.tcl_list.specs.Written.{written}
+use Rattle.tcl_meaning.specs.Asking.{Asks, done}
+use Rattle.tcl_meaning.specs.Completions.{Completion, normal, failure, wrong_words, code_now, code_number, options_text}
+use Rattle.tcl_meaning.specs.CodePages.{after_catch}
+use Rattle.tcl_meaning.specs.Effects.{Plain}
+use Rattle.tcl_meaning.specs.Tasks.{Done}
+use Rattle.tcl_meaning.specs.Value.{Value, Has, Fails, ◌>>=◌, judged}
+use Rattle.tcl_meaning.specs.Variables.{set, set_all}
+use Rattle.tcl_meaning.specs.VariablePages.{lassign_page}
+use Rattle.tcl_frames.specs.Standing.{Standing}
+use Rattle.tcl_vars.proofs.Endings.{has_on, fails_on, then_becomes}
+use Rattle.tcl_vars.proofs.UnsetLemmas.{word_and_rest, none_left}
+use Rattle.tcl_vars.specs.Comes.{Becomes, Comes}
+use Rattle.tcl_vars.specs.Ends.{Ends, EndsDone, stop_of}
+use Rattle.tcl_vars.specs.declared.stop.Stop.{Stop}
+use Rattle.tcl_vars.specs.declared.stop.Stop.TheVariants as stop
+
+-- texts behind a place
+abbrev pub set_from : List Text → List Text → ℕ → Plain (Value (Unit {0}))
+set_from names ts n = set_all (drop n names) (drop n ts)
+
+-- the first of them, and the rest
+first_set : (name : Text) (names ts : List Text) (f g : Standing) → Comes (set name (get_or ts 0 [])) f (Has tt) g → Becomes (set_all (name ∷ names) ts) f (set_all names (drop 1 ts)) g
+first_set name names [] f g h = has_on (set name []) (λ u. set_all names []) f g tt h
+first_set name names (t ∷ ts) f g h = has_on (set name t) (λ u. set_all names ts) f g tt h
+
+first_isnt : (name : Text) (names ts : List Text) (f g : Standing) (c : Completion) → Comes (set name (get_or ts 0 [])) f (Fails c) g → Comes (set_all (name ∷ names) ts) f (Fails c) g
+first_isnt name names [] f g c h = fails_on (set name []) (λ u. set_all names []) f g c h
+first_isnt name names (t ∷ ts) f g c h = fails_on (set name t) (λ u. set_all names ts) f g c h
+
+at_drop : (ts : List Text) (n : ℕ) → get_or (drop n ts) 0 [] ≡ get_or ts n []
+at_drop [] zero = refl
+at_drop [] (suc n) = refl
+at_drop (t ∷ ts) zero = refl
+at_drop (t ∷ ts) (suc n) = at_drop ts n
+
+one_more : (ts : List Text) (n : ℕ) → drop 1 (drop n ts) ≡ drop (n + 1) ts
+one_more [] n = ap (λ (us : List Text). drop 1 us) (none_left [] n (omega arith)) ∙ sym (none_left [] (n + 1) (omega arith))
+one_more (t ∷ ts) zero = refl
+one_more (t ∷ ts) (suc n) =
+    let e : suc n + 1 ≡ suc (n + 1) = omega arith in
+    one_more ts n ∙ ap (λ (k : ℕ). drop k (t ∷ ts)) (sym e)
+
+module _ (names ts : List Text) (n : ℕ) (name t : Text) (before f g : Standing) (there : n < length names) (is : name ≡ get_or names n []) (text : t ≡ get_or ts n []) where
+  here : drop n names ≡ name ∷ drop (n + 1) names
+  here = word_and_rest names n there ∙ ap (λ (w : Text). w ∷ drop (n + 1) names) (sym is)
+
+  its : t ≡ get_or (drop n ts) 0 []
+  its = text ∙ sym (at_drop ts n)
+
+  pub set_one : Becomes (set_all names ts) before (set_from names ts n) f → Comes (set name t) f (Has tt) g → Becomes (set_all names ts) before (set_from names ts (n + 1)) g
+  set_one so_far h =
+      then_becomes so_far
+      (subst (λ (vs : List Text). Becomes (set_all vs (drop n ts)) f (set_from names ts (n + 1)) g) (sym here)
+      (subst (λ (us : List Text). Becomes (set_all (name ∷ drop (n + 1) names) (drop n ts)) f (set_all (drop (n + 1) names) us) g) (one_more ts n)
+      (first_set name (drop (n + 1) names) (drop n ts) f g (subst (λ (u : Text). Comes (set name u) f (Has tt) g) its h))))
+
+  pub set_stops : (s : Stop) → Becomes (set_all names ts) before (set_from names ts n) f → Ends (set name t) f (Err s) g → Ends (set_all names ts) before (Err s) g
+  set_stops (stop.Error c) so_far h =
+      then_becomes so_far
+      (subst (λ (vs : List Text). Comes (set_all vs (drop n ts)) f (Fails c) g) (sym here)
+      (first_isnt name (drop (n + 1) names) (drop n ts) f g c (subst (λ (u : Text). Comes (set name u) f (Fails c) g) its h)))
+  set_stops stop.Memory so_far h = tt
+
+pub all_set : (names ts : List Text) (n : ℕ) (before f : Standing) → length names ≤ n → Becomes (set_all names ts) before (set_from names ts n) f → Comes (set_all names ts) before (Has tt) f
+all_set names ts n before f h so_far =
+    then_becomes so_far (subst (λ (vs : List Text). Comes (set_all vs (drop n ts)) f (Has tt) f) (sym (none_left names n h)) (record { same = λ cs ch m. refl }))
+
+pub none_set : (names ts : List Text) (f : Standing) → Becomes (set_all names ts) f (set_from names ts 0) f
+none_set names ts f = record { same = λ cs ch n. refl }
+
+-- ---- lassign(n)
+
+pub values_are : (es : List Text) (n i : ℕ) → i < n → get_or es i [] ≡ get_or (values_for n es) i []
+values_are es zero i h = absurd (omega arith)
+values_are [] (suc n) zero h = refl
+values_are [] (suc n) (suc i) h = values_are [] n i (omega arith)
+values_are (e ∷ es) (suc n) zero h = refl
+values_are (e ∷ es) (suc n) (suc i) h = values_are es n i (omega arith)
+
+-- what follows once the list is read
+abbrev pub lassign_of : List Text → List Text → Asks
+lassign_of names es = do
+  _ ← set_all names (values_for (length names) es)
+  done (normal (rest_behind (length names) es))
+
+pub lassign_is : (ws es : List Text) → length ws ≢ 0 → elements_of (get_or ws 0 []) ≡ Ok es → lassign_page ws ≡ lassign_of (drop 1 ws) es
+unfolding lassign_page
+lassign_is [] es h e = absurd (h refl)
+lassign_is (list ∷ names) es h e = ap (λ (r : Result (List Text) Text). judged r >>= lassign_of names) e
+
+module _ (ws es : List Text) (f g : Standing) (some : length ws ≢ 0) (read : elements_of (get_or ws 0 []) ≡ Ok es) where
+  pub lassign_done : (t : Text) → t ≡ rest_behind (length (drop 1 ws)) es → Comes (set_all (drop 1 ws) (values_for (length (drop 1 ws)) es)) f (Has tt) g → Comes (lassign_page ws) f (Has (Done (normal t))) g
+  lassign_done t e h =
+      subst (λ (p : Asks). Comes p f (Has (Done (normal t))) g) (sym (lassign_is ws es some read))
+      (subst (λ (u : Text). Comes (lassign_of (drop 1 ws) es) f (Has (Done (normal u))) g) (sym e)
+      (has_on (set_all (drop 1 ws) (values_for (length (drop 1 ws)) es)) (λ u. done (normal (rest_behind (length (drop 1 ws)) es))) f g tt h))
+
+  pub lassign_stops : (s : Stop) → Ends (set_all (drop 1 ws) (values_for (length (drop 1 ws)) es)) f (Err s) g → EndsDone (lassign_page ws) f (Err s) g
+  lassign_stops (stop.Error c) h =
+      subst (λ (p : Asks). Comes p f (Fails c) g) (sym (lassign_is ws es some read))
+      (fails_on (set_all (drop 1 ws) (values_for (length (drop 1 ws)) es)) (λ u. done (normal (rest_behind (length (drop 1 ws)) es))) f g c h)
+  lassign_stops stop.Memory h = tt
+
+lassign_refused : (ws : List Text) (message : Text) (f : Standing) → length ws ≢ 0 → elements_of (get_or ws 0 []) ≡ Err message → Comes (lassign_page ws) f (Fails (failure message)) f
+unfolding lassign_page
+lassign_refused [] message f h e = absurd (h refl)
+lassign_refused (list ∷ names) message f h e = subst (λ (r : Result (List Text) Text). Comes (judged r >>= lassign_of names) f (Fails (failure message)) f) (sym e) (record { same = λ cs ch n. refl })
+
+pub not_a_list : (ws : List Text) (f : Standing) (fault : Fault) → length ws ≢ 0 → Stops fault (elements_of (get_or ws 0 [])) → EndsDone (lassign_page ws) f (Err (stop_of fault)) f
+not_a_list ws f (fault.Error message) h e = lassign_refused ws (text_of message) f h e
+not_a_list ws f fault.Memory h e = tt
+
+pub lassign_usage : (ws : List Text) (f : Standing) → length ws ≡ 0 → Comes (lassign_page ws) f (Fails (wrong_words (literal "lassign list ?varName ...?"))) f
+unfolding lassign_page
+lassign_usage [] f h = record { same = λ cs ch n. refl }
+lassign_usage (w ∷ ws) f h = absurd (omega arith)
+
+-- ---- catch(n)
+
+module _ (names : List Text) (c : Completion) (f g : Standing) where
+  pub caught_is : (t : Text) → t ≡ number_text (code_number (code_now c)) → Comes (set_all names (c.result ∷ options_text c ∷ [])) f (Has tt) g → Comes (after_catch names c) f (Has (Done (normal t))) g
+  caught_is t e h =
+      subst (λ (u : Text). Comes (after_catch names c) f (Has (Done (normal u))) g) (sym e)
+      (has_on (set_all names (c.result ∷ options_text c ∷ [])) (λ u. done (normal (number_text (code_number (code_now c))))) f g tt h)
+
+  pub caught_stops : (s : Stop) → Ends (set_all names (c.result ∷ options_text c ∷ [])) f (Err s) g → EndsDone (after_catch names c) f (Err s) g
+  caught_stops (stop.Error d) h = fails_on (set_all names (c.result ∷ options_text c ∷ [])) (λ u. done (normal (number_text (code_number (code_now c))))) f g d h
+  caught_stops stop.Memory h = tt
+
+-- the values that are made are those that are meant, as far as there are names
+pub one_value : (values : List Text) (first other : Text) (n i : ℕ) → n ≤ 1 → values ≡ [] ++ first ∷ [] → i < n → get_or values i [] ≡ get_or (first ∷ other ∷ []) i []
+one_value values first other n zero h e lt = ap (λ (vs : List Text). get_or vs 0 []) e
+one_value values first other n (suc i) h e lt = absurd (omega arith)
+
+pub two_values : (values so_far : List Text) (first other : Text) (i : ℕ) → so_far ≡ [] ++ first ∷ [] → values ≡ so_far ++ other ∷ [] → get_or values i [] ≡ get_or (first ∷ other ∷ []) i []
+two_values values so_far first other i e g = ap (λ (vs : List Text). get_or vs i []) (g ∙ ap (λ (vs : List Text). vs ++ other ∷ []) e)
+
+pub past_end : (ts : List Text) (n : ℕ) → length ts ≤ n → get_or ts n [] ≡ []
+past_end [] zero h = refl
+past_end [] (suc n) h = refl
+past_end (t ∷ ts) zero h = absurd (omega arith)
+past_end (t ∷ ts) (suc n) h = past_end ts n (omega arith)
+
+pub no_rest : (es : List Text) (n : ℕ) (t : Text) → length es ≤ n → t ≡ [] → t ≡ rest_behind n es
+no_rest es n t h e = e ∙ sym (ap written (none_left es n h))
+
+take_rest : (ws : List Text) → take (length ws - 1) (drop 1 ws) ≡ drop 1 ws
+take_rest [] = take_all (length {A = Text} [] - 1) (drop 1 []) (omega arith)
+take_rest (w ∷ ws) = take_all (length (w ∷ ws) - 1) ws (omega arith)
+
+pub names_are : (ws vs : List Text) → vs ≡ ws → take (length vs - 1) (drop 1 vs) ≡ drop 1 ws
+names_are ws vs e = take_rest vs ∙ ap (λ (us : List Text). drop 1 us) e

@@ -1,0 +1,110 @@
+//! Variables that get texts, from left to right: lassign(n), catch(n).
+ghost use Rattle.std.specs.Prelude.{◌≡◌, ℕ, ◌<◌, ◌≤◌, List, [], drop, length, get_or, IfOk};
+ghost use Rattle.tcl_chars.specs.Answers.{Answers};
+ghost use Rattle.tcl_list.specs.Elements.{elements_of};
+ghost use Rattle.tcl_meaning.specs.Variables.{set_all};
+ghost use Rattle.tcl_meaning.specs.VariablePages.{lassign_page};
+ghost use Rattle.tcl_pages.specs.Lists.{rest_behind};
+ghost use Rattle.tcl_pages.specs.Texts.{Text};
+ghost use Rattle.tcl_vars.specs.Ends.{Does, Ends, EndsDone};
+
+use crate::stop::{Stop, closed, stop_by};
+use crate::variables::assign;
+use std::alloc::{AllocError, Global};
+use tcl_arguments::text_at;
+use tcl_chars::{Fault, message};
+use tcl_frames::Frames;
+use tcl_steps::Completion;
+use tcl_values::Value;
+
+// The value at a place, or the empty text.
+fn value_at(alloc: Global, values: &[Value], place: usize) -> Result<Value, AllocError>
+    ensures { IfOk result (λ value. value ≡ get_or values.now place []) }
+{
+    if place < values.len() {
+        return values[place].copy();
+    }
+    Ok(Value::of_text(message(alloc, "")?))
+}
+
+/// Gives variables texts, from left to right: those that stand at the places of the names, and empty ones where there are none.
+pub(crate) fn assign_all(
+    alloc: Global,
+    frames: &mut Frames,
+    names: &mut [Value],
+    values: &[Value],
+) -> Result<(), Stop>
+    ensures { (texts : List Text) → ((i : ℕ) → i < length names.old → get_or values.now i [] ≡ get_or texts i []) → Ends (set_all names.old texts) frames.old result frames.new }
+{
+    for place in 0..names.len() {
+        let name = text_at(alloc, names, place)?;
+        let value = value_at(alloc, values, place)?;
+        assign(alloc, frames, name.as_str(), value)?;
+    }
+    Ok(())
+}
+
+// The elements of the word at a place.
+fn list_at(alloc: Global, words: &mut [Value], place: usize) -> Result<Vec<Value>, Fault>
+    requires { place < length words.old }
+    ensures list { Answers (λ v. v.items) result (elements_of (get_or words.old place [])) }
+    ensures same { words.new ≡ words.old }
+{
+    words[place].list(alloc)
+}
+
+// How many words stand behind the first one.
+fn names_behind(words: &[Value]) -> usize
+    requires { 1 ≤ length words.now }
+    ensures { result ≡ length (drop 1 words.now) }
+{
+    words[1..].len()
+}
+
+// The elements that no name takes, as a list.
+fn rest_of(alloc: Global, elements: Vec<Value>, count: usize) -> Result<Value, AllocError>
+    ensures { IfOk result (λ rest. rest ≡ rest_behind count elements.items) }
+{
+    let mut elements = elements;
+    if elements.len() < count {
+        return Ok(Value::of_text(message(alloc, "")?));
+    }
+    let rest = elements.split_off(count)?;
+    Value::of_list(alloc, rest)
+}
+
+// The same as `lassign`, where an error stops it.
+fn lassign_words(
+    alloc: Global,
+    frames: &mut Frames,
+    words: &mut [Value],
+) -> Result<Completion, Stop>
+    ensures { EndsDone (lassign_page words.old) frames.old result frames.new }
+{
+    if words.len() == 0 {
+        return Err(Stop::Error(Completion::wrong_words(alloc, "lassign list ?varName ...?")?));
+    }
+    let elements = match list_at(alloc, words, 0) {
+        Ok(elements) => elements,
+        Err(fault) => return Err(stop_by(alloc, fault)),
+    };
+    let count = names_behind(&*words);
+    assign_all(alloc, frames, &mut words[1..], &elements)?;
+    let rest = rest_of(alloc, elements, count)?;
+    Ok(Completion::normal(alloc, rest))
+}
+
+/// `lassign list ?varName ...?`: gives the variables the elements of the list, and answers those that are left.
+///
+/// # Errors
+///
+/// `AllocError` where a growth was refused.
+pub fn lassign(
+    alloc: Global,
+    frames: &mut Frames,
+    words: &mut [Value],
+) -> Result<Completion, AllocError>
+    ensures { Does (lassign_page words.old) frames.old result frames.new }
+{
+    closed(lassign_words(alloc, frames, words))
+}
