@@ -1,0 +1,4 @@
+pub mod BindingLemmas
+pub mod DefinitionLemmas
+pub mod ReadingLemmas
+pub mod UsageLemmas
