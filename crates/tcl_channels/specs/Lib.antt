@@ -1,0 +1,4 @@
+pub mod Shown
+pub mod Works
+pub mod Leaves
+pub mod Orders
