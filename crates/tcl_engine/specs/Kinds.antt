@@ -1,0 +1,25 @@
+-- Which commands are of which kind.
+use Rattle.tcl_meaning.specs.declared.page.Page.{Page}
+use Rattle.tcl_meaning.specs.declared.page.Page.TheVariants as page
+
+-- what they ask for depends on their words alone
+abbrev pub IsAtOnce : Page → Type 0
+IsAtOnce (page.Pure p) = Unit {0}
+IsAtOnce page.If = Unit {0}
+IsAtOnce page.While = Unit {0}
+IsAtOnce page.For = Unit {0}
+IsAtOnce page.Switch = Unit {0}
+IsAtOnce page.Eval = Unit {0}
+IsAtOnce page.Expr = Unit {0}
+IsAtOnce page.Catch = Unit {0}
+IsAtOnce page.Return = Unit {0}
+IsAtOnce page.Error = Unit {0}
+IsAtOnce page.Break = Unit {0}
+IsAtOnce page.Continue = Unit {0}
+IsAtOnce _ = ⊥
+
+-- they work on the command table
+abbrev pub IsOverCommands : Page → Type 0
+IsOverCommands page.Proc = Unit {0}
+IsOverCommands page.Rename = Unit {0}
+IsOverCommands _ = ⊥

@@ -1,0 +1,43 @@
+//! Commands that ask at once.
+ghost use Rattle.tcl_chars.specs.declared.numbers.Dialect.TheVariants as dialect;
+ghost use Rattle.tcl_control.specs.Asked.{IsAsked};
+ghost use Rattle.tcl_engine.specs.Kinds.{IsAtOnce};
+ghost use Rattle.tcl_meaning.specs.Pages.{page_asks};
+
+use std::alloc::{AllocError, Global};
+use tcl_chars::Dialect;
+use tcl_control::{
+    break_page, catch_page, continue_page, error_page, eval_page, expr_page, for_page, if_page,
+    return_page, switch_page, while_page,
+};
+use tcl_meaning::Page;
+use tcl_pure::pure_done;
+use tcl_steps::{Loop, Owes, Scope, Step};
+use tcl_values::Value;
+
+/// A command that asks at once, whatever scripts keep.
+#[tactic(auto, unfolding(tcl_meaning::specs::Pages::page_asks))]
+pub fn at_once(
+    alloc: Global,
+    page: Page,
+    words: &mut [Value],
+) -> Result<Step<Scope, Owes, Loop>, AllocError>
+    requires { IsAtOnce page }
+    ensures { IsAsked result (page_asks dialect.Tcl86 page words.old) }
+{
+    match page {
+        Page::Pure(pure) => pure_done(alloc, Dialect::Tcl86, pure, words),
+        Page::If => if_page(alloc, words),
+        Page::While => while_page(alloc, Dialect::Tcl86, words),
+        Page::For => for_page(alloc, words),
+        Page::Switch => switch_page(alloc, words),
+        Page::Eval => eval_page(alloc, words),
+        Page::Expr => expr_page(alloc, words),
+        Page::Catch => catch_page(alloc, words),
+        Page::Return => return_page(alloc, Dialect::Tcl86, words),
+        Page::Error => error_page(alloc, words),
+        Page::Break => break_page(alloc, words),
+        Page::Continue => continue_page(alloc, words),
+        _ => unreachable!(),
+    }
+}

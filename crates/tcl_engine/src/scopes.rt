@@ -1,0 +1,53 @@
+//! The frames in which scripts are run.
+ghost use Rattle.std.specs.Prelude.{◌≡◌, ℕ, IfOk, OnOk, OnErr};
+ghost use Rattle.tcl_engine.specs.Undoing.{undone_shown};
+ghost use Rattle.tcl_meaning.specs.Effects.{entered};
+ghost use Rattle.tcl_meaning.specs.State.{Commands, Channels};
+ghost use Rattle.tcl_steps.specs.Views.{scope_of};
+ghost use Rattle.tcl_vars.specs.Comes.{state_of};
+ghost use Rattle.tcl_vm.specs.Standing.{undone_of, undo};
+ghost use Rattle.tcl_vm.specs.Unwinding.{CanUndo};
+
+use crate::undone::Undone;
+use std::alloc::{AllocError, Global};
+use tcl_frames::Frames;
+use tcl_steps::Scope;
+
+/// A script of this scope begins: what is undone when it has ended.
+pub fn enter(alloc: Global, frames: &mut Frames, scope: Scope) -> Result<Undone, AllocError>
+    ensures undone { (cs : Commands) (channels : Channels) (units : ℕ) → IfOk result (λ u. undone_shown u ≡ undone_of (scope_of scope) (state_of cs channels units frames.old)) }
+    ensures entered { (cs : Commands) (channels : Channels) (units : ℕ) → OnOk result (state_of cs channels units frames.new ≡ entered (scope_of scope) (state_of cs channels units frames.old)) }
+    ensures can { (cs : Commands) (channels : Channels) (units : ℕ) → IfOk result (λ u. CanUndo (undone_shown u) (state_of cs channels units frames.new)) }
+    ensures same { OnErr result (frames.new ≡ frames.old) }
+{
+    match scope {
+        Scope::Here => Ok(Undone::Nothing),
+        Scope::At(level) => match frames.at_level(level) {
+            Some(frame) => Ok(Undone::Back(frames.activate(frame))),
+            None => Ok(Undone::Back(frames.active())),
+        },
+        Scope::Within(variables) => {
+            let active = frames.active();
+            let count = frames.count();
+            frames.push_call(alloc, variables)?;
+            Ok(Undone::Gone(active, count))
+        }
+    }
+}
+
+/// It has ended.
+pub fn leave(frames: &mut Frames, undone: Undone)
+    requires { (cs : Commands) (channels : Channels) (units : ℕ) → CanUndo (undone_shown undone) (state_of cs channels units frames.old) }
+    ensures { (cs : Commands) (channels : Channels) (units : ℕ) → state_of cs channels units frames.new ≡ undo (undone_shown undone) (state_of cs channels units frames.old) }
+{
+    match undone {
+        Undone::Nothing => {}
+        Undone::Back(active) => {
+            frames.activate(active);
+        }
+        Undone::Gone(active, _) => {
+            frames.pop();
+            frames.activate(active);
+        }
+    }
+}
