@@ -11,6 +11,8 @@ mod code;
 #[cfg(test)]
 mod dicts;
 #[cfg(test)]
+mod ensembles;
+#[cfg(test)]
 mod expr;
 #[cfg(test)]
 mod interp;
@@ -20,6 +22,8 @@ mod list;
 mod lists;
 #[cfg(test)]
 mod names;
+#[cfg(test)]
+mod pure;
 #[cfg(test)]
 mod shell;
 #[cfg(test)]

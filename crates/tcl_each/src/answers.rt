@@ -1,0 +1,22 @@
+//! Values that the variables of a turn take.
+ghost use Rattle.std.specs.Prelude.{◌≡◌, ◌<◌, [], length, IfOk};
+ghost use Rattle.tcl_control.specs.Asked.{word};
+
+use std::alloc::{AllocError, Global};
+use tcl_chars::message;
+use tcl_values::Value;
+
+/// The empty text.
+pub(crate) fn empty(alloc: Global) -> Result<Value, AllocError>
+    ensures { IfOk result (λ value. value ≡ []) }
+{
+    Ok(Value::of_text(message(alloc, "")?))
+}
+
+/// A value of the same text as the word at a place.
+pub(crate) fn word_at(words: &[Value], place: usize) -> Result<Value, AllocError>
+    requires { place < length words.now }
+    ensures { IfOk result (λ value. value ≡ word words.now place) }
+{
+    words[place].copy()
+}
