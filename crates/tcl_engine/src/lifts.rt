@@ -21,7 +21,8 @@ use tcl_vm::Stop;
 pub fn asked(
     step: Result<Step<Scope, Owes, Loop>, AllocError>,
 ) -> Result<Step<Scope, Owes, Loop>, Stop>
-    ensures { (page : Asks) (s : State) → IsAsked step page → Answered page s result s }
+    ensures answered { (page : Asks) (s : State) → IsAsked step page → Answered page s result s }
+    ensures quiet { is_io result ≡ false }
 {
     Ok(step?)
 }
@@ -30,7 +31,8 @@ pub fn asked(
 pub fn done_over(
     completion: Result<Completion, AllocError>,
 ) -> Result<Step<Scope, Owes, Loop>, Stop>
-    ensures { (page : Asks) (f g : Standing) → Does page f completion g → (cs : Commands) (channels : Channels) (units : ℕ) → Answered page (state_of cs channels units f) result (state_of cs channels units g) }
+    ensures answered { (page : Asks) (f g : Standing) → Does page f completion g → (cs : Commands) (channels : Channels) (units : ℕ) → Answered page (state_of cs channels units f) result (state_of cs channels units g) }
+    ensures quiet { is_io result ≡ false }
 {
     Ok(Step::Done(completion?))
 }
@@ -39,14 +41,16 @@ pub fn done_over(
 pub fn asked_over(
     step: Result<Step<Scope, Owes, Loop>, AllocError>,
 ) -> Result<Step<Scope, Owes, Loop>, Stop>
-    ensures { (page : Asks) (f g : Standing) → DoesAsk page f step g → (cs : Commands) (channels : Channels) (units : ℕ) → Answered page (state_of cs channels units f) result (state_of cs channels units g) }
+    ensures answered { (page : Asks) (f g : Standing) → DoesAsk page f step g → (cs : Commands) (channels : Channels) (units : ℕ) → Answered page (state_of cs channels units f) result (state_of cs channels units g) }
+    ensures quiet { is_io result ≡ false }
 {
     Ok(step?)
 }
 
 /// A command over frames and commands is done.
 pub fn done_in(completion: Result<Completion, AllocError>) -> Result<Step<Scope, Owes, Loop>, Stop>
-    ensures { (page : Asks) (s t : Store) → DoesIn page s completion t → (channels : Channels) (units : ℕ) → Answered page (record { store = s; channels = channels; units = units }) result (record { store = t; channels = channels; units = units }) }
+    ensures answered { (page : Asks) (s t : Store) → DoesIn page s completion t → (channels : Channels) (units : ℕ) → Answered page (record { store = s; channels = channels; units = units }) result (record { store = t; channels = channels; units = units }) }
+    ensures quiet { is_io result ≡ false }
 {
     Ok(Step::Done(completion?))
 }
