@@ -8,3 +8,4 @@ pub mod Joined
 pub mod LinkTests
 pub mod HighLevels
 pub mod OneFrame
+pub mod SeenLemmas

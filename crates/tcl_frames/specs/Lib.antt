@@ -16,3 +16,4 @@ pub mod VariablesLent
 pub mod FramesShape
 pub mod AllLent
 pub mod FramesLent
+pub mod Seen
