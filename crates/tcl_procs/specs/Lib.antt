@@ -1,3 +1,6 @@
 pub mod Binding
+pub mod Lambdas
+pub mod Levels
+pub mod Looking
 pub mod Reading
 pub mod Renaming

@@ -1,0 +1,34 @@
+-- Commands that look at the command table: info(n).
+use Rattle.std.specs.Prelude.{Bool, true, false, List, [], ◌∷◌, Option, Some, None, Ok}
+use Rattle.tcl_pages.specs.Answers.{Answer}
+use Rattle.tcl_pages.specs.Texts.{Text}
+use Rattle.tcl_pages.specs.Usage.{usage}
+use Rattle.tcl_meaning.specs.SeenPages.{any_command, is_procedure}
+use Rattle.tcl_meaning.specs.State.{Command}
+use Rattle.tcl_meaning.specs.declared.page.SeenPage.{SeenPage}
+use Rattle.tcl_meaning.specs.declared.page.SeenPage.TheVariants as page
+
+-- those that look at the command table, and at nothing else
+abbrev pub LooksAtCommands : SeenPage → Type 0
+LooksAtCommands page.ArrayExists = ⊥
+LooksAtCommands page.ArrayGet = ⊥
+LooksAtCommands page.ArrayNames = ⊥
+LooksAtCommands page.ArraySize = ⊥
+LooksAtCommands page.InfoArgs = Unit {0}
+LooksAtCommands page.InfoBody = Unit {0}
+LooksAtCommands page.InfoCommands = Unit {0}
+LooksAtCommands page.InfoExists = ⊥
+LooksAtCommands page.InfoLevel = ⊥
+LooksAtCommands page.InfoProcs = Unit {0}
+LooksAtCommands page.InfoVars = ⊥
+
+-- the kind of commands that are listed: procedures, or all
+abbrev pub of_kind : Bool → Command → Bool
+of_kind true = is_procedure
+of_kind false = any_command
+
+-- a pattern or none, as the words say
+abbrev pub up_to_one : Text → List Text → Answer (Option Text)
+up_to_one u [] = Ok None
+up_to_one u (pattern ∷ []) = Ok (Some pattern)
+up_to_one u _ = usage u
