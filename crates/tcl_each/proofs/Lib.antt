@@ -1,2 +1,5 @@
 pub mod ElementLemmas
+pub mod LaneLemmas
+pub mod MovingLemmas
+pub mod PageLemmas
 pub mod TurnLemmas

@@ -1,18 +1,26 @@
 -- The variables of a turn, and what follows.
-use Rattle.std.proofs.Common.{◌≡◌, ℕ, zero, suc, ◌+◌, ◌<◌, ◌≤◌, List, [], ◌∷◌, length, drop, take, get_or, Result, Ok, Err, refl, sym, ap, subst, ◌∙◌, arith}
+use Rattle.std.proofs.Common.{◌≡◌, ℕ, zero, suc, ◌+◌, ◌<◌, ◌≤◌, List, [], ◌∷◌, length, drop, take, get_or, Result, Ok, Err, sym, ap, subst, ◌∙◌, arith}
 use Rattle.std.proofs.lemmas.List.{drop_all, get_or-take, get_or-drop}
+use Rattle.std.specs.declared.alloc.AllocError.{AllocError}
+use Rattle.tcl_control.specs.Asked.{IsAsked}
 use Rattle.tcl_each.specs.Turns.{GoesOn}
 use Rattle.tcl_frames.specs.Standing.{Standing}
 use Rattle.tcl_meaning.specs.Asking.{Asks}
-use Rattle.tcl_meaning.specs.Control.{each_set}
+use Rattle.tcl_meaning.specs.Control.{each_set, behind_turns}
+use Rattle.tcl_meaning.specs.Completions.{Completion}
+use Rattle.tcl_meaning.specs.Effects.{Here}
 use Rattle.tcl_meaning.specs.Tasks as tasks
 use Rattle.tcl_meaning.specs.Value.{Has, Fails}
 use Rattle.tcl_meaning.specs.Variables.{set_all}
-use Rattle.tcl_steps.specs.Views.{lane_of, lanes_of}
+use Rattle.tcl_steps.specs.Views.{lane_of, lanes_of, step_of}
 use Rattle.tcl_steps.specs.declared.step.Lane.{Lane}
-use Rattle.tcl_vars.proofs.Endings.{has_on, fails_on, then_becomes}
+use Rattle.tcl_steps.specs.declared.step.Step.{Step}
+use Rattle.tcl_steps.specs.declared.step.Scope.{Scope}
+use Rattle.tcl_steps.specs.declared.step.Owes.{Owes}
+use Rattle.tcl_steps.specs.declared.step.Loop.{Loop}
+use Rattle.tcl_vars.proofs.Endings.{gives_on, has_on, fails_on, then_becomes}
 use Rattle.tcl_vars.specs.Comes.{Becomes, Comes}
-use Rattle.tcl_vars.specs.Ends.{Ends}
+use Rattle.tcl_vars.specs.Ends.{Ends, DoesAsk, first_step}
 use Rattle.tcl_vars.specs.declared.stop.Stop.{Stop}
 use Rattle.tcl_vars.specs.declared.stop.Stop.TheVariants as stop
 
@@ -46,3 +54,18 @@ lanes_end e p ls i before f h so_far = subst (λ (ks : List Lane). Becomes p bef
 -- the text of a name is the element at its place
 pub its_text : (es : List (List ℕ)) (count gone i : ℕ) (t : List ℕ) → i < count → t ≡ get_or es (gone + i) [] → t ≡ get_or (take count (drop gone es)) i []
 its_text es count gone i t h e = e ∙ sym (get_or-take count (drop gone es) i [] h ∙ get_or-drop gone es i [])
+
+-- ---- a turn
+
+module _ (e : tasks.Each) (now ls : List Lane) (f g : Standing) (same : now ≡ ls) where
+  -- the body is asked for where the variables are set
+  pub turn_asks : (r : Result (Step Scope Owes Loop) AllocError) → Becomes (each_set e (lanes_of now)) f (each_set e []) g → IsAsked r (each_set e []) → DoesAsk (each_set e (lanes_of ls)) f r g
+  turn_asks (Ok step) h i =
+      let body : tasks.Step = tasks.Run Here e.body (tasks.EachBody (record e { lanes = behind_turns e.lanes })) in
+      let is : body ≡ step_of step = cc in
+      let set : Comes (each_set e (lanes_of ls)) f (Has body) g = subst (λ (ks : List Lane). Becomes (each_set e (lanes_of ks)) f (each_set e []) g) same h in
+      subst (λ (s : tasks.Step). Comes (first_step (each_set e (lanes_of ls))) f s g) is (gives_on (each_set e (lanes_of ls)) _ f g (Has body) set)
+  turn_asks (Err refused) h i = tt
+
+  pub turn_fails : (c : Completion) → Comes (each_set e (lanes_of now)) f (Fails c) g → Comes (first_step (each_set e (lanes_of ls))) f (tasks.Done c) g
+  turn_fails c h = gives_on (each_set e (lanes_of ls)) _ f g (Fails c) (subst (λ (ks : List Lane). Comes (each_set e (lanes_of ks)) f (Fails c) g) same h)

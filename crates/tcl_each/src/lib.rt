@@ -1,10 +1,14 @@
-//! Parts of loops over the elements of lists and dictionaries: foreach(n), lmap(n), `dict for` of dict(n).
+//! Loops over the elements of lists and dictionaries: foreach(n), lmap(n), `dict for` of dict(n).
 #![tactic(auto)]
 
 mod answers;
 mod moving;
 mod next;
+mod pages;
+mod rows;
 mod setting;
+mod turning;
 
 pub use next::after_each;
-pub use setting::set_lanes;
+pub use pages::{dict_for_page, foreach_page, lmap_page};
+pub use turning::turned;

@@ -81,7 +81,7 @@ fn set_names(
 ///
 /// `Stop::Error` is the script's error where a variable can't be set, `Stop::Memory` where a growth was refused.
 #[tactic(auto, using(crate::proofs::TurnLemmas::lane_set, crate::proofs::TurnLemmas::lane_stops, crate::proofs::TurnLemmas::lanes_end))]
-pub fn set_lanes(alloc: Global, frames: &mut Frames, lanes: &[Lane]) -> Result<(), Stop>
+pub(crate) fn set_lanes(alloc: Global, frames: &mut Frames, lanes: &[Lane]) -> Result<(), Stop>
     ensures { (e : Each) → GoesOn (spec.each_set e (lanes_of lanes.now)) (spec.each_set e []) frames.old result frames.new }
 {
     for lane in lanes {

@@ -1,4 +1,4 @@
-use Rattle.std.proofs.Common.{◌≡◌, length, take, drop}
+use Rattle.std.proofs.Common.{length, take, drop}
 use Rattle.tcl_meaning.specs.Variables.{set_all}
 use Rattle.tcl_vars.specs.Comes.{Becomes}
 use Rattle.tcl_vars.proofs.AssignLemmas.{set_from}

@@ -1,0 +1,142 @@
+//! Words read as lists with the names of their variables: foreach(n), lmap(n), `dict for` of dict(n).
+ghost use Rattle.std.specs.Prelude.{◌≡◌, ◌+◌, ◌<◌, ◌≤◌, length, Ok, IfOk};
+ghost use Rattle.std.specs.Str.{chars};
+ghost use Rattle.tcl_chars.specs.Answers.{Answers};
+ghost use Rattle.tcl_control.specs.Asked.{word};
+ghost use Rattle.tcl_control.specs.Switching.{pairs_in};
+ghost use Rattle.tcl_each.specs.Lanes.{lane_read, pairs_read};
+ghost use Rattle.tcl_list.specs.Elements.{elements_of};
+ghost use Rattle.tcl_meaning.specs.Control as spec;
+ghost use Rattle.tcl_meaning.specs.Shapes as shapes;
+ghost use Rattle.tcl_pages.specs.DictPages.{flat};
+ghost use Rattle.tcl_steps.specs.Views.{lane_of, lanes_of};
+
+use std::alloc::{AllocError, Global};
+use tcl_chars::{Fault, message};
+use tcl_steps::Lane;
+use tcl_values::{Dictionary, Row, Value};
+
+// The names that the word at a place is a list of.
+fn names_at(alloc: Global, words: &mut [Value], place: usize) -> Result<Vec<Value>, Fault>
+    requires { place < length words.old }
+    ensures names { Answers (λ names. names.items) result (elements_of (word words.old place)) }
+    ensures same { words.new ≡ words.old }
+{
+    words[place].list(alloc)
+}
+
+// The elements of the word at a place, which are shared with it.
+fn row_at(alloc: Global, words: &mut [Value], place: usize) -> Result<Row, Fault>
+    requires { place < length words.old }
+    ensures row { Answers (λ row. row) result (elements_of (word words.old place)) }
+    ensures same { words.new ≡ words.old }
+{
+    words[place].row(alloc)
+}
+
+// The names, if there is one; or what is said of none.
+#[tactic(auto, using(crate::proofs::LaneLemmas::none_named, crate::proofs::LaneLemmas::some_named))]
+fn some_names(alloc: Global, names: Vec<Value>, empty: &str) -> Result<Vec<Value>, Fault>
+    ensures { Answers (λ names. names.items) result (shapes.some_names (chars empty.now) names.items) }
+{
+    if names.len() == 0 {
+        return Err(Fault::Error(message(alloc, empty)?));
+    }
+    Ok(names)
+}
+
+// The names that the word at a place is, and the elements of the word behind it.
+fn lane_at(alloc: Global, words: &mut [Value], place: usize, empty: &str) -> Result<Lane, Fault>
+    requires { place + 1 < length words.old }
+    ensures lane { Answers lane_of result (lane_read (chars empty.now) (word words.old place) (word words.old (place + 1))) }
+    ensures same { words.new ≡ words.old }
+{
+    let list = names_at(alloc, words, place)?;
+    let names = some_names(alloc, list, empty)?;
+    let elements = row_at(alloc, words, place + 1)?;
+    Ok(Lane {
+        names,
+        elements,
+        gone: 0,
+    })
+}
+
+/// The words, which come in pairs, as names with their lists; a word that is left over isn't read.
+///
+/// # Errors
+///
+/// `Fault::Error` with the first list's fault, or with `empty` where a list has no names, `Fault::Memory`.
+pub(crate) fn lanes_among(
+    alloc: Global,
+    words: &mut [Value],
+    empty: &str,
+) -> Result<Vec<Lane>, Fault>
+    ensures lanes { Answers (λ lanes. lanes_of lanes.items) result (shapes.lanes_of (chars empty.now) (pairs_in words.old)) }
+    ensures same { words.new ≡ words.old }
+{
+    let mut lanes = Vec::new(alloc);
+    for pair in 0..words.len() / 2 {
+        let lane = lane_at(alloc, words, 2 * pair, empty)?;
+        lanes.push(lane)?;
+    }
+    Ok(lanes)
+}
+
+// The names, if they are two.
+#[tactic(auto, using(crate::proofs::LaneLemmas::not_two, crate::proofs::LaneLemmas::are_two))]
+fn two_names(alloc: Global, names: Vec<Value>) -> Result<Vec<Value>, Fault>
+    ensures { Answers (λ names. names.items) result (spec.two_names names.items) }
+{
+    if names.len() != 2 {
+        let said = message(alloc, "must have exactly two variable names")?;
+        return Err(Fault::Error(said));
+    }
+    Ok(names)
+}
+
+// Keys and values in turn.
+fn flat_values(alloc: Global, pairs: &Dictionary) -> Result<Vec<Value>, AllocError>
+    ensures { IfOk result (λ values. values.items ≡ flat pairs.now) }
+{
+    let keys = pairs.keys();
+    let values = pairs.values();
+    let mut flat = Vec::new(alloc);
+    for place in 0..keys.len() {
+        let key = keys[place].clone()?;
+        let value = values[place].copy()?;
+        flat.push(Value::of_text(key))?;
+        flat.push(value)?;
+    }
+    Ok(flat)
+}
+
+// Values as elements that are shared.
+#[tactic(auto, using(tcl_values::proofs::Joined::reads_written))]
+fn row_of(alloc: Global, items: Vec<Value>) -> Result<Row, Fault>
+    ensures { Answers (λ row. row) result (Ok items.items) }
+{
+    let mut list = Value::of_list(alloc, items)?;
+    list.row(alloc)
+}
+
+/// The two names that the first word is, and the keys and values in turn of the dictionary that the second one is.
+///
+/// # Errors
+///
+/// `Fault::Error` with the list's fault, of another count of names or with the dictionary's fault, `Fault::Memory`.
+pub(crate) fn pairs_at(alloc: Global, words: &mut [Value]) -> Result<Lane, Fault>
+    requires { 2 ≤ length words.old }
+    ensures lane { Answers lane_of result (pairs_read (word words.old 0) (word words.old 1)) }
+    ensures same { words.new ≡ words.old }
+{
+    let list = names_at(alloc, words, 0)?;
+    let names = two_names(alloc, list)?;
+    let pairs = words[1].dictionary(alloc)?;
+    let values = flat_values(alloc, &pairs)?;
+    let elements = row_of(alloc, values)?;
+    Ok(Lane {
+        names,
+        elements,
+        gone: 0,
+    })
+}
