@@ -1,5 +1,5 @@
 -- Channels by their names, and commands that stop.
-use Rattle.std.proofs.Common.{◌≡◌, Result, Ok, Err, ap, sym, subst, refl}
+use Rattle.std.proofs.Common.{◌≡◌, false, Result, Ok, Err, ap, sym, subst, refl}
 use Rattle.tcl_meaning.specs.Asking.{Asks}
 use Rattle.tcl_meaning.specs.Channels.{Channel, input, output, as_output, as_input, channel_of, not_for_writing, not_for_reading}
 use Rattle.tcl_meaning.specs.Completions.{Completion, failure}
@@ -12,6 +12,7 @@ use Rattle.tcl_steps.specs.declared.fault.Fault.{Fault}
 use Rattle.tcl_vars.specs.declared.stop.Stop.{Stop}
 use Rattle.tcl_vars.specs.declared.stop.Stop.TheVariants as stop
 use Rattle.tcl_channels.proofs.ChannelLemmas.{broken_at_once}
+use Rattle.tcl_channels.specs.Leaves.{is_io}
 use Rattle.tcl_channels.specs.Orders.{Orders, Tells, Halts, channel_at}
 use Rattle.tcl_channels.specs.Shown.{output_at}
 use Rattle.tcl_channels.specs.Works.{Works}
@@ -59,6 +60,11 @@ orders_of go p q r e h = subst (λ x. Orders go x r) (sym e) h
 pub halts_works : {A : Type 0} (go : A → Asks) (page : Asks) (stop : Stop) (r : Result Completion Fault) (s : State) → Orders go page (Err stop) → Halts stop r → Works page s r s
 halts_works go page (stop.Error c) r s h e = rw (e, h) refl
 halts_works go page stop.Memory r s h e = rw e (broken_at_once page s)
+
+-- no device has failed
+pub halts_quiet : (stop : Stop) (r : Result Completion Fault) → Halts stop r → is_io r ≡ false
+halts_quiet (stop.Error c) r e = ap is_io e
+halts_quiet stop.Memory r e = ap is_io e
 
 -- ---- a name that is no channel's
 

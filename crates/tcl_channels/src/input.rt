@@ -220,7 +220,8 @@ fn ended<R: Input, W: Output, E: Output>(
     world: &World<'_, '_, '_, R, W, E>,
     channel: Channel,
 ) -> Result<Completion, Fault>
-    ensures { WorksOver (spec.said_ended (channel_at channel)) (channels_of R.to_come W.written E.written world.now) result (channels_of R.to_come W.written E.written world.now) }
+    ensures works { WorksOver (spec.said_ended (channel_at channel)) (channels_of R.to_come W.written E.written world.now) result (channels_of R.to_come W.written E.written world.now) }
+    ensures quiet { is_io result ≡ false }
 {
     match channel {
         Channel::Input => Ok(said(alloc, world.eof())?),
@@ -238,7 +239,8 @@ pub fn eof_page<R: Input, W: Output, E: Output>(
     world: &World<'_, '_, '_, R, W, E>,
     words: &mut [Value],
 ) -> Result<Completion, Fault>
-    ensures { WorksOver (spec.eof_page words.old) (channels_of R.to_come W.written E.written world.now) result (channels_of R.to_come W.written E.written world.now) }
+    ensures works { WorksOver (spec.eof_page words.old) (channels_of R.to_come W.written E.written world.now) result (channels_of R.to_come W.written E.written world.now) }
+    ensures quiet { is_io result ≡ false }
 {
     match eof_told(alloc, words) {
         Ok(channel) => ended(alloc, world, channel),
