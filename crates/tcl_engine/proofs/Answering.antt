@@ -1,11 +1,13 @@
 -- What commands do, each by the form of its contract, is what the machine wants of them.
-use Rattle.std.proofs.Common.{◌≡◌, ℕ, suc, ◌≤◌, List, [], ◌∷◌, length, refl, sym, ap, ◌∙◌, subst, inl, arith, Option, Some, None, Result, Ok, Err}
+use Rattle.std.proofs.Common.{◌≡◌, ℕ, suc, ◌≤◌, List, [], ◌∷◌, length, refl, sym, ap, ◌∙◌, subst, inl, arith, Option, Some, None, Result, Ok, Err, IfOk}
+use Rattle.std.specs.FinMap as map
 use Rattle.std.specs.declared.alloc.AllocError.{AllocError}
+use Rattle.tcl_chars.specs.declared.numbers.Dialect.{Dialect}
 use Rattle.tcl_channels.specs.Works.{Works}
 use Rattle.tcl_control.specs.Asked.{at_once, IsAsked, IsAskedOrExits}
 use Rattle.tcl_frames.specs.Standing.{Standing}
 use Rattle.tcl_meaning.specs.Agreement.{Agrees, IsPart}
-use Rattle.tcl_meaning.specs.Asking.{Asks, value_step}
+use Rattle.tcl_meaning.specs.Asking.{Asks, questions, questions_owed, value_step}
 use Rattle.tcl_meaning.specs.Beginnings.{channels_of, OutputsBegin, Goes, FramesStay, calls, Called}
 use Rattle.tcl_meaning.specs.Completions.{Completion}
 use Rattle.tcl_meaning.specs.Effects.{Plain, Prog, Give, Look, Make, Link, Write, Take, HasEnded, Exit, Call, ◌>>=◌, Got, Gives, Broke, Exits, Untold, on_got, nothing_runs, does}
@@ -13,7 +15,9 @@ use Rattle.tcl_meaning.specs.Frames.{Frame}
 use Rattle.tcl_meaning.specs.State.{Commands, Channels, State, Store, remains}
 use Rattle.tcl_meaning.specs.Tasks as tasks
 use Rattle.tcl_meaning.specs.Value.{Value, Has, Fails}
+use Rattle.tcl_meaning.specs.Pages.{owed}
 use Rattle.tcl_meaning.proofs.Onward.{outputs_same, onward_stops}
+use Rattle.tcl_meaning.proofs.Questions.{owed_asks}
 use Rattle.tcl_meaning.proofs.Runs.{exec_bind, exec_goes}
 use Rattle.tcl_steps.specs.Views as views
 use Rattle.tcl_steps.specs.declared.step.Step.{Step}
@@ -30,8 +34,9 @@ use Rattle.tcl_vm.specs.declared.engine.Stop.{Stop}
 use Rattle.tcl_vm.specs.declared.engine.Stop.TheVariants as stop
 use Rattle.tcl_vars.proofs.FrameCounts.{given_count}
 use Rattle.tcl_vars.specs.Comes.{state_of}
-use Rattle.tcl_vars.specs.Ends.{Does, DoesAsk, DoesIn}
+use Rattle.tcl_vars.specs.Ends.{first_step, Does, DoesAsk, DoesIn}
 use Rattle.tcl_engine.specs.Answered.{host_views, Answered}
+use Rattle.tcl_engine.proofs.Scoping.{no_channels}
 
 abbrev Asked : Type 0
 Asked = Step Scope Owes Loop
@@ -132,11 +137,6 @@ pub asked_over_as : (r : Result Asked AllocError) (a : Asked) (page : Asks) (f g
 asked_over_as r a page f g is does cs channels units =
     first_answers page a (state_of cs channels units f) (state_of cs channels units g) ((subst (λ x. DoesAsk page f x g) is does).same cs channels units) refl
 
-pub done_over_as : (r : Result Completion AllocError) (c : Completion) (page : Asks) (f g : Standing) → r ≡ Ok c → Does page f r g
-    → (cs : Commands) (channels : Channels) (units : ℕ) → Answered page (state_of cs channels units f) (Ok (step.Done c)) (state_of cs channels units g)
-done_over_as r c page f g is does cs channels units =
-    first_answers page (step.Done c) (state_of cs channels units f) (state_of cs channels units g) ((subst (λ x. Does page f x g) is does).same cs channels units) refl
-
 pub done_in_as : (r : Result Completion AllocError) (c : Completion) (page : Asks) (s t : Store) → r ≡ Ok c → DoesIn page s r t
     → (channels : Channels) (units : ℕ) → Answered page (record { store = s; channels = channels; units = units }) (Ok (step.Done c)) (record { store = t; channels = channels; units = units })
 done_in_as r c page s t is does channels units =
@@ -159,8 +159,8 @@ works_answers page c s t agrees adds free frames =
       frames = frames;
     }
 
-pub worked_as : (r : Result Completion Fault) (c : Completion) (page : Asks) (s t : State) → r ≡ Ok c → Works page s r t → OutputsBegin s.channels t.channels → t.units ≡ s.units → SameFrames s t → Answered page s (Ok (step.Done c)) t
-worked_as r c page s t is works = works_answers page c s t (subst (λ x. Works page s x t) is works)
+pub worked_as : (r : Result Completion Fault) (c : Completion) (page : Asks) (s t : State) → r ≡ Ok c → Works page s r t → OutputsBegin s.channels t.channels → t.units ≡ s.units → IfOk r (λ _. SameFrames s t) → Answered page s (Ok (step.Done c)) t
+worked_as r c page s t is works adds free frames = works_answers page c s t (subst (λ x. Works page s x t) is works) adds free (subst (λ x. IfOk x (λ _. SameFrames s t)) is frames)
 
 pub faulted_as : (result : Result Asked Stop) (r : Result Completion Fault) (f : Fault) (page : Asks) (s t : State) → result ≡ Err (stop_by f) → r ≡ Err f → Works page s r t → OutputsBegin s.channels t.channels → t.units ≡ s.units → Answered page s result t
 faulted_as result r (fault.Exit n) page s t is was works adds free = absurd (subst (λ x. Works page s x t) was works)
@@ -174,3 +174,40 @@ pub exits_as : (result : Result Asked Stop) (r : Result Asked Fault) (f : Fault)
 exits_as result r (fault.Exit n) page s is was asks = subst (λ x. Answered page s x s) (sym is) (exit_answers page n s (subst (λ x. IsAskedOrExits x page) was asks))
 exits_as result r fault.Memory page s is was asks = subst (λ x. Answered page s x s) (sym is) (broken_answers page s s refl refl)
 exits_as result r fault.Io page s is was asks = absurd (subst (λ x. IsAskedOrExits x page) was asks)
+
+-- ---- over frames
+
+-- a command that is done asks for nothing more
+pub done_asks : (r : Result Completion AllocError) (c : Completion) (page : Asks) (f g : Standing) → r ≡ Ok c → Does page f r g → DoesAsk {E = AllocError} page f (Ok (step.Done c)) g
+done_asks r c page f g is does = subst (λ x. Does page f x g) is does
+
+-- a command that asks at once leaves the frames
+asked_leaves : (page : Asks) (x : tasks.Step) → at_once page ≡ Some x → (s : State) → does (first_step page) s ≡ Gives x s
+asked_leaves (Give (Has y)) x e s = cc
+asked_leaves (Give (Fails c)) x e s = cc
+asked_leaves (Look g) x e s = absurd cc
+asked_leaves (Make ch p) x e s = absurd cc
+asked_leaves (Link level other local g) x e s = absurd cc
+asked_leaves (Write o t p) x e s = absurd cc
+asked_leaves (Take want g) x e s = absurd cc
+asked_leaves (HasEnded g) x e s = absurd cc
+asked_leaves (Exit n) x e s = absurd cc
+asked_leaves (Call scope task g) x e s = absurd task
+
+pub asks_over : (r : Result Asked AllocError) (page : Asks) (f : Standing) → IsAsked r page → DoesAsk page f r f
+asks_over (Ok a) page f asks = record { same = λ cs channels units. asked_leaves page (views.step_of a) asks (state_of cs channels units f) }
+asks_over (Err e) page f asks = tt
+
+-- what is owed asks no more often than it owes
+pub owed_fewer : (dialect : Dialect) (o : tasks.Owes) (c : Completion) (r : Result Asked Stop) (f g : Standing) → DoesAsk (owed dialect o c) f r g → IfOk r (λ a. questions (step_of host_views a) ≤ questions_owed o)
+owed_fewer dialect o c (Ok a) f g does_ask =
+    let s = state_of map.empty no_channels 0 f in
+    let t = state_of map.empty no_channels 0 g in
+    let v = from_first (does (owed dialect o c) s) (views.step_of a) t (sym (exec_bind nothing_runs (owed dialect o c) (λ v. Give (value_step v)) s) ∙ does_ask.same map.empty no_channels 0) in
+    subst (λ x. questions x ≤ questions_owed o) (v.2 ∙ same_step a) (owed_asks dialect o c s t v.0 v.1)
+owed_fewer dialect o c (Err e) f g does_ask = tt
+
+-- as many frames stand
+pub same_count : {E : Type 0} (r : Result Completion E) (s t : State) → IfOk r (λ _. length t.store.frames ≡ length s.store.frames) → IfOk r (λ _. SameFrames s t)
+same_count (Ok c) s t h = record { count = h }
+same_count (Err e) s t h = tt

@@ -13,7 +13,7 @@ use Rattle.tcl_engine.specs.Undoing.{undone_shown}
 use Rattle.tcl_engine.specs.declared.undone.Undone.{Undone}
 use Rattle.tcl_engine.specs.declared.undone.Undone.TheVariants as undone
 
-no_channels : Channels
+pub no_channels : Channels
 no_channels = record { input = None; met_end = false; out = None; err = None }
 
 abbrev pub Can : Undone → Standing → Type 0

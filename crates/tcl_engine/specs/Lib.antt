@@ -1,3 +1,5 @@
 pub mod Answered
+pub mod Hosts
 pub mod Kinds
+pub mod Leaving
 pub mod Undoing

@@ -10,14 +10,16 @@ use tcl_control::{
     break_page, catch_page, continue_page, error_page, eval_page, expr_page, for_page, if_page,
     return_page, switch_page, while_page,
 };
+use tcl_each::{dict_for_page, foreach_page, lmap_page};
 use tcl_meaning::Page;
+use tcl_procs::apply_page;
 use tcl_pure::pure_done;
 use tcl_steps::{Loop, Owes, Scope, Step};
 use tcl_values::Value;
 
 /// A command that asks at once, whatever scripts keep.
 #[tactic(auto, unfolding(tcl_meaning::specs::Pages::page_asks))]
-pub fn at_once(
+pub(crate) fn at_once(
     alloc: Global,
     page: Page,
     words: &mut [Value],
@@ -27,9 +29,13 @@ pub fn at_once(
 {
     match page {
         Page::Pure(pure) => pure_done(alloc, Dialect::Tcl86, pure, words),
+        Page::Apply => apply_page(alloc, words),
         Page::If => if_page(alloc, words),
         Page::While => while_page(alloc, Dialect::Tcl86, words),
         Page::For => for_page(alloc, words),
+        Page::Foreach => foreach_page(alloc, words),
+        Page::Lmap => lmap_page(alloc, words),
+        Page::DictFor => dict_for_page(alloc, words),
         Page::Switch => switch_page(alloc, words),
         Page::Eval => eval_page(alloc, words),
         Page::Expr => expr_page(alloc, words),

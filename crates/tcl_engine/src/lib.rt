@@ -1,17 +1,20 @@
-//! Commands as the machine wants them: what each form of contract says of a command is carried over to what an engine owes, and
-//! the frames in which scripts are run are entered and left.
+//! The engine of the machine: commands by their pages over frames, command table and devices. What each form of contract says of a
+//! command is carried over to what an engine owes.
 #![tactic(auto)]
 
+mod calls;
+mod channels;
 mod control;
+mod engine;
+mod frames;
+mod host;
 mod kept;
 mod lifts;
+mod looking;
+mod owed;
 mod pages;
 mod scopes;
 mod undone;
 
-pub use control::at_once;
-pub use kept::Kept;
-pub use lifts::{asked, asked_over, done_in, done_over, exited, worked};
-pub use pages::over_commands;
-pub use scopes::{enter, leave};
+pub use host::{Host, host_over};
 pub use undone::Undone;

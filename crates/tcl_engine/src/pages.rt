@@ -20,7 +20,7 @@ use tcl_vm::Stop;
 
 /// A command over the command table.
 #[tactic(auto, unfolding(tcl_meaning::specs::Pages::page_asks))]
-pub fn over_commands(
+pub(crate) fn over_commands(
     alloc: Global,
     table: &mut Table,
     page: Page,

@@ -14,7 +14,7 @@ use tcl_frames::Frames;
 use tcl_steps::Scope;
 
 /// A script of this scope begins: what is undone when it has ended.
-pub fn enter(alloc: Global, frames: &mut Frames, scope: Scope) -> Result<Undone, AllocError>
+pub(crate) fn enter(alloc: Global, frames: &mut Frames, scope: Scope) -> Result<Undone, AllocError>
     ensures undone { (cs : Commands) (channels : Channels) (units : ℕ) → IfOk result (λ u. undone_shown u ≡ undone_of (scope_of scope) (state_of cs channels units frames.old)) }
     ensures entered { (cs : Commands) (channels : Channels) (units : ℕ) → OnOk result (state_of cs channels units frames.new ≡ entered (scope_of scope) (state_of cs channels units frames.old)) }
     ensures can { (cs : Commands) (channels : Channels) (units : ℕ) → IfOk result (λ u. CanUndo (undone_shown u) (state_of cs channels units frames.new)) }
@@ -36,7 +36,7 @@ pub fn enter(alloc: Global, frames: &mut Frames, scope: Scope) -> Result<Undone,
 }
 
 /// It has ended.
-pub fn leave(frames: &mut Frames, undone: Undone)
+pub(crate) fn leave(frames: &mut Frames, undone: Undone)
     requires { (cs : Commands) (channels : Channels) (units : ℕ) → CanUndo (undone_shown undone) (state_of cs channels units frames.old) }
     ensures { (cs : Commands) (channels : Channels) (units : ℕ) → state_of cs channels units frames.new ≡ undo (undone_shown undone) (state_of cs channels units frames.old) }
 {

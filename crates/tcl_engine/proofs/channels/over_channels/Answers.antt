@@ -1,0 +1,10 @@
+use Rattle.std.proofs.Common.{refl}
+use Rattle.tcl_engine.proofs.Answering.{same_count}
+use Rattle.tcl_engine.proofs.Calling.{gets_answers}
+use Rattle.tcl_engine.proofs.channels.over_channels.Goals as goal
+
+pub returns-in-Gets-clause-answered : goal.returns-in-Gets-clause-answered
+returns-in-Gets-clause-answered g c =
+    λ cs units.
+    gets_answers _ _ _ c.args.page c.args.words.now c.in-Gets.is
+      (c.worked-in-Gets.ensures.answered _ _ _ (c.gets_page.ensures.works cs units) c.gets_page.ensures.adds refl (same_count c.gets_page.result _ _ c.gets_page.ensures.count))

@@ -1,0 +1,178 @@
+//! Commands that are called.
+ghost use Rattle.std.specs.Prelude.{◌∷◌, [], List, None};
+ghost use Rattle.std.specs.Str.{chars};
+ghost use Rattle.tcl_chars.specs.declared.numbers.Dialect.TheVariants as dialect;
+ghost use Rattle.tcl_control.specs.Asked.{IsAsked};
+ghost use Rattle.tcl_engine.specs.Answered.{Answered};
+ghost use Rattle.tcl_engine.specs.Hosts.{shown, HostLeaves};
+ghost use Rattle.tcl_meaning.specs.Asking as asking;
+ghost use Rattle.tcl_meaning.specs.Completions.{nothing};
+ghost use Rattle.tcl_meaning.specs.Pages.{page_asks, command_asks, built_in_asks, ensemble_asks, subcommand_asks, invoked};
+ghost use Rattle.tcl_pages.specs.Texts.{Text};
+ghost use Rattle.tcl_vm.specs.Engines.{is_io};
+
+use crate::channels::over_channels;
+use crate::control::at_once;
+use crate::frames::over_frames;
+use crate::host::Host;
+use crate::lifts::{asked, asked_over, done_in, exited};
+use crate::looking::seen;
+use crate::pages::over_commands;
+use std::alloc::{AllocError, Global};
+use tcl_arguments::text_at;
+use tcl_chan::device::{Input, Output};
+use tcl_chars::Dialect;
+use tcl_control::exit_page;
+use tcl_ensembles::{subcommand, subcommand_usage, unknown_subcommand};
+use tcl_frames::without_colons;
+use tcl_meaning::{BuiltIn, Ensemble, Page};
+use tcl_procs::call_procedure;
+use tcl_steps::{Completion, Loop, Owes, Scope, Step};
+use tcl_table::Meaning;
+use tcl_values::Value;
+use tcl_vm::Stop;
+
+// A command without words.
+fn no_words(alloc: Global) -> Result<Step<Scope, Owes, Loop>, AllocError>
+    ensures { IsAsked result (asking.done nothing) }
+{
+    Ok(Step::Done(Completion::nothing(alloc)?))
+}
+
+// A word that names no command.
+fn unknown(alloc: Global, word: &str) -> Result<Step<Scope, Owes, Loop>, AllocError>
+    ensures { (words : List Text) → IsAsked result (command_asks dialect.Tcl86 None (chars word.now) words) }
+{
+    Ok(Step::Done(Completion::unknown_command(alloc, word)?))
+}
+
+// A command with subcommands that is called without one.
+fn no_subcommand(
+    alloc: Global,
+    ensemble: Ensemble,
+) -> Result<Step<Scope, Owes, Loop>, AllocError>
+    ensures { IsAsked result (ensemble_asks dialect.Tcl86 ensemble []) }
+{
+    Ok(Step::Done(subcommand_usage(alloc, ensemble)?))
+}
+
+// A word that names no subcommand.
+fn unknown_word(
+    alloc: Global,
+    ensemble: Ensemble,
+    word: &str,
+) -> Result<Step<Scope, Owes, Loop>, AllocError>
+    ensures { (words : List Text) → IsAsked result (subcommand_asks dialect.Tcl86 ensemble (chars word.now) None words) }
+{
+    Ok(Step::Done(unknown_subcommand(alloc, ensemble, word)?))
+}
+
+impl<R: Input, W: Output, E: Output> Host<'_, '_, '_, '_, '_, '_, '_, R, W, E> {
+    // A command, or a subcommand, by its page.
+    fn page(
+        &mut self,
+        page: Page,
+        words: &mut [Value],
+    ) -> Result<Step<Scope, Owes, Loop>, Stop>
+        ensures answered { Answered (page_asks dialect.Tcl86 page words.old) (shown R.to_come W.written E.written self.old) result (shown R.to_come W.written E.written self.new) }
+        ensures leaves { HostLeaves R.failed_calls W.failed_calls E.failed_calls (is_io result) self.old self.new }
+    {
+        match page {
+            Page::Seen(page) => done_in(seen(self.alloc, self.frames, self.table, page, words)),
+            Page::Exit => exited(exit_page(self.alloc, Dialect::Tcl86, words)),
+            Page::Proc | Page::Rename => over_commands(self.alloc, self.table, page, words),
+            Page::Puts | Page::Gets | Page::Read | Page::Eof | Page::Flush => {
+                over_channels(self.alloc, self.frames, self.world, page, words)
+            }
+            Page::Update(_)
+            | Page::Set
+            | Page::Unset
+            | Page::Lassign
+            | Page::ArraySet
+            | Page::ArrayUnset
+            | Page::Uplevel
+            | Page::Upvar
+            | Page::Global => asked_over(over_frames(self.alloc, self.frames, page, words)),
+            _ => asked(at_once(self.alloc, page, words)),
+        }
+    }
+
+    // The subcommand of a command that a word names.
+    fn subcommand(
+        &mut self,
+        ensemble: Ensemble,
+        word: &str,
+        words: &mut [Value],
+    ) -> Result<Step<Scope, Owes, Loop>, Stop>
+        ensures answered { Answered (ensemble_asks dialect.Tcl86 ensemble (chars word.now ∷ words.old)) (shown R.to_come W.written E.written self.old) result (shown R.to_come W.written E.written self.new) }
+        ensures leaves { HostLeaves R.failed_calls W.failed_calls E.failed_calls (is_io result) self.old self.new }
+    {
+        match subcommand(ensemble, word) {
+            None => asked(unknown_word(self.alloc, ensemble, word)),
+            Some(page) => self.page(page, words),
+        }
+    }
+
+    // A command with subcommands.
+    fn ensemble(
+        &mut self,
+        ensemble: Ensemble,
+        words: &mut [Value],
+    ) -> Result<Step<Scope, Owes, Loop>, Stop>
+        ensures answered { Answered (ensemble_asks dialect.Tcl86 ensemble words.old) (shown R.to_come W.written E.written self.old) result (shown R.to_come W.written E.written self.new) }
+        ensures leaves { HostLeaves R.failed_calls W.failed_calls E.failed_calls (is_io result) self.old self.new }
+    {
+        if words.is_empty() {
+            return asked(no_subcommand(self.alloc, ensemble));
+        }
+        let word = text_at(self.alloc, words, 0)?;
+        self.subcommand(ensemble, word.as_str(), &mut words[1..])
+    }
+
+    // A built-in command.
+    fn built_in(
+        &mut self,
+        built_in: BuiltIn,
+        words: &mut [Value],
+    ) -> Result<Step<Scope, Owes, Loop>, Stop>
+        ensures answered { Answered (built_in_asks dialect.Tcl86 built_in words.old) (shown R.to_come W.written E.written self.old) result (shown R.to_come W.written E.written self.new) }
+        ensures leaves { HostLeaves R.failed_calls W.failed_calls E.failed_calls (is_io result) self.old self.new }
+    {
+        match built_in {
+            BuiltIn::Page(page) => self.page(page, words),
+            BuiltIn::Ensemble(ensemble) => self.ensemble(ensemble, words),
+        }
+    }
+
+    // The command that a word stands for now.
+    fn command(
+        &mut self,
+        word: &str,
+        words: &mut [Value],
+    ) -> Result<Step<Scope, Owes, Loop>, Stop>
+        ensures answered { Answered (invoked dialect.Tcl86 (chars word.now ∷ words.old)) (shown R.to_come W.written E.written self.old) result (shown R.to_come W.written E.written self.new) }
+        ensures leaves { HostLeaves R.failed_calls W.failed_calls E.failed_calls (is_io result) self.old self.new }
+    {
+        match self.table.find(without_colons(word)) {
+            None => asked(unknown(self.alloc, word)),
+            Some(command) => match command.meaning() {
+                Meaning::BuiltIn(built_in) => self.built_in(built_in, words),
+                Meaning::Procedure(procedure) => {
+                    asked(call_procedure(self.alloc, word, procedure, words))
+                }
+            },
+        }
+    }
+
+    /// Calls a command: the first of its words is looked up now.
+    pub(crate) fn invoke(&mut self, words: &mut [Value]) -> Result<Step<Scope, Owes, Loop>, Stop>
+        ensures answered { Answered (invoked dialect.Tcl86 words.old) (shown R.to_come W.written E.written self.old) result (shown R.to_come W.written E.written self.new) }
+        ensures leaves { HostLeaves R.failed_calls W.failed_calls E.failed_calls (is_io result) self.old self.new }
+    {
+        if words.len() == 0 {
+            return asked(no_words(self.alloc));
+        }
+        let word = text_at(self.alloc, words, 0)?;
+        self.command(word.as_str(), &mut words[1..])
+    }
+}

@@ -1,0 +1,105 @@
+//! The engine of the machine.
+ghost use Rattle.tcl_chars.specs.declared.numbers.Dialect.TheVariants as dialect;
+ghost use Rattle.tcl_engine.specs.Leaving as leaving;
+ghost use Rattle.tcl_engine.specs.Answered.{host_views};
+ghost use Rattle.tcl_engine.specs.Hosts.{shown, HostLeaves};
+
+use crate::host::Host;
+use crate::lifts::asked_over;
+use crate::owed::after;
+use crate::scopes;
+use crate::undone::Undone;
+use std::alloc::AllocError;
+use tcl_activation::{Activation, Progress as Instructed};
+use tcl_chan::device::{Input, Output};
+use tcl_each::turned;
+use tcl_steps::{Completion, Loop, Owes, Scope, Step};
+use tcl_values::Value;
+use tcl_vm::{Engine, Progress, Stop};
+
+impl<R: Input, W: Output, E: Output> Engine for Host<'_, '_, '_, '_, '_, '_, '_, R, W, E> {
+    type Activation = Activation;
+    type Undone = Undone;
+    type Scope = Scope;
+    type Owes = Owes;
+    type Loop = Loop;
+
+    ghost dialect = { dialect.Tcl86 };
+
+    ghost views = { host_views };
+
+    ghost shown = { shown R.to_come W.written E.written };
+
+    ghost leaves = { HostLeaves R.failed_calls W.failed_calls E.failed_calls };
+
+    fn step(&mut self, activation: &mut Activation) -> Result<Progress<Scope, Owes, Loop>, Stop> {
+        match self.instruct(activation)? {
+            Instructed::Moved => Ok(Progress::Moved),
+            Instructed::Spent => Ok(Progress::Spent),
+            Instructed::Turned => Ok(Progress::Turned),
+            Instructed::Calls(mut words) => Ok(Progress::Asks(self.invoke(&mut words)?)),
+            Instructed::Over(completion) => Ok(Progress::Over(completion)),
+            Instructed::Broke => Err(Stop::Budget),
+        }
+    }
+
+    fn depth(&self, activation: &Activation) -> u64 {
+        u64::from(activation.depth())
+    }
+
+    fn answer(&self, activation: &mut Activation, completion: Completion) -> Result<(), AllocError> {
+        activation.answer(completion)
+    }
+
+    fn too_deep(&self) -> Result<Completion, AllocError> {
+        Completion::too_deep(self.alloc)
+    }
+
+    fn script(&mut self, mut text: Value, depth: u64) -> Result<Activation, AllocError> {
+        let text = text.text(self.alloc)?;
+        let code = self.codes.script(self.alloc, text.as_str())?;
+        Activation::new(self.alloc, code, depth as u32)
+    }
+
+    fn expression(&mut self, mut text: Value, depth: u64) -> Result<Activation, AllocError> {
+        let text = text.text(self.alloc)?;
+        let code = self.codes.expression(self.alloc, text.as_str())?;
+        Activation::new(self.alloc, code, depth as u32)
+    }
+
+    fn enter(&mut self, scope: Scope) -> Result<Undone, AllocError> {
+        scopes::enter(self.alloc, self.frames, scope)
+    }
+
+    fn stay(&self) -> Undone {
+        Undone::Nothing
+    }
+
+    fn undo(&mut self, undone: Undone) {
+        scopes::leave(self.frames, undone);
+    }
+
+    fn owed(
+        &mut self,
+        owes: Owes,
+        completion: Completion,
+    ) -> Result<Step<Scope, Owes, Loop>, Stop> {
+        asked_over(after(self.alloc, self.frames, owes, completion))
+    }
+
+    fn turned(&mut self, turn: Loop) -> Result<Step<Scope, Owes, Loop>, Stop> {
+        asked_over(turned(self.alloc, self.frames, turn))
+    }
+
+    fn spend(&mut self) -> bool {
+        if self.units == 0 {
+            return false;
+        }
+        self.units -= 1;
+        true
+    }
+
+    ghost leaves_same = { leaving.leaves_same R.failed_calls W.failed_calls E.failed_calls };
+
+    ghost leaves_then = { leaving.leaves_then R.failed_calls W.failed_calls E.failed_calls };
+}
