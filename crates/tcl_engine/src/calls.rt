@@ -47,10 +47,7 @@ fn unknown(alloc: Global, word: &str) -> Result<Step<Scope, Owes, Loop>, AllocEr
 }
 
 // A command with subcommands that is called without one.
-fn no_subcommand(
-    alloc: Global,
-    ensemble: Ensemble,
-) -> Result<Step<Scope, Owes, Loop>, AllocError>
+fn no_subcommand(alloc: Global, ensemble: Ensemble) -> Result<Step<Scope, Owes, Loop>, AllocError>
     ensures { IsAsked result (ensemble_asks dialect.Tcl86 ensemble []) }
 {
     Ok(Step::Done(subcommand_usage(alloc, ensemble)?))
@@ -69,11 +66,7 @@ fn unknown_word(
 
 impl<R: Input, W: Output, E: Output> Host<'_, '_, '_, '_, '_, '_, '_, R, W, E> {
     // A command, or a subcommand, by its page.
-    fn page(
-        &mut self,
-        page: Page,
-        words: &mut [Value],
-    ) -> Result<Step<Scope, Owes, Loop>, Stop>
+    fn page(&mut self, page: Page, words: &mut [Value]) -> Result<Step<Scope, Owes, Loop>, Stop>
         ensures answered { Answered (page_asks dialect.Tcl86 page words.old) (shown R.to_come W.written E.written self.old) result (shown R.to_come W.written E.written self.new) }
         ensures leaves { HostLeaves R.failed_calls W.failed_calls E.failed_calls (is_io result) self.old self.new }
     {
@@ -145,11 +138,7 @@ impl<R: Input, W: Output, E: Output> Host<'_, '_, '_, '_, '_, '_, '_, R, W, E> {
     }
 
     // The command that a word stands for now.
-    fn command(
-        &mut self,
-        word: &str,
-        words: &mut [Value],
-    ) -> Result<Step<Scope, Owes, Loop>, Stop>
+    fn command(&mut self, word: &str, words: &mut [Value]) -> Result<Step<Scope, Owes, Loop>, Stop>
         ensures answered { Answered (invoked dialect.Tcl86 (chars word.now ∷ words.old)) (shown R.to_come W.written E.written self.old) result (shown R.to_come W.written E.written self.new) }
         ensures leaves { HostLeaves R.failed_calls W.failed_calls E.failed_calls (is_io result) self.old self.new }
     {

@@ -19,9 +19,13 @@ use tcl_vm::{Engine, Progress, Stop};
 
 impl<R: Input, W: Output, E: Output> Engine for Host<'_, '_, '_, '_, '_, '_, '_, R, W, E> {
     type Activation = Activation;
+
     type Undone = Undone;
+
     type Scope = Scope;
+
     type Owes = Owes;
+
     type Loop = Loop;
 
     ghost dialect = { dialect.Tcl86 };
@@ -47,7 +51,11 @@ impl<R: Input, W: Output, E: Output> Engine for Host<'_, '_, '_, '_, '_, '_, '_,
         u64::from(activation.depth())
     }
 
-    fn answer(&self, activation: &mut Activation, completion: Completion) -> Result<(), AllocError> {
+    fn answer(
+        &self,
+        activation: &mut Activation,
+        completion: Completion,
+    ) -> Result<(), AllocError> {
         activation.answer(completion)
     }
 

@@ -39,7 +39,9 @@ pub(crate) fn asked_over(
 }
 
 /// A command over frames and commands is done.
-pub(crate) fn done_in(completion: Result<Completion, AllocError>) -> Result<Step<Scope, Owes, Loop>, Stop>
+pub(crate) fn done_in(
+    completion: Result<Completion, AllocError>,
+) -> Result<Step<Scope, Owes, Loop>, Stop>
     ensures answered { (page : Asks) (s t : Store) → DoesIn page s completion t → (channels : Channels) (units : ℕ) → Answered page (record { store = s; channels = channels; units = units }) result (record { store = t; channels = channels; units = units }) }
     ensures quiet { is_io result ≡ false }
 {
@@ -55,7 +57,9 @@ pub(crate) fn worked(completion: Result<Completion, Fault>) -> Result<Step<Scope
 }
 
 /// A command asks at once, or ends the run.
-pub(crate) fn exited(step: Result<Step<Scope, Owes, Loop>, Fault>) -> Result<Step<Scope, Owes, Loop>, Stop>
+pub(crate) fn exited(
+    step: Result<Step<Scope, Owes, Loop>, Fault>,
+) -> Result<Step<Scope, Owes, Loop>, Stop>
     ensures answered { (page : Asks) (s : State) → IsAskedOrExits step page → Answered page s result s }
     ensures quiet { (page : Asks) → IsAskedOrExits step page → is_io result ≡ false }
 {
