@@ -1,0 +1,4 @@
+pub mod Ending
+mod Flushed
+mod Keeping
+mod Standing

@@ -1,0 +1,5 @@
+pub mod Channels
+pub mod Host
+pub mod Interp
+pub mod Outcome
+pub mod Report
