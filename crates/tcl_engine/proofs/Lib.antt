@@ -1,6 +1,4 @@
 pub mod Answering
 pub mod Calling
-pub mod Leaving
 pub mod Owing
 pub mod Scoping
-pub mod Stepping
