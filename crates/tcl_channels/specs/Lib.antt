@@ -1,4 +1,5 @@
 pub mod Shown
 pub mod Works
 pub mod Leaves
+pub mod Leaving
 pub mod Orders

@@ -20,7 +20,7 @@ use crate::looking::seen;
 use crate::pages::over_commands;
 use std::alloc::{AllocError, Global};
 use tcl_arguments::text_at;
-use tcl_chan::device::{Input, Output};
+use tcl_channels::Devices;
 use tcl_chars::Dialect;
 use tcl_control::exit_page;
 use tcl_ensembles::{subcommand, subcommand_usage, unknown_subcommand};
@@ -64,18 +64,18 @@ fn unknown_word(
     Ok(Step::Done(unknown_subcommand(alloc, ensemble, word)?))
 }
 
-impl<R: Input, W: Output, E: Output> Host<'_, '_, '_, '_, '_, '_, '_, R, W, E> {
+impl<V: Devices> Host<'_, '_, '_, '_, V> {
     // A command, or a subcommand, by its page.
     fn page(&mut self, page: Page, words: &mut [Value]) -> Result<Step<Scope, Owes, Loop>, Stop>
-        ensures answered { Answered (page_asks dialect.Tcl86 page words.old) (shown R.to_come W.written E.written self.old) result (shown R.to_come W.written E.written self.new) }
-        ensures leaves { HostLeaves R.failed_calls W.failed_calls E.failed_calls (is_io result) self.old self.new }
+        ensures answered { Answered (page_asks dialect.Tcl86 page words.old) (shown V.channels self.old) result (shown V.channels self.new) }
+        ensures leaves { HostLeaves V.leaves (is_io result) self.old self.new }
     {
         match page {
             Page::Seen(page) => done_in(seen(self.alloc, self.frames, self.table, page, words)),
             Page::Exit => exited(exit_page(self.alloc, Dialect::Tcl86, words)),
             Page::Proc | Page::Rename => over_commands(self.alloc, self.table, page, words),
             Page::Puts | Page::Gets | Page::Read | Page::Eof | Page::Flush => {
-                over_channels(self.alloc, self.frames, self.world, page, words)
+                over_channels(self.alloc, self.frames, self.devices, page, words)
             }
             Page::Update(_)
             | Page::Set
@@ -97,8 +97,8 @@ impl<R: Input, W: Output, E: Output> Host<'_, '_, '_, '_, '_, '_, '_, R, W, E> {
         word: &str,
         words: &mut [Value],
     ) -> Result<Step<Scope, Owes, Loop>, Stop>
-        ensures answered { Answered (ensemble_asks dialect.Tcl86 ensemble (chars word.now ∷ words.old)) (shown R.to_come W.written E.written self.old) result (shown R.to_come W.written E.written self.new) }
-        ensures leaves { HostLeaves R.failed_calls W.failed_calls E.failed_calls (is_io result) self.old self.new }
+        ensures answered { Answered (ensemble_asks dialect.Tcl86 ensemble (chars word.now ∷ words.old)) (shown V.channels self.old) result (shown V.channels self.new) }
+        ensures leaves { HostLeaves V.leaves (is_io result) self.old self.new }
     {
         match subcommand(ensemble, word) {
             None => asked(unknown_word(self.alloc, ensemble, word)),
@@ -112,8 +112,8 @@ impl<R: Input, W: Output, E: Output> Host<'_, '_, '_, '_, '_, '_, '_, R, W, E> {
         ensemble: Ensemble,
         words: &mut [Value],
     ) -> Result<Step<Scope, Owes, Loop>, Stop>
-        ensures answered { Answered (ensemble_asks dialect.Tcl86 ensemble words.old) (shown R.to_come W.written E.written self.old) result (shown R.to_come W.written E.written self.new) }
-        ensures leaves { HostLeaves R.failed_calls W.failed_calls E.failed_calls (is_io result) self.old self.new }
+        ensures answered { Answered (ensemble_asks dialect.Tcl86 ensemble words.old) (shown V.channels self.old) result (shown V.channels self.new) }
+        ensures leaves { HostLeaves V.leaves (is_io result) self.old self.new }
     {
         if words.is_empty() {
             return asked(no_subcommand(self.alloc, ensemble));
@@ -128,8 +128,8 @@ impl<R: Input, W: Output, E: Output> Host<'_, '_, '_, '_, '_, '_, '_, R, W, E> {
         built_in: BuiltIn,
         words: &mut [Value],
     ) -> Result<Step<Scope, Owes, Loop>, Stop>
-        ensures answered { Answered (built_in_asks dialect.Tcl86 built_in words.old) (shown R.to_come W.written E.written self.old) result (shown R.to_come W.written E.written self.new) }
-        ensures leaves { HostLeaves R.failed_calls W.failed_calls E.failed_calls (is_io result) self.old self.new }
+        ensures answered { Answered (built_in_asks dialect.Tcl86 built_in words.old) (shown V.channels self.old) result (shown V.channels self.new) }
+        ensures leaves { HostLeaves V.leaves (is_io result) self.old self.new }
     {
         match built_in {
             BuiltIn::Page(page) => self.page(page, words),
@@ -139,8 +139,8 @@ impl<R: Input, W: Output, E: Output> Host<'_, '_, '_, '_, '_, '_, '_, R, W, E> {
 
     // The command that a word stands for now.
     fn command(&mut self, word: &str, words: &mut [Value]) -> Result<Step<Scope, Owes, Loop>, Stop>
-        ensures answered { Answered (invoked dialect.Tcl86 (chars word.now ∷ words.old)) (shown R.to_come W.written E.written self.old) result (shown R.to_come W.written E.written self.new) }
-        ensures leaves { HostLeaves R.failed_calls W.failed_calls E.failed_calls (is_io result) self.old self.new }
+        ensures answered { Answered (invoked dialect.Tcl86 (chars word.now ∷ words.old)) (shown V.channels self.old) result (shown V.channels self.new) }
+        ensures leaves { HostLeaves V.leaves (is_io result) self.old self.new }
     {
         match self.table.find(without_colons(word)) {
             None => asked(unknown(self.alloc, word)),
@@ -155,8 +155,8 @@ impl<R: Input, W: Output, E: Output> Host<'_, '_, '_, '_, '_, '_, '_, R, W, E> {
 
     /// Calls a command: the first of its words is looked up now.
     pub(crate) fn invoke(&mut self, words: &mut [Value]) -> Result<Step<Scope, Owes, Loop>, Stop>
-        ensures answered { Answered (invoked dialect.Tcl86 words.old) (shown R.to_come W.written E.written self.old) result (shown R.to_come W.written E.written self.new) }
-        ensures leaves { HostLeaves R.failed_calls W.failed_calls E.failed_calls (is_io result) self.old self.new }
+        ensures answered { Answered (invoked dialect.Tcl86 words.old) (shown V.channels self.old) result (shown V.channels self.new) }
+        ensures leaves { HostLeaves V.leaves (is_io result) self.old self.new }
     {
         if words.len() == 0 {
             return asked(no_words(self.alloc));

@@ -11,13 +11,13 @@ use crate::scopes;
 use crate::undone::Undone;
 use std::alloc::AllocError;
 use tcl_activation::{Activation, Progress as Instructed};
-use tcl_chan::device::{Input, Output};
+use tcl_channels::Devices;
 use tcl_each::turned;
 use tcl_steps::{Completion, Loop, Owes, Scope, Step};
 use tcl_values::Value;
 use tcl_vm::{Engine, Progress, Stop};
 
-impl<R: Input, W: Output, E: Output> Engine for Host<'_, '_, '_, '_, '_, '_, '_, R, W, E> {
+impl<V: Devices> Engine for Host<'_, '_, '_, '_, V> {
     type Activation = Activation;
 
     type Undone = Undone;
@@ -32,9 +32,9 @@ impl<R: Input, W: Output, E: Output> Engine for Host<'_, '_, '_, '_, '_, '_, '_,
 
     ghost views = { host_views };
 
-    ghost shown = { shown R.to_come W.written E.written };
+    ghost shown = { shown V.channels };
 
-    ghost leaves = { HostLeaves R.failed_calls W.failed_calls E.failed_calls };
+    ghost leaves = { HostLeaves V.leaves };
 
     fn step(&mut self, activation: &mut Activation) -> Result<Progress<Scope, Owes, Loop>, Stop> {
         match self.instruct(activation)? {
@@ -107,7 +107,7 @@ impl<R: Input, W: Output, E: Output> Engine for Host<'_, '_, '_, '_, '_, '_, '_,
         true
     }
 
-    ghost leaves_same = { leaving.leaves_same R.failed_calls W.failed_calls E.failed_calls };
+    ghost leaves_same = { leaving.leaves_same V.leaves V.leaves_same };
 
-    ghost leaves_then = { leaving.leaves_then R.failed_calls W.failed_calls E.failed_calls };
+    ghost leaves_then = { leaving.leaves_then V.leaves V.leaves_then };
 }

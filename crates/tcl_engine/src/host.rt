@@ -8,8 +8,7 @@ ghost use Rattle.tcl_meaning.specs.State.{with_units};
 use crate::kept::Kept;
 use std::alloc::{AllocError, Global};
 use tcl_activation::{Activation, Progress};
-use tcl_chan::device::{Input, Output};
-use tcl_chan::world::World;
+use tcl_channels::Devices;
 use tcl_chars::Dialect;
 use tcl_codes::Codes;
 use tcl_frames::Frames;
@@ -17,50 +16,28 @@ use tcl_table::Table;
 
 /// What a run works on: what an interpreter keeps, and devices. Its units are what is left of them.
 #[derive(Drop)]
-pub struct Host<
-    'frames,
-    'table,
-    'codes,
-    'world,
-    'input,
-    'out,
-    'err,
-    R: Input,
-    W: Output,
-    E: Output,
-> {
+pub struct Host<'frames, 'table, 'codes, 'devices, V: Devices> {
     pub(crate) alloc: Global,
     pub(crate) frames: &'frames mut Frames,
     pub(crate) table: &'table mut Table,
     pub(crate) codes: &'codes mut Codes,
-    pub(crate) world: &'world mut World<'input, 'out, 'err, R, W, E>,
+    pub(crate) devices: &'devices mut V,
     pub(crate) units: u64,
 }
 
 /// The host over what is lent.
-pub fn host_over<
-    'frames,
-    'table,
-    'codes,
-    'world,
-    'input,
-    'out,
-    'err,
-    R: Input,
-    W: Output,
-    E: Output,
->(
+pub fn host_over<'frames, 'table, 'codes, 'devices, V: Devices>(
     alloc: Global,
     frames: &'frames mut Frames,
     table: &'table mut Table,
     codes: &'codes mut Codes,
-    world: &'world mut World<'input, 'out, 'err, R, W, E>,
+    devices: &'devices mut V,
     units: u64,
-) -> Host<'frames, 'table, 'codes, 'world, 'input, 'out, 'err, R, W, E>
+) -> Host<'frames, 'table, 'codes, 'devices, V>
     ensures frames { result.frames ≡ frames.entry }
     ensures table { result.table ≡ table.entry }
     ensures codes { result.codes ≡ codes.entry }
-    ensures world { result.world ≡ world.entry }
+    ensures devices { result.devices ≡ devices.entry }
     ensures units { result.units ≡ units }
 {
     Host {
@@ -68,19 +45,26 @@ pub fn host_over<
         frames,
         table,
         codes,
-        world,
+        devices,
         units,
     }
 }
 
-impl<R: Input, W: Output, E: Output> Host<'_, '_, '_, '_, '_, '_, '_, R, W, E> {
+impl<V: Devices> Host<'_, '_, '_, '_, V> {
+    /// How many units are left.
+    pub fn units(&self) -> u64
+        ensures { result ≡ self.now.units }
+    {
+        self.units
+    }
+
     /// One instruction of a code, or its end.
     pub(crate) fn instruct(&mut self, activation: &mut Activation) -> Result<Progress, AllocError>
         requires { IsOnWay activation.old }
         ensures code { activation.new.code ≡ activation.old.code }
-        ensures done { IsDone result (instruction_at activation.old) (move_of dialect.Tcl86 activation.old (shown R.to_come W.written E.written self.old)) activation.new.spot (shown R.to_come W.written E.written self.old) self.new.units }
-        ensures state { shown R.to_come W.written E.written self.new ≡ with_units self.new.units (shown R.to_come W.written E.written self.old) }
-        ensures leaves { HostLeaves R.failed_calls W.failed_calls E.failed_calls false self.old self.new }
+        ensures done { IsDone result (instruction_at activation.old) (move_of dialect.Tcl86 activation.old (shown V.channels self.old)) activation.new.spot (shown V.channels self.old) self.new.units }
+        ensures state { shown V.channels self.new ≡ with_units self.new.units (shown V.channels self.old) }
+        ensures leaves { HostLeaves V.leaves false self.old self.new }
     {
         let kept = Kept {
             frames: self.frames,

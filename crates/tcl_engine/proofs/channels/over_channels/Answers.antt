@@ -7,4 +7,4 @@ pub returns-in-Gets-clause-answered : goal.returns-in-Gets-clause-answered
 returns-in-Gets-clause-answered g c =
     λ cs units.
     gets_answers _ _ _ c.args.page c.args.words.now c.in-Gets.is
-    (c.worked-in-Gets.ensures.answered _ _ _ (c.gets_page.ensures.works cs units) c.gets_page.ensures.adds refl (same_count c.gets_page.result _ _ c.gets_page.ensures.count))
+    (c.worked-in-Gets.ensures.answered _ _ _ (c.gets.ensures.works cs units) c.gets.ensures.adds refl (same_count c.gets.result _ _ c.gets.ensures.count))

@@ -1,0 +1,6 @@
+//! A run of a script: the machine over its engine.
+#![tactic(auto)]
+
+mod scripts;
+
+pub use scripts::run;
