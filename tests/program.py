@@ -1,7 +1,11 @@
 """Checks of the built program that no case file can say: devices that fail, files that can't be read, great sizes."""
 import os
+import re
 import subprocess
 import tempfile
+import time
+
+import casefile
 
 USAGE = b"usage: tclint ?-budget N? ?file arg ...?\n"
 IO_FAULT = b"read or write failed\n"
@@ -31,7 +35,10 @@ class Program:
 
     def run(self, words, cwd, stdin=b"", stdout=subprocess.PIPE, stderr=subprocess.PIPE, by=()):
         """Runs it on words; `by` are the words of a command that starts it."""
-        started = subprocess.Popen(
+        return self.end(self.start(words, cwd, stdout, stderr, by), stdin)
+
+    def start(self, words, cwd, stdout=subprocess.PIPE, stderr=subprocess.PIPE, by=()):
+        return subprocess.Popen(
             [*by, self.path, *words],
             cwd=cwd,
             env=dict(os.environ, LC_ALL="C.UTF-8"),
@@ -39,6 +46,9 @@ class Program:
             stdout=stdout,
             stderr=stderr,
         )
+
+    def end(self, started, stdin=b""):
+        """Gives what is left of the input to a run, and waits for its end."""
         try:
             out, err = started.communicate(stdin, timeout=SECONDS)
         except subprocess.TimeoutExpired:
@@ -243,6 +253,84 @@ text_check("braces-left-open", lambda: b"puts a\nputs " + b"{" * LONG, b"a\n", 1
 text_check("backslashes", lambda: b"puts " + b"\\\\" * MANY, lambda: b"\\" * MANY + b"\n")
 text_check("brackets-left-open", lambda: b"puts a\nputs " + b"[" * MANY, b"a\n", 1, b"nesting too deep\n")
 
+# ---- whole programs, at the edge
+
+text_check("many-turns", b"set s 0; for {set i 0} {$i < 100000} {incr i} {incr s $i}; puts $s", b"4999950000\n")
+text_check("many-list-elements", b"for {set i 0} {$i < 100000} {incr i} {lappend l $i}; puts [llength $l],[lindex $l end]", b"100000,99999\n")
+text_check("many-keys", b"for {set i 0} {$i < 20000} {incr i} {dict set d k$i $i}; puts [dict size $d],[dict get $d k19999]", b"20000,19999\n")
+text_check("many-array-elements", b"for {set i 0} {$i < 100000} {incr i} {set a($i) $i}; puts [array size a],$a(99999)", b"100000,99999\n")
+text_check("many-pieces-appended", b"for {set i 0} {$i < 100000} {incr i} {append s ab}; puts [string length $s]", b"200000\n")
+text_check("many-sorted", b"for {set i 0} {$i < 50000} {incr i} {lappend l [expr {$i * 7919 % 50000}]}; puts [lindex [lsort -integer $l] 49999]", b"49999\n")
+text_check("many-operands", lambda: b"puts [expr {" + b"1+" * (MANY - 1) + b"1}]", b"100000\n")
+text_check("many-elements-given", lambda: b"puts [llength {" + b"ab " * MANY + b"}]", b"100000\n")
+text_check("lists-in-one-another", b"set x {a b}; for {set i 0} {$i < 1000} {incr i} {set x [list $x]}; puts [string length $x]", b"2003\n")
+text_check("lists-shared", b"set x {}; for {set i 0} {$i < 20} {incr i} {set x [list $x $x]}; puts [string length $x]", b"5242875\n")
+text_check("calls-in-one-another", b"proc f n {if {$n == 0} {return 0}; expr {1 + [f [expr {$n - 1}]]}}; puts [f 300]", b"300\n")
+TOO_DEEP = b"too many nested evaluations (infinite loop?)\n"
+text_check("calls-without-end", b"puts a; proc f n {f $n}; f 1", b"a\n", 1, TOO_DEEP)
+text_check("pattern-of-stars", lambda: b"puts [string match " + b"*a" * 30 + b"b " + b"a" * 60 + b"]", b"0\n")
+
+# ---- input
+
+
+def run_by_bytes(tested, room, text, stdin):
+    """Runs a script's text on an input that comes a byte at a time."""
+    started = tested.start([write(room, text)], room)
+    try:
+        for byte in stdin:
+            os.write(started.stdin.fileno(), bytes([byte]))
+            time.sleep(0.002)
+    except BrokenPipeError:
+        pass
+    return tested.end(started)
+
+
+def input_check(name, text, stdin, stdout):
+    @check(f"input/{name}")
+    def _(tested, room):
+        expect(run_text(tested, room, text, stdin=stdin), 0, stdout)
+
+    @check(f"input/{name}-by-bytes")
+    def _(tested, room):
+        expect(run_by_bytes(tested, room, text, stdin), 0, stdout)
+
+
+input_check("lines", "while {[gets stdin l] >= 0} {puts <$l>}; puts [eof stdin]", b"a\r\nb", b"<a>\n<b>\n1\n")
+input_check("some-characters", "puts [read stdin 3][eof stdin]", b"abcd", b"abc0\n")
+input_check("more-characters", "puts [read stdin 9][eof stdin]", b"abcd", b"abcd1\n")
+input_check("ill-formed", "puts [gets stdin]", b"\xff\n", b"\xef\xbf\xbd\n")
+input_check("ill-formed-parts", "puts [string length [gets stdin]]", b"\xe2\x82A\xf0\x80\x80\n", b"5\n")
+input_check(
+    "past-ascii",
+    "puts [gets stdin]|[read stdin 2]|[read stdin]",
+    "a\u00e9\u20ac\U0001f600\n\u00fc\u20acx\r\n".encode(),
+    "a\u00e9\u20ac\U0001f600|\u00fc\u20ac|x\n\n".encode(),
+)
+
+
+@check("input/many-lines")
+def _(tested, room):
+    text = "set n 0; while {[gets stdin l] >= 0} {incr n [string length $l]}; puts $n"
+    expect(run_text(tested, room, text, stdin=b"abcdefghi\n" * MANY), 0, b"900000\n")
+
+
+@check("input/line-is-answered")
+def _(tested, room):
+    # the input goes on: a line that is there must be enough
+    started = tested.start([write(room, "puts [gets stdin]; gets stdin l; puts end")], room)
+    os.write(started.stdin.fileno(), b"abc\n")
+    answer = os.read(started.stdout.fileno(), 100)
+    expect(tested.end(started), 0, b"end\n")
+    if answer not in (b"abc\n", b"abc"):
+        raise Wrong(f"the answer: {shown(answer)}")
+
+
+@check("input/folder")
+def _(tested, room):
+    folder = by_shell('exec "$0" "$@" <.')
+    expect(run_text(tested, room, "puts a; catch {gets stdin l}; puts b", by=folder), 4, b"a\n", IO_FAULT)
+
+
 # ---- devices that fail
 
 
@@ -254,6 +342,12 @@ def full():
 def _(tested, room):
     with full() as device:
         expect(run_text(tested, room, "set x 1\nputs $x\nputs b\n", stdout=device), 4, b"", IO_FAULT)
+
+
+@check("output/full-and-caught")
+def _(tested, room):
+    with full() as device:
+        expect(run_text(tested, room, "catch {puts a}\nputs stderr no\n", stdout=device), 4, b"", IO_FAULT)
 
 
 @check("output/full-and-nothing-to-write")
@@ -357,3 +451,37 @@ def _(tested, room):
     scarce = by_shell('ulimit -v 200000; exec "$0" "$@"')
     script = "set x abcdefghij\nputs a\n" + "set x $x$x\n" * 40 + "puts b\n"
     expect(run_text(tested, room, script, by=scarce), 3, b"a\n", b"out of memory\n")
+
+
+@check("memory/text-without-end")
+def _(tested, room):
+    # more than any memory holds, and no script catches that
+    script = "puts a; catch {string repeat abc 9223372036854775807}; puts b\n"
+    expect(run_text(tested, room, script), 3, b"a\n", b"out of memory\n")
+
+
+# ---- the manual
+
+EXAMPLE = re.compile(r"^```tcl (\S+)(?: own)?\n(.*?)^```$", re.MULTILINE | re.DOTALL)
+MARKS = ("=> ", "<= ", "!> ")
+
+
+def marked(lines, mark):
+    """What the lines of an example with this mark say; without a mark, the script."""
+    found = [line[3:] if mark else line for line in lines if (line[:3] if line[:3] in MARKS else "") == mark]
+    return "".join(line + "\n" for line in found).encode()
+
+
+@check("manual/examples-are-cases")
+def _(tested, room):
+    with open(f"{TOP}/docs/MANUAL.md", encoding="utf-8") as file:
+        examples = dict(EXAMPLE.findall(file.read()))
+    folder = f"{TOP}/tests/cases/manual"
+    names = {os.path.basename(path)[: -len(".case")] for path in casefile.paths_below(folder)}
+    if names != set(examples):
+        raise Wrong(f"not in both: {sorted(names ^ set(examples))}")
+    for name, text in examples.items():
+        case, lines = casefile.load(f"{folder}/{name}.case"), text.splitlines()
+        parts = [case.script, case.stdout, case.stdin, case.stderr]
+        if parts != [marked(lines, mark) for mark in ("", *MARKS)]:
+            raise Wrong(f"the case is another: {name}")

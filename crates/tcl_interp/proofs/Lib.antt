@@ -1,6 +1,4 @@
-pub mod ChannelsLemmas
-pub mod EvaluateLemmas
-pub mod NamesLemmas
-pub mod PagesLemmas
-pub mod ReportLemmas
-pub mod VariablesLemmas
+pub mod Ending
+mod Flushed
+mod Keeping
+mod Standing

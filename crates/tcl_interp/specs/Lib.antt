@@ -1,15 +1,5 @@
 pub mod Channels
-pub mod Completion
-pub mod Evaluate
-pub mod Evaluation
-pub mod Fault
 pub mod Host
 pub mod Interp
-pub mod Names
 pub mod Outcome
-pub mod Pages
 pub mod Report
-pub mod Value
-pub mod VariableCode
-pub mod VariableShape
-pub mod Variables

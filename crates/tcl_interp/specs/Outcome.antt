@@ -1,15 +1,13 @@
 -- How an evaluation ended, as a host sees it.
-use Rattle.std.specs.Prelude.{◌≡◌, ℕ, Bool, true, false, List, Option, Result, Ok, Err}
+use Rattle.std.specs.Prelude.{◌≡◌, ℕ, Bool, true, false, Result, Ok, Err}
 use Rattle.tcl_names.specs.Named.{text_of}
-use Rattle.tcl_first_path.specs.State.{Variables, state_with}
-use Rattle.tcl_first_path.specs.Completions as meaning
-use Rattle.tcl_first_path.specs.Effects.{Got, Gives, Broke}
-use Rattle.tcl_first_path.specs.Beginnings.{state_of, OutputsBegin}
-use Rattle.tcl_first_path.specs.Run.{code_number, options_text}
-use Rattle.tcl_interp.specs.Completion.{completion_of}
-use Rattle.tcl_interp.specs.declared.completion.Completion.{Completion}
-use Rattle.tcl_interp.specs.declared.fault.EvalFault.{EvalFault}
-use Rattle.tcl_interp.specs.declared.fault.EvalFault.TheVariants as fault
+use Rattle.tcl_meaning.specs.Agreement.{Agrees, IsPart}
+use Rattle.tcl_meaning.specs.Completions.{Completion, code_number, options_text, top}
+use Rattle.tcl_meaning.specs.Effects.{Got, Gives, Broke, Exits}
+use Rattle.tcl_meaning.specs.State.{State, Remains}
+use Rattle.tcl_vm.specs.declared.engine.Stop.{Stop}
+use Rattle.tcl_vm.specs.declared.engine.Stop.TheVariants as stop
+use Rattle.tcl_interp.specs.Interp.{store_at}
 use Rattle.tcl_interp.specs.declared.host.Outcome.{Outcome}
 use Rattle.tcl_interp.specs.declared.host.Outcome.TheVariants as outcome
 
@@ -32,40 +30,40 @@ outcome_is_io outcome.Io = true
 outcome_is_io outcome.Failed = false
 
 -- the outcome of a completion of the definition, with so many units left; memory may be refused in its place
-abbrev pub IsOutcome : Outcome → meaning.Completion → ℕ → Type 0
+abbrev pub IsOutcome : Outcome → Completion → ℕ → Type 0
 IsOutcome (outcome.Done code result options left) c n =
-    (code ≡ code_number c.code) × (text_of result ≡ c.result) × (text_of options ≡ options_text c.code) × (left ≡ n)
+    (code ≡ code_number c.code) × (text_of result ≡ c.result) × (text_of options ≡ options_text c) × (left ≡ n)
 IsOutcome outcome.Memory c n = Unit {0}
 IsOutcome outcome.Budget c n = ⊥
 IsOutcome (outcome.Exit status) c n = ⊥
 IsOutcome outcome.Io c n = ⊥
 IsOutcome outcome.Failed c n = ⊥
 
--- the outcome of an evaluation
-abbrev pub IsOutcomeOf : Outcome → Result Completion EvalFault → ℕ → Type 0
-IsOutcomeOf o (Ok c) n = IsOutcome o (completion_of c) n
-IsOutcomeOf o (Err fault.Budget) n = o ≡ outcome.Budget
-IsOutcomeOf o (Err fault.Memory) n = o ≡ outcome.Memory
-IsOutcomeOf o (Err fault.Io) n = o ≡ outcome.Io
+-- the outcome of a script that ended so, or stopped
+abbrev pub IsOutcomeOf : Outcome → Result Completion Stop → ℕ → Type 0
+IsOutcomeOf o (Ok c) n = IsOutcome o (top c) n
+IsOutcomeOf o (Err stop.Budget) n = o ≡ outcome.Budget
+IsOutcomeOf o (Err (stop.Exit status)) n = o ≡ outcome.Exit status
+IsOutcomeOf o (Err stop.Memory) n = o ≡ outcome.Memory
+IsOutcomeOf o (Err stop.Io) n = o ≡ outcome.Io
+
+-- what is left, with so many units
+abbrev pub state_left : Remains → ℕ → State
+state_left r units = record { store = store_at r.globals r.commands; channels = r.channels; units = units }
 
 -- what a run that ended by itself says
-pub record IsDone (o : Outcome) (got : Got meaning.Completion) (vs : Variables) (out err : Option (List ℕ)) : Type 0 where
-  pub completion : meaning.Completion
+pub record IsDone (o : Outcome) (got : Got Completion) (r : Remains) : Type 0 where
+  pub completion : Completion
   pub left : ℕ
-  pub same : got ≡ Gives completion (state_with vs out err left)
+  pub agrees : Agrees got (Gives completion (state_left r left))
   pub tells : IsOutcome o completion left
 
--- a run in which a unit was wanting
-pub record IsBroke (got : Got meaning.Completion) (vs : Variables) (out err : Option (List ℕ)) : Type 0 where
-  pub left : ℕ
-  pub same : got ≡ Broke (state_with vs out err left)
-
--- The outcome, the variables and the outputs are those of the run; where memory was refused or a device failed, the
--- outputs are beginnings of the run's.
-abbrev pub Ends : Outcome → Got meaning.Completion → Variables → Option (List ℕ) → Option (List ℕ) → Type 0
-Ends (outcome.Done code result options left) got vs out err = IsDone (outcome.Done code result options left) got vs out err
-Ends outcome.Budget got vs out err = IsBroke got vs out err
-Ends outcome.Memory got vs out err = OutputsBegin (state_with vs out err 0) (state_of got)
-Ends outcome.Io got vs out err = OutputsBegin (state_with vs out err 0) (state_of got)
-Ends (outcome.Exit status) got vs out err = ⊥
-Ends outcome.Failed got vs out err = ⊥
+-- The outcome and what is left are those of the run; where memory was refused or a device failed, what was put out is a part
+-- of what the run puts out.
+abbrev pub Ends : Outcome → Got Completion → Remains → Type 0
+Ends (outcome.Done code result options left) got r = IsDone (outcome.Done code result options left) got r
+Ends outcome.Budget got r = Agrees got (Broke r)
+Ends (outcome.Exit status) got r = Agrees got (Exits status r)
+Ends outcome.Memory got r = IsPart r.channels got
+Ends outcome.Io got r = IsPart r.channels got
+Ends outcome.Failed got r = ⊥

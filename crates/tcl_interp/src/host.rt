@@ -1,13 +1,14 @@
 //! What a host asks of an interpreter, and what it is answered.
 ghost use Rattle.std.specs.Prelude.{◌≡◌};
-ghost use Rattle.tcl_interp.specs.Host.{var_fault};
+ghost use Rattle.tcl_interp.specs.Host.{host_fault, var_fault};
 ghost use Rattle.tcl_interp.specs.declared.host.VarFault.TheVariants as var;
 ghost use Rattle.tcl_interp.specs.declared.host.HostFault.TheVariants as host;
 
 use std::alloc::AllocError;
 use std::rc::RcStr;
 use tcl_chars::Dialect;
-use tcl_first_path::Refusal;
+use tcl_frames::VarFault as FramesFault;
+use tcl_meaning::Refusal;
 
 /// Why a variable can't be read, written or linked: set(n), upvar(n).
 #[derive(Clone, Copy, Debug, PartialEq, Eq)]
@@ -104,6 +105,17 @@ pub enum HostFault {
     Failed,
     /// The variable can't be read or written.
     Var(VarFault),
+}
+
+impl From<FramesFault> for HostFault {
+    ghost from_gives = { λ fault refused. refused ≡ host_fault fault };
+
+    fn from(fault: FramesFault) -> HostFault {
+        match fault {
+            FramesFault::Refused(refusal) => HostFault::Var(VarFault::from(refusal)),
+            FramesFault::Memory => HostFault::Memory,
+        }
+    }
 }
 
 impl From<AllocError> for HostFault {

@@ -1,19 +1,12 @@
-//! The interpreter.
+//! The interpreter, as a host makes, runs and asks it.
 #![tactic(auto)]
 
-mod completion;
-mod evaluate;
-mod evaluation;
-mod fault;
+mod arguments;
 mod host;
 mod interp;
-mod lookup;
-mod names;
 mod outcome;
-mod pages;
 mod report;
-mod value;
-mod variables;
+mod vars;
 
 pub use host::{Config, HostFault, HostVar, Outcome, VarFault};
 pub use interp::Interp;

@@ -1,18 +1,22 @@
 //! A whole run of a script.
-ghost use Rattle.std.specs.Prelude.{◌≡◌, IfOk, false, ℕ, List, Option, is_err, map as each};
-ghost use Rattle.std.specs.FinMap as map;
+ghost use Rattle.std.specs.Prelude.{◌≡◌, IfOk, false, is_err, option_map, map as each};
 ghost use Rattle.std.specs.Str.{chars};
-ghost use Rattle.tcl_chan.specs.Worlds.{stdin, stdout, stderr, SameDevices};
-ghost use Rattle.tcl_first_path.specs.Effects.{Gives};
-ghost use Rattle.tcl_first_path.specs.Run.{run_script, run_with_args, args_put, args_error};
-ghost use Rattle.tcl_first_path.specs.State.{state_with};
+ghost use Rattle.tcl_chan.specs.Characters.{input_chars};
+ghost use Rattle.tcl_chan.specs.Worlds.{stdout, stderr, SameDevices, SameInput};
+ghost use Rattle.tcl_channels.specs.Leaves.{failures_of};
+ghost use Rattle.tcl_chars.specs.declared.numbers.Dialect.TheVariants.{Tcl86};
+ghost use Rattle.tcl_meaning.specs.Frames.{global_frame};
+ghost use Rattle.tcl_meaning.specs.Pages.{first_commands};
+ghost use Rattle.tcl_meaning.specs.Run.{argument_variables, first_channels, run_script, run_with_args};
+ghost use Rattle.tcl_interp.specs.Channels.{failures_at, RunCounted};
+ghost use Rattle.tcl_interp.specs.Interp.{remains_at, state_at};
 ghost use Rattle.tcl_interp.specs.Outcome.{Ends, outcome_is_io, outcome_fails};
 ghost use Rattle.tcl_interp.specs.Report.{Reports};
-ghost use Rattle.tcl_interp.specs.Channels.{RunCounted};
 
-use crate::host::{Config, Outcome};
+use crate::arguments::argument_variables;
+use crate::host::Outcome;
 use crate::interp::Interp;
-use crate::outcome::{outcome_fails, refused_args};
+use crate::outcome::outcome_fails;
 use std::alloc::{AllocError, Global};
 use tcl_chan::device::{Input, Output};
 use tcl_chan::fault::{ChanFault, Out};
@@ -32,8 +36,8 @@ fn flush_both<R: Input, W: Output, E: Output>(
     world: &mut World<'_, '_, '_, R, W, E>,
 ) -> Result<(), ChanFault>
     ensures devices { SameDevices world.old world.new }
-    ensures input { stdin world.new ≡ stdin world.old }
-    ensures failures { RunCounted W.failed_calls E.failed_calls (is_err result) (stdout world.old) (stderr world.old) (stdout world.new) (stderr world.new) }
+    ensures input { SameInput R.to_come world.old world.new }
+    ensures failures { RunCounted (is_err result) (failures_of R.failed_calls W.failed_calls E.failed_calls world.old) (failures_of R.failed_calls W.failed_calls E.failed_calls world.new) }
     ensures out { W.written (stdout world.new) ≡ W.written (stdout world.old) }
     ensures err { E.written (stderr world.new) ≡ E.written (stderr world.old) }
 {
@@ -43,7 +47,6 @@ fn flush_both<R: Input, W: Output, E: Output>(
 }
 
 // Evaluates a script and flushes both outputs.
-#[tactic(auto, using(crate::proofs::ChannelsLemmas::run_counted, crate::proofs::ChannelsLemmas::counted_run))]
 fn run_in<R: Input, W: Output, E: Output>(
     interp: &mut Interp,
     world: &mut World<'_, '_, '_, R, W, E>,
@@ -51,12 +54,11 @@ fn run_in<R: Input, W: Output, E: Output>(
     budget: u64,
 ) -> Outcome
     requires { interp.old.failed ≡ false }
-    ensures run { Ends result (run_script (chars script.now) (state_with interp.old.globals (W.written (stdout world.old)) (E.written (stderr world.old)) budget))
-        interp.new.globals (W.written (stdout world.new)) (E.written (stderr world.new)) }
+    ensures run { Ends result (run_script interp.old.dialect (chars script.now) (state_at R.to_come W.written E.written interp.old world.old budget))
+        (remains_at R.to_come W.written E.written interp.new world.new) }
     ensures fails { interp.new.failed ≡ outcome_fails result }
     ensures devices { SameDevices world.old world.new }
-    ensures input { stdin world.new ≡ stdin world.old }
-    ensures failures { RunCounted W.failed_calls E.failed_calls (outcome_is_io result) (stdout world.old) (stderr world.old) (stdout world.new) (stderr world.new) }
+    ensures failures { RunCounted (outcome_is_io result) (failures_of R.failed_calls W.failed_calls E.failed_calls world.old) (failures_of R.failed_calls W.failed_calls E.failed_calls world.new) }
 {
     let outcome = interp.eval(world, script, budget);
     if outcome_fails(&outcome) {
@@ -72,39 +74,34 @@ fn run_in<R: Input, W: Output, E: Output>(
 }
 
 // An interpreter whose variables hold the arguments.
-fn prepared(alloc: Global, name: &str) -> Result<Interp, AllocError>
-    ensures globals { IfOk result (λ interp. interp.globals ≡ args_put (chars name.now)) }
+fn prepared(alloc: Global, args: &[&str]) -> Result<Interp, AllocError>
+    ensures dialect { IfOk result (λ interp. interp.dialect ≡ Tcl86) }
+    ensures globals { IfOk result (λ interp. interp.globals ≡ global_frame (argument_variables (each (λ arg. chars arg.now) args.now))) }
+    ensures commands { IfOk result (λ interp. interp.commands ≡ first_commands) }
     ensures sound { IfOk result (λ interp. interp.failed ≡ false) }
 {
-    let Ok(mut interp) = Interp::new(
-        alloc,
-        Config {
-            dialect: Dialect::Tcl86,
-        },
-    ) else {
-        return Err(AllocError);
-    };
-    interp.define("argv0", name)?;
-    interp.define("argv", "")?;
-    interp.define("argc", "0")?;
-    Ok(interp)
+    let variables = argument_variables(alloc, args)?;
+    Interp::over(alloc, Dialect::Tcl86, variables)
 }
 
-// Runs a script by a name.
-fn run_named<R: Input, W: Output, E: Output>(
+/// Runs a script: `argv0` holds the first of the arguments, or nothing where there is none, `argv` the list of the others and
+/// `argc` their count. Unless memory was refused or a device failed, both outputs are flushed at the end; where a flush fails,
+/// the interpreter has failed. How far the reader was read ahead isn't promised.
+pub fn run<R: Input, W: Output, E: Output>(
     alloc: Global,
     script: &str,
-    name: &str,
+    args: &[&str],
     reader: &mut R,
     out: &mut W,
     err: &mut E,
     budget: u64,
 ) -> Report
-    ensures report { Reports result (run_script (chars script.now) (state_with (args_put (chars name.now)) (W.written out.old) (E.written err.old) budget)) (W.written out.new) (E.written err.new) }
-    ensures failures { RunCounted W.failed_calls E.failed_calls (outcome_is_io result.outcome) out.old err.old out.new err.new }
-    ensures input { reader.new ≡ reader.old }
+    ensures report { Reports result (run_with_args Tcl86 (chars script.now) (each (λ a. chars a.now) args.now)
+        (first_channels (option_map input_chars (R.to_come reader.old)) (W.written out.old) (E.written err.old)) budget) (W.written out.new) (E.written err.new) }
+    ensures failures { RunCounted (outcome_is_io result.outcome) (failures_at R.failed_calls W.failed_calls E.failed_calls reader.old out.old err.old)
+        (failures_at R.failed_calls W.failed_calls E.failed_calls reader.new out.new err.new) }
 {
-    let Ok(mut interp) = prepared(alloc, name) else {
+    let Ok(mut interp) = prepared(alloc, args) else {
         return Report {
             outcome: Outcome::Memory,
             interp: None,
@@ -115,58 +112,5 @@ fn run_named<R: Input, W: Output, E: Output>(
     Report {
         outcome,
         interp: Some(interp),
-    }
-}
-
-// The report of a run with more than one argument.
-fn refused(alloc: Global, budget: u64) -> Report
-    ensures quiet { outcome_is_io result.outcome ≡ false }
-    ensures report { (out err : Option (List ℕ)) → Reports result (Gives args_error (state_with map.empty out err budget)) out err }
-{
-    let Ok(interp) = Interp::new(
-        alloc,
-        Config {
-            dialect: Dialect::Tcl86,
-        },
-    ) else {
-        return Report {
-            outcome: Outcome::Memory,
-            interp: None,
-        };
-    };
-    match refused_args(alloc, budget) {
-        Outcome::Memory => Report {
-            outcome: Outcome::Memory,
-            interp: None,
-        },
-        outcome => Report {
-            outcome,
-            interp: Some(interp),
-        },
-    }
-}
-
-/// Runs a script: `argv0` holds the first of the arguments, `argv` the list of the others and `argc` their count. Unless
-/// memory was refused or a device failed, both outputs are flushed at the end. The input stays as it was: no script reads
-/// yet.
-///
-/// More than one argument is refused until there are lists.
-pub fn run<R: Input, W: Output, E: Output>(
-    alloc: Global,
-    script: &str,
-    args: &[&str],
-    reader: &mut R,
-    out: &mut W,
-    err: &mut E,
-    budget: u64,
-) -> Report
-    ensures report { Reports result (run_with_args (chars script.now) (each (λ a. chars a.now) args.now) (W.written out.old) (E.written err.old) budget) (W.written out.new) (E.written err.new) }
-    ensures failures { RunCounted W.failed_calls E.failed_calls (outcome_is_io result.outcome) out.old err.old out.new err.new }
-    ensures input { reader.new ≡ reader.old }
-{
-    match args {
-        [] => run_named(alloc, script, "", reader, out, err, budget),
-        [name] => run_named(alloc, script, name, reader, out, err, budget),
-        _ => refused(alloc, budget),
     }
 }

@@ -11,6 +11,9 @@ use tcl_interp::{Config, Interp, Outcome, Report, run};
 // More units than any row spends.
 const UNITS: u64 = 1000;
 
+// What a script finds on the input.
+const INPUT: &[u8] = b"a\r\nb";
+
 // The bytes of output that a row may hold.
 const CAPACITY: usize = 4096;
 
@@ -26,23 +29,23 @@ fn told(alloc: Global, outcome: &Outcome) -> Result<String, AllocError> {
     }
 }
 
-// What a run put out, how it ended, and the units that it spent.
+// What a run put out, how it ended, and the units that it spent, if it ended by itself.
 struct Shown {
     text: String,
-    spent: u64,
+    spent: Option<u64>,
 }
 
 // The units that a run spent which ended by itself.
-fn spent(outcome: &Outcome, budget: u64) -> u64 {
+fn spent(outcome: &Outcome, budget: u64) -> Option<u64> {
     match outcome {
-        Outcome::Done { left, .. } => budget.saturating_sub(*left),
-        _ => 0,
+        Outcome::Done { left, .. } => Some(budget.saturating_sub(*left)),
+        _ => None,
     }
 }
 
 // One run of the script.
 fn show_run(alloc: Global, script: &str, budget: u64) -> Result<Shown, AllocError> {
-    let mut input = MemoryInput::new(b"");
+    let mut input = MemoryInput::new(INPUT);
     let mut out = MemoryOutput::new(alloc, CAPACITY)?;
     let mut err = MemoryOutput::new(alloc, CAPACITY)?;
     let Report { outcome, interp: _ } = run(
@@ -62,22 +65,25 @@ fn show_run(alloc: Global, script: &str, budget: u64) -> Result<Shown, AllocErro
     })
 }
 
-/// What the script puts out and how it ends with the units that it needs and, if it needs any, with one unit less.
+// One run of the script with so many units.
+fn show_with(alloc: Global, script: &str, budget: u64) -> Result<String, AllocError> {
+    let Shown { text, spent: _ } = show_run(alloc, script, budget)?;
+    format!(in alloc; "with {budget} units:\n{text}")
+}
+
+/// What the script puts out and how it ends: with the units that it needs and, if it needs any, with one unit less. Where it
+/// doesn't end by itself, with units to spare alone.
 pub(crate) fn show(alloc: Global, script: &str) -> Result<String, AllocError> {
-    let Shown { text: _, spent } = show_run(alloc, script, UNITS)?;
-    let Shown {
-        text: enough,
-        spent: _,
-    } = show_run(alloc, script, spent)?;
-    if spent == 0 {
-        return format!(in alloc; "with 0 units:\n{enough}");
+    let Shown { text, spent } = show_run(alloc, script, UNITS)?;
+    match spent {
+        None => Ok(text),
+        Some(0) => show_with(alloc, script, 0),
+        Some(needed) => {
+            let enough = show_with(alloc, script, needed)?;
+            let short = show_with(alloc, script, needed.saturating_sub(1))?;
+            format!(in alloc; "{enough}\n{short}")
+        }
     }
-    let less = spent.saturating_sub(1);
-    let Shown {
-        text: short,
-        spent: _,
-    } = show_run(alloc, script, less)?;
-    format!(in alloc; "with {spent} units:\n{enough}\nwith {less} units:\n{short}")
 }
 
 // How two evaluations of a script over the same devices end.

@@ -1,5 +1,5 @@
 -- Texts that go to an output one behind another.
-use Rattle.std.proofs.Common.{◌≡◌, ℕ, List, ◌++◌, Option, Some, None, Result, Ok, Err, OnOk, OnErr, refl, sym, ap, ◌∙◌, append_assoc, inl, inr}
+use Rattle.std.proofs.Common.{◌≡◌, ℕ, List, ◌++◌, Option, Result, Ok, Err, OnOk, OnErr, sym, ap, ◌∙◌, append_assoc, inl, inr}
 use Rattle.tcl_chan.specs.Devices.{put_behind}
 use Rattle.tcl_chan.specs.Faults.{write_failures}
 use Rattle.tcl_chan.specs.Writing.{WroteFront}
@@ -33,6 +33,6 @@ pub front_third : {A E : Type 0} (r : Result A E) (old mid last new : Option (Li
 front_third (Ok x) old mid last new a b c e f w = tt
 front_third (Err x) old mid last new a b c e f w = front_behind old mid new a (b ++ c) e (front_behind mid last new b c f w)
 
-pub said_by : {A : Type 0} (r : Result A ChanFault) (line : List ℕ) (old new : Option (List ℕ)) (failed failed' : ℕ) → OnOk r (new ≡ put_behind old line) → OnErr r (WroteFront old new line) → OnErr r (r ≡ Err Write) → failed' ≡ write_failures failed r → Said line (record { bytes = old; failed = failed }) (record { bytes = new; failed = failed' })
-said_by (Ok x) line old new failed failed' whole front fault count = inl (whole, count)
-said_by (Err e) line old new failed failed' whole front fault count = inr (front, count ∙ ap (λ r. write_failures failed r) fault)
+pub said_by : {A D : Type 0} (r : Result A ChanFault) (device device' : D) (line : List ℕ) (old new : Option (List ℕ)) (failed failed' : ℕ) → OnOk r (new ≡ put_behind old line) → OnErr r (WroteFront old new line) → OnErr r (r ≡ Err Write) → failed' ≡ write_failures failed r → Said line (record { device = device; bytes = old; failed = failed }) (record { device = device'; bytes = new; failed = failed' })
+said_by (Ok x) device device' line old new failed failed' whole front fault count = inl (whole, count)
+said_by (Err e) device device' line old new failed failed' whole front fault count = inr (front, count ∙ ap (λ r. write_failures failed r) fault)

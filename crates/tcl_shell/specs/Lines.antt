@@ -5,20 +5,21 @@ use Rattle.tcl_chan.specs.Writing.{WroteFront}
 use Rattle.tcl_shell.specs.declared.lines.Line.{Line}
 use Rattle.tcl_shell.specs.declared.lines.Line.TheVariants as line
 
--- What an output tells: its bytes, if its device tells them, and how many of its calls have failed.
-pub record Told : Type 0 where
+-- A device, and what it tells: its bytes, to come or written, if it tells them, and how many of its calls have failed.
+pub record Told (D : Type 0) : Type 0 where
+  pub device : D
   pub bytes : Option (List ℕ)
   pub failed : ℕ
 
-abbrev pub told : {D : Type 0} → (D → Option (List ℕ)) → (D → ℕ) → D → Told
-told written failed_calls device = record { bytes = written device; failed = failed_calls device }
+abbrev pub told : {D : Type 0} → (D → Option (List ℕ)) → (D → ℕ) → D → Told D
+told bytes failed_calls device = record { device = device; bytes = bytes device; failed = failed_calls device }
 
 -- A text goes to an output: all of it, or a beginning of it where a write failed.
-abbrev pub Said : List ℕ → Told → Told → Type 0
+abbrev pub Said : {D : Type 0} → List ℕ → Told D → Told D → Type 0
 Said text old new =
     ((new.bytes ≡ put_behind old.bytes text) × (new.failed ≡ old.failed)) ⊎ (WroteFront old.bytes new.bytes text × (new.failed ≡ one_more old.failed))
 
-abbrev pub SaidIf : Option (List ℕ) → Told → Told → Type 0
+abbrev pub SaidIf : {D : Type 0} → Option (List ℕ) → Told D → Told D → Type 0
 SaidIf None old new = new ≡ old
 SaidIf (Some text) old new = Said text old new
 

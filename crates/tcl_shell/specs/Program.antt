@@ -1,18 +1,46 @@
 -- What the program does with its file, and what it answers.
-use Rattle.std.specs.Prelude.{◌≡◌, ℕ, zero, suc, Bool, ◌&&◌, ◌==◌, ℤ, pos, negsuc, List, [], ◌∷◌, drop, map, Option, Some, None, if◌then◌else◌}
+use Rattle.std.specs.Prelude.{◌≡◌, ℕ, zero, suc, ℤ, pos, negsuc, List, [], ◌∷◌, drop, map, Option, Some, None, option_map}
 use Rattle.std.specs.Rc.{rc_str_bytes}
 use Rattle.std.specs.Str.{chars, IsUtf8}
+use Rattle.tcl_chan.specs.Characters.{input_chars}
 use Rattle.tcl_chan.specs.Newlines.{joined_newlines}
-use Rattle.tcl_first_path.specs.Completions.{Completion}
-use Rattle.tcl_first_path.specs.Effects.{Got}
-use Rattle.tcl_first_path.specs.Run.{run_with_args}
-use Rattle.tcl_first_path.specs.State.{Variables}
-use Rattle.tcl_interp.specs.Outcome.{Ends, outcome_is_io}
+use Rattle.tcl_channels.specs.Leaves.{Failures}
+use Rattle.tcl_chars.specs.declared.numbers.Dialect.TheVariants.{Tcl86}
+use Rattle.tcl_meaning.specs.Completions.{Completion}
+use Rattle.tcl_meaning.specs.Effects.{Got}
+use Rattle.tcl_meaning.specs.Run.{first_channels, run_with_args}
+use Rattle.tcl_meaning.specs.State.{Channels}
 use Rattle.tcl_interp.specs.Channels.{RunCounted}
+use Rattle.tcl_interp.specs.Outcome.{outcome_is_io}
+use Rattle.tcl_interp.specs.Report.{Reports}
 use Rattle.tcl_interp.specs.declared.host.Outcome.{Outcome}
 use Rattle.tcl_interp.specs.declared.host.Outcome.TheVariants as outcome
-use Rattle.tcl_shell.specs.Lines.{Told, Said, SaidIf, usage_line, unreadable, not_utf8, message_line, budget_spent, out_of_memory, broken}
+use Rattle.tcl_interp.specs.declared.report.Report.{Report}
+use Rattle.tcl_shell.specs.Lines.{Told, told, Said, SaidIf, usage_line, unreadable, not_utf8, message_line, budget_spent, out_of_memory, broken}
 use Rattle.tcl_shell.specs.declared.words.Request.{Request}
+
+-- ---- the devices
+
+-- input, standard output and standard error
+pub record Devices (R W E : Type 0) : Type 0 where
+  pub input : Told R
+  pub out : Told W
+  pub err : Told E
+
+-- devices, by what each tells of its bytes and of its failed calls
+abbrev pub devices : {R W E : Type 0} → (R → Option (List ℕ)) → (R → ℕ) → (W → Option (List ℕ)) → (W → ℕ) → (E → Option (List ℕ)) → (E → ℕ) → R → W → E → Devices R W E
+devices to_come input_failed out_written out_failed err_written err_failed reader out err =
+    record { input = told to_come input_failed reader; out = told out_written out_failed out; err = told err_written err_failed err }
+
+-- the channels with which a run begins over them
+abbrev pub channels_at : {R W E : Type 0} → Devices R W E → Channels
+channels_at d = first_channels (option_map input_chars d.input.bytes) d.out.bytes d.err.bytes
+
+-- how many of their calls have failed
+abbrev pub failures_told : {R W E : Type 0} → Devices R W E → Failures
+failures_told d = record { input = d.input.failed; out = d.out.failed; err = d.err.failed }
+
+-- ---- statuses and lines
 
 -- the status of a return code
 abbrev pub code_status : ℤ → ℕ
@@ -42,20 +70,24 @@ outcome_line outcome.Memory = Some out_of_memory
 outcome_line outcome.Io = Some broken
 outcome_line outcome.Failed = Some broken
 
--- A run ends as the script's meaning says, and then the line of its outcome goes to standard error.
-pub record Ran (got : Got Completion) (status : ℕ) (out err out' err' : Told) : Type 0 where
-  pub outcome : Outcome
-  pub variables : Variables
-  -- standard error before that line
-  pub before : Told
-  pub ends : Ends outcome got variables out'.bytes before.bytes
-  pub failures : RunCounted (λ n. n) (λ n. n) (outcome_is_io outcome) out.failed err.failed out'.failed before.failed
-  pub answers : status ≡ status_of outcome
-  pub says : SaidIf (outcome_line outcome) before err'
+-- ---- what the program does
 
--- The words or the file are refused with a line.
-abbrev pub Refused : List ℕ → ℕ → Told → Told → Told → Told → Type 0
-Refused line status out err out' err' = (status ≡ 5) × (out' ≡ out) × Said line err err'
+-- A run reports what the script means, and then the line of its outcome goes to standard error.
+pub record Ran {R W E : Type 0} (got : Got Completion) (status : ℕ) (old new : Devices R W E) : Type 0 where
+  pub report : Report
+  -- standard error before that line
+  pub before : Told E
+  pub reports : Reports report got new.out.bytes before.bytes
+  pub failures : RunCounted (outcome_is_io report.outcome) (failures_told old) (failures_told (record new { err = before }))
+  pub answers : status ≡ status_of report.outcome
+  pub says : SaidIf (outcome_line report.outcome) before new.err
+
+-- The words or the file are refused with a line, and nothing else happens.
+pub record Refused {R W E : Type 0} (line : List ℕ) (status : ℕ) (old new : Devices R W E) : Type 0 where
+  pub answers : status ≡ 5
+  pub input : new.input ≡ old.input
+  pub out : new.out ≡ old.out
+  pub says : Said line old.err new.err
 
 -- the file's name is the first of the words from it on
 abbrev pub file_name : List (List ℕ) → List ℕ
@@ -63,14 +95,14 @@ file_name [] = []
 file_name (name ∷ words) = name
 
 -- What the program does for the words from the file's name on, in UTF-8, and the bytes of the file, if it could be read.
-abbrev pub RunsFile : ℕ → List (List ℕ) → Option (List ℕ) → ℕ → Told → Told → Told → Told → Type 0
-RunsFile budget words None status out err out' err' = Refused (unreadable (file_name words)) status out err out' err'
-RunsFile budget words (Some bytes) status out err out' err' =
-    (IsUtf8 bytes → Ran (run_with_args (joined_newlines (chars bytes)) (map chars words) out.bytes err.bytes budget) status out err out' err')
-    × ((IsUtf8 bytes → ⊥) → Refused (not_utf8 (file_name words)) status out err out' err')
+abbrev pub RunsFile : {R W E : Type 0} → ℕ → List (List ℕ) → Option (List ℕ) → ℕ → Devices R W E → Devices R W E → Type 0
+RunsFile budget words None status old new = Refused (unreadable (file_name words)) status old new
+RunsFile budget words (Some bytes) status old new =
+    (IsUtf8 bytes → Ran (run_with_args Tcl86 (joined_newlines (chars bytes)) (map chars words) (channels_at old) budget) status old new)
+    × ((IsUtf8 bytes → ⊥) → Refused (not_utf8 (file_name words)) status old new)
 
--- What the program does for what its words ask, the words in UTF-8, and its file: the status that it answers, and what
--- its outputs tell before and after.
-abbrev pub RunsWords : Option Request → List (List ℕ) → Option (List ℕ) → ℕ → Told → Told → Told → Told → Type 0
-RunsWords None words file status out err out' err' = Refused usage_line status out err out' err'
-RunsWords (Some request) words file status out err out' err' = RunsFile request.budget (drop request.file words) file status out err out' err'
+-- What the program does for what its words ask, the words in UTF-8, and its file: the status that it answers, and the devices
+-- before and after.
+abbrev pub RunsWords : {R W E : Type 0} → Option Request → List (List ℕ) → Option (List ℕ) → ℕ → Devices R W E → Devices R W E → Type 0
+RunsWords None words file status old new = Refused usage_line status old new
+RunsWords (Some request) words file status old new = RunsFile request.budget (drop request.file words) file status old new

@@ -4,7 +4,7 @@ ghost use Rattle.std.specs.Str.{chars};
 ghost use Rattle.std.specs.String.{string_bytes};
 ghost use Rattle.tcl_chan.specs.Newlines.{is_joined_return, joined_newlines};
 ghost use Rattle.tcl_shell.specs.Lines.{told, SaidIf};
-ghost use Rattle.tcl_shell.specs.Program.{RunsWords, RunsFile, outcome_line, status_of};
+ghost use Rattle.tcl_shell.specs.Program.{RunsWords, RunsFile, devices, outcome_line, status_of};
 ghost use Rattle.tcl_shell.specs.Words.{request_of};
 
 use crate::lines::{Line, say};
@@ -83,9 +83,9 @@ fn run_file<R: Input, W: Output, E: Output>(
     budget: u64,
 ) -> u8
     requires { 0 < length words.now }
-    ensures input { reader.new ≡ reader.old }
-    ensures answers { RunsFile budget (map (λ word. word.now) words.now) (option_map (λ bytes. bytes.now) file.entry) result
-        (told W.written W.failed_calls out.old) (told E.written E.failed_calls err.old) (told W.written W.failed_calls out.new) (told E.written E.failed_calls err.new) }
+    ensures { RunsFile budget (map (λ word. word.now) words.now) (option_map (λ bytes. bytes.now) file.entry) result
+        (devices R.to_come R.failed_calls W.written W.failed_calls E.written E.failed_calls reader.old out.old err.old)
+        (devices R.to_come R.failed_calls W.written W.failed_calls E.written E.failed_calls reader.new out.new err.new) }
 {
     let name = words[0];
     let Some(bytes) = file else {
@@ -114,7 +114,7 @@ fn run_file<R: Input, W: Output, E: Output>(
 /// Runs the program for its words, its own name not among them, over the bytes of its file, or `None` where the file
 /// couldn't be read. The answer is the status: 0 done, 1 the script's error, 2 the budget is spent, 3 out of memory,
 /// 4 a read or a write failed, 5 the usage or the file is wrong, or what `exit` was given. But for 0 and `exit`, a line
-/// on standard error says so. The input stays as it was: no script reads yet.
+/// on standard error says so. The script reads the input; how far it was read ahead isn't promised.
 pub fn tool<R: Input, W: Output, E: Output>(
     alloc: Global,
     words: &[&str],
@@ -123,9 +123,9 @@ pub fn tool<R: Input, W: Output, E: Output>(
     out: &mut W,
     err: &mut E,
 ) -> u8
-    ensures input { reader.new ≡ reader.old }
-    ensures answers { RunsWords (request_of (map (λ word. chars word.now) words.now)) (map (λ word. word.now) words.now) (option_map (λ bytes. bytes.now) file.entry) result
-        (told W.written W.failed_calls out.old) (told E.written E.failed_calls err.old) (told W.written W.failed_calls out.new) (told E.written E.failed_calls err.new) }
+    ensures { RunsWords (request_of (map (λ word. chars word.now) words.now)) (map (λ word. word.now) words.now) (option_map (λ bytes. bytes.now) file.entry) result
+        (devices R.to_come R.failed_calls W.written W.failed_calls E.written E.failed_calls reader.old out.old err.old)
+        (devices R.to_come R.failed_calls W.written W.failed_calls E.written E.failed_calls reader.new out.new err.new) }
 {
     let Some(request) = read_request(words) else {
         say(alloc, reader, out, err, Line::Usage);

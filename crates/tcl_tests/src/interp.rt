@@ -1,4 +1,5 @@
 //! Scripts over devices in memory, as tclsh 8.6 runs them, and what a host asks.
+mod ends;
 mod faults;
 mod hosts;
 mod large;

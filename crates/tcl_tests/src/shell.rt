@@ -93,9 +93,40 @@ fn runs_that_do_not_end_well(rt: HostRuntime) {
     let want = ("a\n", "missing close-brace\n");
     let error = answers(rt.alloc(), &["a.tcl"], Some(b"puts a; puts {"), 1, want);
     assert!(rt; error == Ok(true));
-    let want = ("", "script arguments come with lists\n");
-    let arguments = answers(rt.alloc(), &["a.tcl", "b"], Some(b"puts a"), 1, want);
-    assert!(rt; arguments == Ok(true));
+    let want = ("a\n", "");
+    let exit = answers(rt.alloc(), &["a.tcl"], Some(b"puts a; exit 7"), 7, want);
+    assert!(rt; exit == Ok(true));
+}
+
+#[test]
+fn arguments(rt: HostRuntime) {
+    let file = Some(b"puts $argv0,$argv,$argc".as_slice());
+    for (words, want) in [
+        (["a.tcl"].as_slice(), "a.tcl,,0\n"),
+        (&["a.tcl", "b c", "d"], "a.tcl,{b c} d,2\n"),
+        (&["-budget", "1", "a", "-budget", "2"], "a,-budget 2,2\n"),
+        (&["a", "-budget", ""], "a,-budget {},2\n"),
+    ] {
+        assert!(rt;
+            answers(rt.alloc(), words, file, 0, (want, "")) == Ok(true),
+            "{want}"
+        );
+    }
+}
+
+/// Does the program hand the input to its script?
+fn echoes(alloc: Global) -> Result<bool, AllocError> {
+    let mut input = MemoryInput::new(b"a\r\nb\n");
+    let mut out = MemoryOutput::new(alloc, 64)?;
+    let mut err = MemoryOutput::new(alloc, 64)?;
+    let file = Some(b"puts [gets stdin][gets stdin]".as_slice());
+    let status = tool(alloc, &["a.tcl"], file, &mut input, &mut out, &mut err);
+    Ok(status == 0 && out.bytes() == b"ab\n".as_slice() && err.bytes() == b"".as_slice())
+}
+
+#[test]
+fn the_input(rt: HostRuntime) {
+    assert!(rt; echoes(rt.alloc()) == Ok(true));
 }
 
 /// Does the program say that a device failed, where the output's write and flush fail at these calls?

@@ -1,9 +1,9 @@
-//! An interpreter whose output fails.
+//! An interpreter whose devices fail.
 
 use super::setting::{eval_over, fresh, holds};
 use std::alloc::{AllocError, Global};
-use tcl_chan::device::Output;
-use tcl_chan::faulty::FaultyOutput;
+use tcl_chan::device::{Input, Output};
+use tcl_chan::faulty::{FaultyInput, FaultyOutput};
 use tcl_chan::memory::{MemoryInput, MemoryOutput};
 use tcl_chars::Fault;
 use tcl_interp::{HostFault, Interp, Outcome};
@@ -23,9 +23,28 @@ fn a_failed_write_ends_all(rt: HostRuntime) -> Result<(), Fault> {
     let first = broken(rt.alloc(), &mut interp, "puts a");
     assert!(rt; matches!(first, Ok((Outcome::Io, 1))));
     assert!(rt; interp.is_failed());
-    for script in ["puts a", "", "set x 1", "puts {"] {
+    for script in ["puts a", "", "set x 1", "puts {", "exit"] {
         let later = broken(rt.alloc(), &mut interp, script);
         assert!(rt; matches!(later, Ok((Outcome::Failed, 0))), "at {script}");
+    }
+    Ok(())
+}
+
+/// How a script ends over an input whose first read fails, and how often it failed.
+fn deaf(alloc: Global, interp: &mut Interp, script: &str) -> Result<(Outcome, u64), AllocError> {
+    let mut input = FaultyInput::new(MemoryInput::new(b"a"), 1);
+    let mut out = MemoryOutput::new(alloc, 9)?;
+    let mut err = MemoryOutput::new(alloc, 9)?;
+    let outcome = eval_over(alloc, interp, &mut input, &mut out, &mut err, script, 9);
+    Ok((outcome, input.failures()))
+}
+
+#[test]
+fn a_failed_read_ends_all(rt: HostRuntime) -> Result<(), Fault> {
+    for script in ["gets stdin", "catch {read stdin}", "puts [gets stdin x]"] {
+        let mut interp = fresh(rt.alloc())?;
+        let ended = deaf(rt.alloc(), &mut interp, script);
+        assert!(rt; matches!(ended, Ok((Outcome::Io, 1))), "at {script}");
     }
     Ok(())
 }

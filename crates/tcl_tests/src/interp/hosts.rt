@@ -1,6 +1,6 @@
 //! What a host reads and writes.
 
-use super::setting::{fresh, holds, lacks};
+use super::setting::{evaluated, fresh, holds, is_done, lacks};
 use std::alloc::{AllocError, Global};
 use tcl_chars::Fault;
 use tcl_interp::{HostFault, Interp, VarFault};
@@ -69,4 +69,38 @@ fn variables_stand_in_the_order_of_code_points(rt: HostRuntime) -> Result<(), Fa
         "Ok([(\"Z\", Text(\"Z\")), (\"a\", Array([(\"x\", \"a(x)\"), (\"y\", \"a(y)\")])), (\"b\", Text(\"b\")), (\"é\", Text(\"é\"))])";
     assert!(rt; shows(rt.alloc(), &mut interp, want));
     Ok(())
+}
+
+/// What a script leaves, as the host is told.
+fn left(alloc: Global, script: &str, want: &str) -> Result<bool, Fault> {
+    let mut interp = fresh(alloc)?;
+    let end = evaluated(alloc, &mut interp, 9, script, 11)?;
+    Ok(is_done(&end.outcome, 0, "", 0) && shows(alloc, &mut interp, want))
+}
+
+#[test]
+fn links_are_told_by_what_they_lead_to(rt: HostRuntime) {
+    let script =
+        "set x 1; set a(1) 2; upvar 0 x y; upvar 0 a(1) z; upvar 0 no w; proc p {} {global v; set v 3; set u 4; return}; p";
+    let want =
+        "Ok([(\"a\", Array([(\"1\", \"2\")])), (\"v\", Text(\"3\")), (\"x\", Text(\"1\")), (\"y\", Text(\"1\")), (\"z\", Text(\"2\"))])";
+    assert!(rt; matches!(left(rt.alloc(), script, want), Ok(true)));
+}
+
+/// Is what a host puts into a link read by what it leads to?
+fn links(alloc: Global) -> Result<bool, Fault> {
+    let mut interp = fresh(alloc)?;
+    let end = evaluated(alloc, &mut interp, 9, "upvar 0 a(1) y", 1)?;
+    Ok(
+        is_done(&end.outcome, 0, "", 0)
+            && interp.set_var("y", "2") == Ok(())
+            && holds(&mut interp, "a(1)", "2")
+            && holds(&mut interp, "y", "2")
+            && lacks(&mut interp, "a"),
+    )
+}
+
+#[test]
+fn a_host_writes_through_links(rt: HostRuntime) {
+    assert!(rt; matches!(links(rt.alloc()), Ok(true)));
 }

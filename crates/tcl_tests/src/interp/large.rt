@@ -89,3 +89,34 @@ fn long_values(rt: HostRuntime) -> Result<(), Fault> {
     assert!(rt; holds(&mut interp, "y", &text));
     Ok(())
 }
+
+/// Does a script end so, with these units?
+fn answers(alloc: Global, script: &str, budget: u64, want: &str) -> Result<bool, Fault> {
+    let mut interp = fresh(alloc)?;
+    let end = evaluated(alloc, &mut interp, 9, script, budget)?;
+    Ok(is_done(&end.outcome, 0, want, 0))
+}
+
+#[test]
+fn thousands_of_turns_and_levels(rt: HostRuntime) {
+    for (script, cost, want) in [
+        (
+            "for {set i 0} {$i < 3000} {incr i} {lappend l $i}; llength $l",
+            9003,
+            "3000",
+        ),
+        (
+            "proc f n {if {$n == 0} {return 0}; expr {1 + [f [expr {$n - 1}]]}}; f 300",
+            1204,
+            "300",
+        ),
+        (
+            "set i 0; while 1 {if {[incr i] == 2000} break}; set i",
+            6004,
+            "2000",
+        ),
+    ] {
+        let answered = answers(rt.alloc(), script, cost, want);
+        assert!(rt; matches!(answered, Ok(true)), "{script}");
+    }
+}

@@ -24,38 +24,59 @@ fn ran(alloc: Global, args: &[&str]) -> Result<(Report, MemoryOutput, MemoryOutp
     Ok((report, out, err))
 }
 
-/// Does the interpreter know its name, and that it has no arguments?
-fn knows(interp: Option<Interp>, name: &str) -> bool {
+/// What a run is told of its arguments.
+#[derive(Clone, Copy)]
+struct Told {
+    args: &'static [&'static str],
+    name: &'static str,
+    list: &'static str,
+    count: &'static str,
+}
+
+/// Does the interpreter know its arguments?
+fn knows(interp: Option<Interp>, told: &Told) -> bool {
     match interp {
         Some(mut interp) => {
-            holds(&mut interp, "argv0", name)
-                && holds(&mut interp, "argv", "")
-                && holds(&mut interp, "argc", "0")
+            holds(&mut interp, "argv0", told.name)
+                && holds(&mut interp, "argv", told.list)
+                && holds(&mut interp, "argc", told.count)
         }
         None => false,
     }
 }
 
-#[test]
-fn a_run_knows_its_name(rt: HostRuntime) -> Result<(), AllocError> {
-    for (args, name) in [([].as_slice(), ""), (["a.tcl"].as_slice(), "a.tcl")] {
-        let (report, out, err) = ran(rt.alloc(), args)?;
-        assert!(rt; is_done(&report.outcome, 0, "", 3), "the end of {name}");
-        assert!(rt; out.bytes() == b"x\n".as_slice());
-        assert!(rt; err.bytes() == b"y\n".as_slice());
-        assert!(rt; knows(report.interp, name), "in {name}");
+/// Does a run with these arguments end well, and know them?
+fn runs(alloc: Global, told: &Told) -> Result<bool, AllocError> {
+    let (report, out, err) = ran(alloc, told.args)?;
+    Ok(
+        is_done(&report.outcome, 0, "", 3)
+            && out.bytes() == b"x\n".as_slice()
+            && err.bytes() == b"y\n".as_slice()
+            && knows(report.interp, told),
+    )
+}
+
+// No arguments but a name.
+fn named(args: &'static [&'static str], name: &'static str) -> Told {
+    Told {
+        args,
+        name,
+        list: "",
+        count: "0",
     }
-    Ok(())
 }
 
 #[test]
-fn arguments_come_with_lists(rt: HostRuntime) -> Result<(), AllocError> {
-    let (report, out, _) = ran(rt.alloc(), &["a.tcl", "b"])?;
-    let message = "script arguments come with lists";
-    assert!(rt; is_done(&report.outcome, 1, message, 5));
-    assert!(rt; out.bytes() == b"".as_slice());
-    assert!(rt; !has_failed(&report));
-    Ok(())
+fn a_run_knows_its_arguments(rt: HostRuntime) {
+    let some = Told {
+        args: &["a.tcl", "b c", "", "$d", "-budget"],
+        name: "a.tcl",
+        list: "{b c} {} {$d} -budget",
+        count: "4",
+    };
+    for told in [named(&[], ""), named(&["a.tcl"], "a.tcl"), some] {
+        assert!(rt; runs(rt.alloc(), &told) == Ok(true), "{}", told.list);
+    }
 }
 
 fn has_failed(report: &Report) -> bool {
@@ -111,6 +132,8 @@ fn both_outputs_are_flushed_however_a_script_ends(rt: HostRuntime) {
         ("nothing", 5),
         ("puts x", 0),
         ("puts x; puts y", 1),
+        ("puts x; exit 3", 5),
+        ("proc p {} {exit}; p", 5),
     ] {
         let failed = fails(rt.alloc(), script, budget, (0, 0), (1, 1), (1, 1));
         assert!(rt; failed == Ok(true), "the end of {script}");

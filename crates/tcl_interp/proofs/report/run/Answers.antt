@@ -1,9 +1,17 @@
+use Rattle.std.proofs.Common.{Bor, List, ℕ, false, map as each, option_map, refl}
 use Rattle.std.specs.Str.{chars}
-use Rattle.tcl_interp.proofs.ReportLemmas.{run_none, run_many, reports_as}
+use Rattle.tcl_chan.specs.Characters.{input_chars}
+use Rattle.tcl_chars.specs.declared.numbers.Dialect.TheVariants.{Tcl86}
+use Rattle.tcl_meaning.specs.Run.{argument_variables, first_channels, first_store}
+use Rattle.tcl_interp.proofs.Ending.{begun_part}
 use Rattle.tcl_interp.proofs.report.run.Goals as goal
 
-pub returns-in-empty-clause-report : goal.returns-in-empty-clause-report
-returns-in-empty-clause-report g c = reports_as c.run_named.result _ _ _ _ c.run_named.ensures.report (run_none (λ a. chars a.now) c.args.args.now (chars c.args.script.now) _ _ c.args.budget c.in-empty.len_below)
-
 pub returns-in_default-clause-report : goal.returns-in_default-clause-report
-returns-in_default-clause-report g c = reports_as c.refused.result _ _ _ _ (c.refused.ensures.report _ _) (run_many (λ a. chars a.now) c.args.args.now (chars c.args.script.now) _ _ c.args.budget c.in_default.len_at_least)
+returns-in_default-clause-report g c =
+    let input = option_map input_chars (g.R.Input.to_come c.args.reader.now) in
+    let channels = first_channels input (g.W.Output.written c.args.out.now) (g.E.Output.written c.args.err.now) in
+    let args = each {A = Bor (List ℕ)} {B = List ℕ} (λ a. chars a.now) c.args.args.now in
+    record {
+      memory = refl;
+      part = record { left = input; met_end = false; holds = begun_part Tcl86 (chars c.args.script.now) (record { store = first_store (argument_variables args); channels = channels; units = c.args.budget }) };
+    }

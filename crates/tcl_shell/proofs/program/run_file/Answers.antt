@@ -1,28 +1,31 @@
 use Rattle.std.proofs.Common.{ap, ◌∙◌}
 use Rattle.std.specs.Str.{chars}
 use Rattle.tcl_shell.specs.Lines.{told}
+use Rattle.tcl_shell.specs.Program.{devices}
 use Rattle.tcl_chan.specs.Newlines.{joined_newlines}
-use Rattle.tcl_shell.proofs.ProgramLemmas.{counted_told, unread_file, bad_file, refused_file, read_file}
+use Rattle.tcl_shell.proofs.ProgramLemmas.{unread_file, bad_file, refused_file, read_file}
 use Rattle.tcl_shell.proofs.program.run_file.Goals as goal
 
-pub returns-in_default-clause-answers : goal.returns-in_default-clause-answers
-returns-in_default-clause-answers g c =
+pub returns-in_default : goal.returns-in_default
+returns-in_default g c =
     let says = c.say.ensures in
-    unread_file c.args.budget c.args.words.now c.args.file _ _ _ _ _ c.requires c.in_default.is (ap (told g.W.Output.written g.W.Output.failed_calls) says.out) says.said
+    unread_file c.args.budget c.args.words.now c.args.file _ _ _ c.requires c.in_default.is (ap (told g.R.Input.to_come g.R.Input.failed_calls) says.input) (ap (told g.W.Output.written g.W.Output.failed_calls) says.out) says.said
 
-pub returns-in_default-from_utf8-clause-answers : goal.returns-in_default-from_utf8-clause-answers
-returns-in_default-from_utf8-clause-answers g c =
+pub returns-in_default-from_utf8 : goal.returns-in_default-from_utf8
+returns-in_default-from_utf8 g c =
     let says = c.say-in_default-from_utf8.ensures in
-    bad_file c.args.budget c.args.words.now c.args.file _ _ _ _ _ c.in-Some.bytes c.requires c.in-Some.is c.in_default-from_utf8.ensures.cases.0 (ap (told g.W.Output.written g.W.Output.failed_calls) says.out) says.said
+    bad_file c.args.budget c.args.words.now c.args.file _ _ _ c.in-Some.bytes c.requires c.in-Some.is c.in_default-from_utf8.ensures.cases.0 (ap (told g.R.Input.to_come g.R.Input.failed_calls) says.input) (ap (told g.W.Output.written g.W.Output.failed_calls) says.out) says.said
 
-pub returns-in_default-joined_lines-clause-answers : goal.returns-in_default-joined_lines-clause-answers
-returns-in_default-joined_lines-clause-answers g c =
+pub returns-in_default-joined_lines : goal.returns-in_default-joined_lines
+returns-in_default-joined_lines g c =
     let tells = c.tell.ensures in
-    refused_file c.args.budget c.args.words.now c.args.file _ _ _ _ c.in-Some.bytes _ c.in-Some.is c.in-Ok.ensures.cases.1 (ap (told g.W.Output.written g.W.Output.failed_calls) tells.out) tells.status tells.says
+    refused_file c.args.budget c.args.words.now c.args.file _ _ c.in-Some.bytes _ c.in-Some.is c.in-Ok.ensures.cases.1 (ap (told g.R.Input.to_come g.R.Input.failed_calls) tells.input) (ap (told g.W.Output.written g.W.Output.failed_calls) tells.out) tells.status tells.says
 
-pub returns-clause-answers : goal.returns-clause-answers
-returns-clause-answers g c =
+pub returns : goal.returns
+returns g c =
     let tells = c.tell-2.ensures in
     let text = c.in-Ok.ensures.cases in
+    let new = c.run-outcome.new in
     let script = ap chars c.as_str.ensures.value ∙ c.in-Ok-joined_lines.ensures ∙ ap (λ t. joined_newlines (chars t)) text.0 in
-    read_file c.args.budget c.args.words.now c.args.file _ _ _ _ c.in-Some.bytes _ _ _ (told g.E.Output.written g.E.Output.failed_calls c.run-outcome.new.err) c.run-outcome.result c.in-Some.is text.1 script (ap (told g.W.Output.written g.W.Output.failed_calls) tells.out) c.run-outcome.ensures.report (counted_told g.W.Output.failed_calls g.E.Output.failed_calls _ _ _ _ _ c.run-outcome.ensures.failures) tells.status tells.says
+    read_file c.args.budget c.args.words.now c.args.file _ _ c.in-Some.bytes _ _ c.run-outcome.result (devices g.R.Input.to_come g.R.Input.failed_calls g.W.Output.written g.W.Output.failed_calls g.E.Output.written g.E.Output.failed_calls new.reader new.out new.err) c.in-Some.is text.1 script
+    (ap (told g.R.Input.to_come g.R.Input.failed_calls) tells.input) (ap (told g.W.Output.written g.W.Output.failed_calls) tells.out) c.run-outcome.ensures.report c.run-outcome.ensures.failures tells.status tells.says

@@ -2,5 +2,5 @@ use Rattle.std.proofs.Common.{sym, ◌∙◌}
 use Rattle.tcl_shell.proofs.ProgramLemmas.{answered}
 use Rattle.tcl_shell.proofs.program.tool.Goals as goal
 
-pub returns-clause-answers : goal.returns-clause-answers
-returns-clause-answers g c = answered _ c.in-Some.request c.args.words.now _ _ _ _ _ _ (sym c.read_request.ensures.request ∙ c.in-Some.is) c.run_file.ensures.answers
+pub returns : goal.returns
+returns g c = answered _ c.in-Some.request c.args.words.now _ _ _ _ (sym c.read_request.ensures.request ∙ c.in-Some.is) c.run_file.ensures

@@ -1,4 +1,0 @@
-pub mod Divisions
-pub mod Nests
-pub mod Rules
-pub mod Runs

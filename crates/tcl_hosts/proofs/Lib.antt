@@ -1,4 +1,0 @@
-pub mod Ending
-mod Flushed
-mod Keeping
-mod Standing

@@ -1,8 +1,0 @@
-use Rattle.std.proofs.Common.{◌≡◌, ◌++◌}
-use Rattle.tcl_names.specs.Named.{by_text}
-use Rattle.tcl_hosts.specs.Host.{elements_shown}
-use Rattle.tcl_hosts.proofs.vars.host_elements.Given as goal
-
--- what was pushed and what is left are the elements
-abbrev pub invariant-loop-name : goal.invariant-loop-name
-invariant-loop-name l = elements_shown l.shown.items ++ by_text (λ v. v) l.name-iterator ≡ by_text (λ v. v) l.initial.name-iterator

@@ -1,5 +1,0 @@
-pub mod Channels
-pub mod Host
-pub mod Interp
-pub mod Outcome
-pub mod Report

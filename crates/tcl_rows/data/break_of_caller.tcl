@@ -1,0 +1,1 @@
+proc p {} {return -code break}; while 1 {p; puts no}; puts out

@@ -1,0 +1,1 @@
+catch {error boom} m o; puts "$m|$o"

@@ -1,0 +1,1 @@
+puts [catch {return -code 7 -level 0 r} m],$m

@@ -1,0 +1,1 @@
+set x {1 2}; set y $x; lappend x 3; puts "$x|$y"

@@ -1,0 +1,1 @@
+set d {a 1 a 2}; puts "[dict size $d] [llength $d] [dict get $d a] $d"

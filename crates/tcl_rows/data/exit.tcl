@@ -1,0 +1,1 @@
+puts a; catch {exit 3}; puts b

@@ -1,0 +1,1 @@
+puts [format {%05d|%-5s|%x|%#o} -42 ab -1 8]

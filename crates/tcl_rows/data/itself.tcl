@@ -1,0 +1,1 @@
+set x 5; upvar 0 x x

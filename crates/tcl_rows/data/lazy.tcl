@@ -1,0 +1,1 @@
+set i 0; expr {0 && [incr i]}; expr {1 || [incr i]}; puts $i

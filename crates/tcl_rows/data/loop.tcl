@@ -1,0 +1,1 @@
+set i 0; while {$i < 3} {incr i}; puts $i

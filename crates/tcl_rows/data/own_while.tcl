@@ -1,0 +1,1 @@
+proc while {a b} {return mine}; puts [while 0 {}]

@@ -1,0 +1,1 @@
+puts [lsort -unique -integer {3 0x3 1}]; puts [string map {a b ab c} ab]; puts [string match {[z-a]*\?} m?]

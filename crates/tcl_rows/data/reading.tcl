@@ -1,0 +1,1 @@
+while {[gets stdin l] >= 0} {puts <$l>}; puts [eof stdin]

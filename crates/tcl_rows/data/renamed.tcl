@@ -1,0 +1,1 @@
+set b {set c 1; puts $c}; eval $b; rename puts p; p [eval {set c}]

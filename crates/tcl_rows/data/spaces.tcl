@@ -1,0 +1,1 @@
+set x "a  b"; llength $x; puts $x

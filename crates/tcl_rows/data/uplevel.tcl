@@ -1,0 +1,1 @@
+proc r {} {list [info level] [uplevel 1 {set v}]}; proc q {} {set v q; uplevel 1 {r}}; proc p {} {set v p; q}; puts [p]

@@ -1,0 +1,1 @@
+proc p {} {upvar 1 v w; set w 5; unset w; set w 6; uplevel 1 {append v 7}}; p; puts $v

@@ -1,0 +1,1 @@
+puts [list # {} {a b} \{ a\\]
