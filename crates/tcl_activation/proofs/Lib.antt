@@ -1,6 +1,7 @@
 mod Acting
 mod Ending
 mod Finding
+mod Joining
 mod Lifting
 mod Operators
 mod Spelling

@@ -84,11 +84,15 @@ impl Stack {
         self.read(alloc, frames, full)
     }
 
-    /// So many texts become one.
+    /// So many texts become one. One text alone stays as it is kept.
+    #[tactic(auto, using(crate::proofs::Joining::one_goes))]
     pub fn join(&mut self, alloc: Global, count: u32) -> Result<(), AllocError>
         requires { count ≤ length self.old.texts }
         ensures { OnOk result (Goes (Join count) self.old self.new) }
     {
+        if count == 1 {
+            return Ok(());
+        }
         let mut words = lifted(&mut self.texts, count)?;
         let text = joined(alloc, &mut words)?;
         self.texts.push(text)
