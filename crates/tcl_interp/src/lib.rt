@@ -10,4 +10,4 @@ mod vars;
 
 pub use host::{Config, HostFault, HostVar, Outcome, VarFault};
 pub use interp::Interp;
-pub use report::{Report, run};
+pub use report::{Report, flush_both, prepared, run};

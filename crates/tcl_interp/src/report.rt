@@ -31,8 +31,11 @@ pub struct Report {
     pub interp: Option<Interp>,
 }
 
-// Flushes both outputs, the second too where the first fails.
-fn flush_both<R: Input, W: Output, E: Output>(
+/// Flushes both outputs, the second too where the first fails.
+///
+/// # Errors
+/// What the second flush fails with, or else the first.
+pub fn flush_both<R: Input, W: Output, E: Output>(
     world: &mut World<'_, '_, '_, R, W, E>,
 ) -> Result<(), ChanFault>
     ensures devices { SameDevices world.old world.new }
@@ -73,8 +76,12 @@ fn run_in<R: Input, W: Output, E: Output>(
     }
 }
 
-// An interpreter whose variables hold the arguments.
-fn prepared(alloc: Global, args: &[&str]) -> Result<Interp, AllocError>
+/// An interpreter whose variables hold the arguments: `argv0` the first of them, or nothing where there is none, `argv` the list
+/// of the others and `argc` their count.
+///
+/// # Errors
+/// A growth was refused.
+pub fn prepared(alloc: Global, args: &[&str]) -> Result<Interp, AllocError>
     ensures dialect { IfOk result (λ interp. interp.dialect ≡ Tcl86) }
     ensures globals { IfOk result (λ interp. interp.globals ≡ global_frame (argument_variables (each (λ arg. chars arg.now) args.now))) }
     ensures commands { IfOk result (λ interp. interp.commands ≡ first_commands) }

@@ -1,0 +1,5 @@
+-- What a session does with its input.
+pub mod Ends
+pub mod Faults
+pub mod Session
+pub mod Turns
