@@ -1,5 +1,5 @@
 -- Chains of links.
-use Rattle.std.proofs.Common.{ℕ, zero, suc, ◌+◌, ◌≤◌, ◌<◌, List, [], ◌∷◌, Bool, true, false, not, Option, None, Some, ◌≡◌, refl, ap, sym, subst, ◌∙◌, arith, length, get_or}
+use Rattle.std.proofs.Common.{ℕ, zero, suc, ◌≤◌, ◌<◌, List, [], ◌∷◌, true, false, not, Option, None, Some, ◌≡◌, refl, ap, sym, subst, ◌∙◌, arith, length, get_or}
 use Rattle.std.specs.FinMap as map
 use Rattle.std.specs.Prelude.{is_some}
 use mathlib.Core.Bool.{false≢true}
@@ -116,3 +116,8 @@ one_on own fs same tower i n j t p at e =
 -- where there is no link, a place is its own
 pub own_place : (fs : List Frame) (p : Spot) → link_at (links_of fs) p.frame p.name ≡ None → destination fs p ≡ p
 own_place fs p at = destination_leads fs p ∙ stays (links_of fs) (room (links_of fs) p.frame) p at
+
+-- a test that found no link
+pub no_link : (o : Option Spot) → is_some o ≡ false → o ≡ None
+no_link None e = refl
+no_link (Some p) e = cc

@@ -1,37 +1,140 @@
--- What the parts of a name end with.
-use Rattle.std.proofs.Common.{◌≡◌, ℕ, Bool, true, false, cond, ◌==◌, List, [], ◌∷◌, refl, sym, ap, ◌∙◌}
-use Rattle.std.proofs.lemmas.Bool.{cond-true}
+-- What the parts of a name are.
+use Rattle.std.proofs.Common.{◌≡◌, ℕ, ◌+◌, ◌-◌, ◌<◌, true, false, cond, ◌==◌, List, [], ◌∷◌, ◌++◌, length, take, drop, get_or, Some, None, Bor, refl, sym, ap, subst, ◌∙◌, arith, append_assoc}
+use Rattle.std.proofs.lemmas.Bool.{cond-true, cond-false, eqb-true}
+use Rattle.std.proofs.lemmas.List.{take_at, drop_at, get_or_at, length-append}
+use Rattle.std.proofs.lemmas.Str.{chars-append, chars_past_char, chars_from_encodes, encodes-append, encodes-chars, encode_ascii, IsUtf8-take, IsUtf8-drop, IsCharBoundary-before_ascii, IsCharBoundary-from_take}
+use Rattle.std.specs.Str.{chars, IsUtf8, IsCharBoundary, NoCharPasses, NonePass, encode_utf8_all}
+use Rattle.std.specs.Char.{encode_utf8}
+use Rattle.std.proofs.lemmas.Str.Pattern.{strip_suffix_char, split_parts}
+use Rattle.std.specs.Str.Pattern.{FindsChar, FindsCharSuffix, StripsSuffix, SplitsAroundMatch}
 use Rattle.tcl_chars.specs.Characters.{open_paren, close_paren}
-use Rattle.tcl_chars.specs.Place.{EndsWith, begins, before}
-use Rattle.tcl_meaning.specs.Names.{from_paren, last_part, element_name, by_paren, divided_name}
+use Rattle.tcl_chars.specs.Place.{begins, before}
+use Rattle.tcl_meaning.specs.Names.{from_paren, last_part, whole_name, element_name, by_paren, divided_name}
 
-pub ends_itself : (cs : List ℕ) → EndsWith cs cs
-ends_itself cs = record { front = []; joined = refl }
+no_nil : (c : ℕ) (cs : List ℕ) → c ∷ cs ≡ [] → ⊥
+no_nil c cs e = omega (arith, ap length e)
 
-pub ends_further : (c : ℕ) (cs rest : List ℕ) → EndsWith cs rest → EndsWith (c ∷ cs) rest
-ends_further c cs rest e = record { front = c ∷ e.front; joined = ap (λ t. c ∷ t) e.joined }
+-- ---- by characters
 
-by_case : (b : Bool) (c : ℕ) (cs rest : List ℕ) → EndsWith cs rest → EndsWith (c ∷ cs) (cond b (c ∷ cs) rest)
-by_case true c cs rest e = ends_itself (c ∷ cs)
-by_case false c cs rest e = ends_further c cs rest e
-
-pub from_paren-ends : (cs : List ℕ) → EndsWith cs (from_paren cs)
+-- the first `(` behind a text that has none
+paren_behind : (base rest : List ℕ) → from_paren base ≡ [] → from_paren (base ++ open_paren ∷ rest) ≡ open_paren ∷ rest
 unfolding from_paren
-from_paren-ends [] = ends_itself []
-from_paren-ends (c ∷ cs) = by_case (c == open_paren) c cs (from_paren cs) (from_paren-ends cs)
+paren_behind [] rest h = refl
+paren_behind (c ∷ cs) rest h =
+    elim (c == open_paren) as (λ b. cond b (c ∷ cs) (from_paren cs) ≡ [] → cond b (c ∷ (cs ++ open_paren ∷ rest)) (from_paren (cs ++ open_paren ∷ rest)) ≡ open_paren ∷ rest) [
+      | true ↦ λ e. absurd (no_nil c cs e)
+      | false ↦ λ e. paren_behind cs rest e
+    ] h
 
-pub last_part-ends : (cs : List ℕ) → EndsWith cs (last_part cs)
+-- a `)` behind a text that has no `(`
+none_behind : (base : List ℕ) → from_paren base ≡ [] → from_paren (base ++ close_paren ∷ []) ≡ []
+unfolding from_paren
+none_behind [] h = refl
+none_behind (c ∷ cs) h =
+    elim (c == open_paren) as (λ b. cond b (c ∷ cs) (from_paren cs) ≡ [] → cond b (c ∷ (cs ++ close_paren ∷ [])) (from_paren (cs ++ close_paren ∷ [])) ≡ []) [
+      | true ↦ λ e. absurd (no_nil c cs e)
+      | false ↦ λ e. none_behind cs e
+    ] h
+
+last_behind : (xs : List ℕ) (d : ℕ) → last_part (xs ++ d ∷ []) ≡ d ∷ []
 unfolding last_part
-last_part-ends [] = ends_itself []
-last_part-ends (c ∷ []) = ends_itself (c ∷ [])
-last_part-ends (c ∷ d ∷ cs) = ends_further c (d ∷ cs) (last_part (d ∷ cs)) (last_part-ends (d ∷ cs))
+last_behind [] d = refl
+last_behind (x ∷ []) d = refl
+last_behind (x ∷ y ∷ xs) d = last_behind (y ∷ xs) d
 
--- the parts of an element's name
-pub element_is : (name element index last base found : List ℕ) (c : ℕ) → element ≡ from_paren name → element ≡ c ∷ index → last ≡ last_part index → begins close_paren last ≡ true
-    → base ≡ before name element → found ≡ before index last → element_name base found ≡ divided_name name
+before_rest : (xs ys : List ℕ) → before (xs ++ ys) ys ≡ xs
+before_rest xs ys = take_at xs ys (length (xs ++ ys) - length ys) (omega (arith, length-append xs ys))
+
+-- a text that does not end in `)`
+abbrev IsOpen : List ℕ → Type 0
+IsOpen cs = (front : List ℕ) → cs ≡ front ++ close_paren ∷ [] → ⊥
+
+open_past : (c : ℕ) (cs : List ℕ) → IsOpen (c ∷ cs) → IsOpen cs
+open_past c cs h front e = h (c ∷ front) (ap (λ t. c ∷ t) e)
+
+last_open : (cs : List ℕ) → IsOpen cs → begins close_paren (last_part cs) ≡ false
+unfolding last_part
+last_open [] h = refl
+last_open (c ∷ []) h = elim (c == close_paren) as (λ b. (c == close_paren) ≡ b → b ≡ false) [ true ↦ λ e. absurd (h [] (ap (λ d. d ∷ []) (eqb-true c close_paren e))) | false ↦ λ e. refl ] refl
+last_open (c ∷ d ∷ cs) h = last_open (d ∷ cs) (open_past c (d ∷ cs) h)
+
+by_open : (name cs : List ℕ) → IsOpen cs → by_paren name (from_paren cs) ≡ whole_name name
+unfolding from_paren
+by_open name [] h = refl
+by_open name (c ∷ cs) h =
+    elim (c == open_paren) as (λ b. by_paren name (cond b (c ∷ cs) (from_paren cs)) ≡ whole_name name) [
+      | true ↦ cond-false _ _ _ (last_open cs (open_past c cs h))
+      | false ↦ by_open name cs (open_past c cs h)
+    ]
+
+-- ---- what a name is
+
+open_name : (name : List ℕ) → IsOpen name → whole_name name ≡ divided_name name
 unfolding divided_name
-element_is name element index last base found c p q l h b f =
-    let b' : base ≡ before name (c ∷ index) = b ∙ ap (before name) q in
-    let f' : found ≡ before index (last_part index) = f ∙ ap (before index) l in
-    let h' : begins close_paren (last_part index) ≡ true = ap (begins close_paren) (sym l) ∙ h in
-    ap (λ n. element_name n found) b' ∙ ap (element_name (before name (c ∷ index))) f' ∙ sym (ap (by_paren name) (sym p ∙ q) ∙ cond-true _ _ _ h')
+open_name name h = sym (by_open name name h)
+
+closed_name : (name inside : List ℕ) → name ≡ inside ++ close_paren ∷ [] → from_paren inside ≡ [] → whole_name name ≡ divided_name name
+unfolding divided_name
+closed_name name inside e h = sym (ap (by_paren name) (ap from_paren e ∙ none_behind inside h))
+
+by_index : (name index : List ℕ) → by_paren name (open_paren ∷ (index ++ close_paren ∷ [])) ≡ element_name (before name (open_paren ∷ (index ++ close_paren ∷ []))) index
+by_index name index =
+    let l = last_behind index close_paren in
+    cond-true _ _ _ (ap (begins close_paren) l) ∙ ap (element_name (before name (open_paren ∷ (index ++ close_paren ∷ [])))) (ap (before (index ++ close_paren ∷ [])) l ∙ before_rest index (close_paren ∷ []))
+
+parted_name : (name inside base index : List ℕ) → name ≡ inside ++ close_paren ∷ [] → inside ≡ base ++ open_paren ∷ index → from_paren base ≡ [] → element_name base index ≡ divided_name name
+unfolding divided_name
+parted_name name inside base index e f h =
+    let rest = open_paren ∷ (index ++ close_paren ∷ []) in
+    let w : name ≡ base ++ rest = e ∙ ap (λ t. t ++ close_paren ∷ []) f ∙ append_assoc base (open_paren ∷ index) (close_paren ∷ []) in
+    sym (ap (by_paren name) (ap from_paren w ∙ paren_behind base (index ++ close_paren ∷ []) h) ∙ by_index name index ∙ ap (λ t. element_name t index) (ap (λ n. before n rest) w ∙ before_rest base rest))
+
+-- ---- by bytes
+
+no_paren : (cs : List ℕ) → NonePass (λ d. d == open_paren) cs → from_paren cs ≡ []
+unfolding from_paren
+no_paren [] h = refl
+no_paren (c ∷ cs) h = cond-false _ _ _ h.0 ∙ no_paren cs h.1
+
+without_paren : (bs : List ℕ) → IsUtf8 bs → NoCharPasses (λ d. d == open_paren) bs → from_paren (chars bs) ≡ []
+without_paren bs u h = ap from_paren (sym (chars_from_encodes h.0 bs u h.1)) ∙ no_paren h.0 h.2
+
+-- a text is cut before an ASCII character
+utf8_before : (bs xs ys : List ℕ) (c : ℕ) → IsUtf8 bs → bs ≡ xs ++ c ∷ ys → c < 128 → IsUtf8 xs
+utf8_before bs xs ys c u e low =
+    let at : get_or bs (length xs) 0 ≡ c = ap (λ t. get_or t (length xs) 0) e ∙ get_or_at xs c ys 0 (length xs) refl in
+    let size : length bs ≡ length xs + length (c ∷ ys) = ap length e ∙ length-append xs (c ∷ ys) in
+    let place : IsCharBoundary bs (length xs) = IsCharBoundary-before_ascii bs (length xs) (omega (arith, size)) (omega (arith, at, low)) in
+    subst IsUtf8 (ap (take (length xs)) e ∙ take_at xs (c ∷ ys) (length xs) refl) (IsUtf8-take bs (length xs) u place)
+
+chars_around : (bs xs ys : List ℕ) (c : ℕ) → IsUtf8 bs → bs ≡ xs ++ c ∷ ys → c < 128 → chars bs ≡ chars xs ++ c ∷ chars ys
+chars_around bs xs ys c u e low =
+    let v = utf8_before bs xs ys c u e low in
+    let w : IsUtf8 (c ∷ ys) = subst IsUtf8 (ap (drop (length xs)) e ∙ drop_at xs (c ∷ ys) (length xs) refl) (IsUtf8-drop bs (length xs) u (IsCharBoundary-from_take bs (length xs) u (omega (arith, ap length e, length-append xs (c ∷ ys))) (subst IsUtf8 (sym (ap (take (length xs)) e ∙ take_at xs (c ∷ ys) (length xs) refl)) v))) in
+    ap chars e ∙ chars-append xs (c ∷ ys) v ∙ ap (λ t. chars xs ++ t) (chars_past_char (c ∷ ys) ys c w (sym (ap (λ t. t ++ ys) (encode_ascii c low))))
+
+stripped : (bs : List ℕ) (inside : Bor (List ℕ)) → StripsSuffix (FindsCharSuffix close_paren) bs inside.now → bs ≡ inside.now ++ close_paren ∷ []
+stripped bs inside h = strip_suffix_char close_paren bs (Some inside) h (omega arith)
+
+-- ---- what a name is whose last `)` is cut off, and what is left cut at its first `(`
+
+pub open_is : (bs : List ℕ) → IsUtf8 bs → ((front : List ℕ) → bs ≡ front ++ encode_utf8 close_paren → ⊥) → whole_name (chars bs) ≡ divided_name (chars bs)
+unfolding encode_utf8
+open_is bs u h = open_name (chars bs) (λ front e. h (encode_utf8_all front) (sym (encodes-chars bs u) ∙ ap encode_utf8_all e ∙ encodes-append front (close_paren ∷ [])))
+
+pub closed_is : (bs : List ℕ) (inside : Bor (List ℕ)) → IsUtf8 bs → StripsSuffix (FindsCharSuffix close_paren) bs inside.now → FindsChar open_paren inside.now None → whole_name (chars bs) ≡ divided_name (chars bs)
+unfolding chars
+closed_is bs inside u h k =
+    let e = stripped bs inside h in
+    closed_name (chars bs) (chars inside.now) (chars_around bs inside.now [] close_paren u e (omega arith)) (without_paren inside.now (utf8_before bs inside.now [] close_paren u e (omega arith)) k)
+
+pub parted_is : (bs : List ℕ) (inside base index : Bor (List ℕ)) → IsUtf8 bs → StripsSuffix (FindsCharSuffix close_paren) bs inside.now → SplitsAroundMatch (FindsChar open_paren) inside.now base.now index.now
+    → element_name (chars base.now) (chars index.now) ≡ divided_name (chars bs)
+unfolding chars
+parted_is bs inside base index u h k =
+    let e = stripped bs inside h in
+    let v = utf8_before bs inside.now [] close_paren u e (omega arith) in
+    let f : inside.now ≡ base.now ++ open_paren ∷ index.now = (split_parts open_paren inside.now (Some (base, index)) k (omega arith)).0 in
+    let w = utf8_before inside.now base.now index.now open_paren v f (omega arith) in
+    parted_name (chars bs) (chars inside.now) (chars base.now) (chars index.now) (chars_around bs inside.now [] close_paren u e (omega arith)) (chars_around inside.now base.now index.now open_paren v f (omega arith))
+    (without_paren base.now w (subst (NoCharPasses (λ d. d == open_paren)) (sym k.3) k.2.0))

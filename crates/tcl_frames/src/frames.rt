@@ -5,6 +5,7 @@ ghost use Rattle.std.specs.Str.{chars};
 ghost use Rattle.tcl_meaning.specs.Frames.{global_frame, whole};
 ghost use Rattle.tcl_meaning.specs.Links.{destination, link_at, links_of, spot_in};
 ghost use Rattle.tcl_meaning.specs.Names.{divided_name};
+ghost use Rattle.tcl_frames.specs.Parts.{name_of};
 ghost use Rattle.tcl_frames.specs.Places.{spot, spot_of};
 ghost use Rattle.tcl_meaning.specs.State.{Commands};
 ghost use Rattle.tcl_meaning.specs.Variables.{get, put_change, remove_change};
@@ -15,7 +16,7 @@ ghost use Rattle.tcl_frames.specs.Refusals.{Refuses};
 
 use crate::all_variables::AllVariables;
 use crate::fault::VarFault;
-use crate::name::{Part, divide};
+use crate::name::{Name, Part, divide};
 use crate::place::Place;
 use crate::stack::Stack;
 use crate::variable::Variable;
@@ -63,8 +64,9 @@ impl Frames {
         ensures found { (cs : Commands) → IfOk result (λ value. get (store_of cs self.now) (chars name.now) ≡ Ok value.now) }
         ensures refused { (cs : Commands) → IfErr result (λ refusal. get (store_of cs self.now) (chars name.now) ≡ Err refusal) }
     {
-        let at = place_of(&self.stack, name);
-        self.variables.find(at, divide(name).part.missing())
+        let name = divide(name);
+        let at = place_divided(&self.stack, name);
+        self.variables.find(at, name.part.missing())
     }
 }
 
@@ -104,17 +106,27 @@ impl Frames {
         ensures refused { (cs : Commands) → IfErr result (λ refusal. remove_change (store_of cs self.old) (chars name.now) ≡ Err refusal) }
         ensures same { OnErr result (self.new ≡ self.old) }
     {
-        let at = place_of(&self.stack, name);
-        self.variables.remove(at, divide(name).part.missing())
+        let name = divide(name);
+        let at = place_divided(&self.stack, name);
+        self.variables.remove(at, name.part.missing())
     }
 }
 
-// The frame in which a name is looked for that is written in a frame.
-fn home(frame: usize, global: bool) -> usize
+/// The frame in which a name is looked for that is written in a frame.
+pub(crate) fn home(frame: usize, global: bool) -> usize
     ensures home { result ≡ (if global then 0 else frame) }
     ensures earlier { result ≤ frame }
 {
     if global { 0 } else { frame }
+}
+
+// The place to which a divided name leads that is written in a frame.
+fn follow_name<'a>(stack: &'a Stack, frame: usize, name: Name<'a>) -> Place<'a>
+    ensures leads { spot_of result ≡ spot_in stack.now.frames frame (name_of name.entry) }
+    ensures earlier { result.frame ≤ frame }
+    ensures free { link_at (links_of stack.now.frames) result.frame (chars result.name.now) ≡ None }
+{
+    stack.follow(home(frame, name.global), name.base, name.part)
 }
 
 /// The place to which a name leads that is written in a frame.
@@ -123,8 +135,7 @@ pub(crate) fn place_in<'a>(stack: &'a Stack, frame: usize, name: &'a str) -> Pla
     ensures earlier { result.frame ≤ frame }
     ensures free { link_at (links_of stack.now.frames) result.frame (chars result.name.now) ≡ None }
 {
-    let name = divide(name);
-    stack.follow(home(frame, name.global), name.base, name.part)
+    follow_name(stack, frame, divide(name))
 }
 
 /// The place to which a name of the active frame leads that is not divided.
@@ -133,6 +144,14 @@ pub(crate) fn place_here<'a>(stack: &'a Stack, name: &'a str) -> Place<'a>
     ensures there { result.frame < length stack.now.frames }
 {
     stack.follow(stack.active(), name, Part::Whole)
+}
+
+/// The place to which a divided name leads that the active frame's scripts write.
+pub(crate) fn place_divided<'a>(stack: &'a Stack, name: Name<'a>) -> Place<'a>
+    ensures leads { spot_of result ≡ spot_in stack.now.frames stack.now.active (name_of name.entry) }
+    ensures there { result.frame < length stack.now.frames }
+{
+    follow_name(stack, stack.active(), name)
 }
 
 /// The place to which a name leads that the active frame's scripts write.

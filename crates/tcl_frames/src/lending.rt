@@ -1,19 +1,20 @@
 //! Texts of variables that are lent, to be changed where they stand.
-ghost use Rattle.std.specs.Prelude.{◌≡◌, ◌<◌, length, Ok, Err, IfOk, IfErr};
+ghost use Rattle.std.specs.Prelude.{◌≡◌, ◌<◌, length, Ok, Err, IfOk, IfErr, IfSome};
 ghost use Rattle.std.specs.Borrow.{sem};
 ghost use Rattle.std.specs.Str.{chars};
 ghost use Rattle.tcl_meaning.specs.Frames.{Spot};
 ghost use Rattle.tcl_meaning.specs.State.{Commands};
-ghost use Rattle.tcl_meaning.specs.Variables.{get, get_part, variable_at, spot_of as place_named};
+ghost use Rattle.tcl_meaning.specs.Variables.{get, get_part, missing as missing_by, variable_at, spot_of as place_named};
 ghost use Rattle.tcl_meaning.specs.Names.{divided_name};
 ghost use Rattle.tcl_frames.specs.FramesLent.{LendsPlace, LendsSpot};
+ghost use Rattle.tcl_frames.specs.Parts.{name_of};
 ghost use Rattle.tcl_frames.specs.Places.{spot_of};
 ghost use Rattle.tcl_frames.specs.Refusals.{Refuses};
 ghost use Rattle.tcl_frames.specs.Standing.{store_of};
 
 use crate::fault::VarFault;
-use crate::frames::{Frames, place_of};
-use crate::name::divide;
+use crate::frames::{Frames, home, place_of};
+use crate::name::{Name, divide};
 use crate::place::{Link, Place};
 use std::alloc::{AllocError, Global};
 use tcl_meaning::Refusal;
@@ -26,7 +27,45 @@ impl Frames {
         ensures found { (cs : Commands) → IfOk result (λ value. get (store_of cs self.old) (chars name.now) ≡ Ok value.now) }
         ensures refused { (cs : Commands) → IfErr result (Refuses (get (store_of cs self.old) (chars name.now))) }
     {
-        let missing = divide(name).part.missing();
+        let divided = divide(name);
+        let missing = divided.part.missing();
+        match self.own_place(divided) {
+            Some(at) => match self.place_at(at, missing) {
+                Ok(value) => Ok(value),
+                Err(refusal) => Err(VarFault::Refused(refusal)),
+            },
+            None => self.place_linked(alloc, name, missing),
+        }
+    }
+
+    // The place that a divided name is itself, where it is no link.
+    fn own_place<'a>(&self, name: Name<'a>) -> Option<Place<'a>>
+        ensures leads { (cs : Commands) → IfSome result (λ at. spot_of at ≡ place_named (store_of cs self.now) (name_of name.entry)) }
+        ensures there { IfSome result (λ at. at.frame < length self.now.frames) }
+    {
+        let frame = home(self.stack.active(), name.global);
+        if self.stack.is_link(frame, name.base) {
+            return None;
+        }
+        Some(Place {
+            frame,
+            name: name.base,
+            part: name.part,
+        })
+    }
+
+    // The same as `place`. The place to which the name leads is copied.
+    fn place_linked(
+        &mut self,
+        alloc: Global,
+        name: &str,
+        missing: Refusal,
+    ) -> Result<&mut Value, VarFault>
+        requires { missing ≡ missing_by (divided_name (chars name.now)).part }
+        ensures* writes_back { sem 𝓛 (LendsPlace self.entry (chars name.entry.now) result) }
+        ensures found { (cs : Commands) → IfOk result (λ value. get (store_of cs self.old) (chars name.now) ≡ Ok value.now) }
+        ensures refused { (cs : Commands) → IfErr result (Refuses (get (store_of cs self.old) (chars name.now))) }
+    {
         let Ok(target) = self.target(alloc, name) else {
             return Err(VarFault::Memory);
         };

@@ -5,7 +5,7 @@ ghost use Rattle.tcl_meaning.specs.Names as spec;
 ghost use Rattle.tcl_meaning.specs.Variables.{missing};
 ghost use Rattle.tcl_frames.specs.Parts.{part_of, name_of};
 
-use tcl_chars::{before, begins, split_first, tail};
+use tcl_chars::{begins, split_first, tail};
 use tcl_meaning::Refusal;
 
 /// Which part of a variable is meant.
@@ -79,36 +79,6 @@ pub fn without_colons(name: &str) -> &str
     }
 }
 
-// From the first `(` on.
-#[tactic(auto, unfolding(tcl_meaning::specs::Names::from_paren))]
-fn from_paren(text: &str) -> &str
-    ensures { chars result.now ≡ spec.from_paren (chars text.now) }
-{
-    let mut rest = text;
-    'scan: while let Some((c, after)) = split_first(rest) {
-        if c == '(' {
-            break 'scan;
-        }
-        rest = after;
-    }
-    rest
-}
-
-// The last character.
-#[tactic(auto, unfolding(tcl_meaning::specs::Names::last_part))]
-fn last_part(text: &str) -> &str
-    ensures { chars result.now ≡ spec.last_part (chars text.now) }
-{
-    let mut last = text;
-    'scan: while let Some((_, after)) = split_first(last) {
-        let Some(_) = split_first(after) else {
-            break 'scan;
-        };
-        last = after;
-    }
-    last
-}
-
 // A name that is no element's.
 fn whole_name(name: &str) -> Name<'_>
     ensures { name_of result ≡ spec.whole_name (chars name.now) }
@@ -132,19 +102,16 @@ fn element_name<'a>(base: &'a str, index: &'a str) -> Name<'a>
 }
 
 /// The name of a variable, divided.
-#[tactic(auto, unfolding(tcl_meaning::specs::Names::divided_name))]
 pub(crate) fn divide(name: &str) -> Name<'_>
     ensures { name_of result ≡ spec.divided_name (chars name.now) }
 {
-    let element = from_paren(name);
-    let Some((_, index)) = split_first(element) else {
+    let Some(inside) = name.strip_suffix(')') else {
         return whole_name(name);
     };
-    let last = last_part(index);
-    if !begins(')', last) {
-        return whole_name(name);
+    match inside.split_once('(') {
+        Some((base, index)) => element_name(base, index),
+        None => whole_name(name),
     }
-    element_name(before(name, element), before(index, last))
 }
 
 /// Is a name an element's?

@@ -1,5 +1,5 @@
 //! The variables of one frame.
-ghost use Rattle.std.specs.Prelude.{◌≡◌, Some, None, Ok, Err, IfOk, IfErr, IsSome, OnOk, OnErr};
+ghost use Rattle.std.specs.Prelude.{◌≡◌, Some, None, Ok, Err, IfOk, IfErr, OnOk, OnErr};
 ghost use Rattle.tcl_meaning.specs.Frames.{element};
 ghost use Rattle.std.specs.Borrow.{sem};
 ghost use Rattle.std.specs.FinMap as map;
@@ -86,25 +86,6 @@ pub(crate) fn place_in<'a>(
     }
 }
 
-// Puts a text into a variable that is there.
-fn write_in(
-    variables: &mut NameMap<Variable>,
-    alloc: Global,
-    name: &str,
-    part: Part<'_>,
-    value: Value,
-) -> Result<(), VarFault>
-    requires { IsSome (map.get variables.old (chars name.now)) }
-    ensures done { OnOk result (stored_in variables.old (chars name.now) (put_part (map.get variables.old (chars name.now)) (part_of part.entry) value) ≡ Ok variables.new) }
-    ensures refused { IfErr result (Refuses (put_part (map.get variables.old (chars name.now)) (part_of part.entry) value)) }
-    ensures same { OnErr result (variables.new ≡ variables.old) }
-{
-    match variables.get_mut(name) {
-        Some(variable) => variable.write(alloc, part, value),
-        None => unreachable!(),
-    }
-}
-
 // The variable of which a part has a text, and nothing else.
 fn made(alloc: Global, part: Part<'_>, value: Value) -> Result<Variable, VarFault>
     ensures done { IfOk result (λ variable. put_part None (part_of part.entry) value ≡ Ok variable) }
@@ -133,31 +114,12 @@ pub(crate) fn put_in(
     ensures refused { IfErr result (Refuses (put_part (map.get variables.old (chars name.now)) (part_of part.entry) value)) }
     ensures same { OnErr result (variables.new ≡ variables.old) }
 {
-    if variables.get(name).is_some() {
-        return write_in(variables, alloc, name, part, value);
+    if let Some(variable) = variables.get_mut(name) {
+        return variable.write(alloc, part, value);
     }
     let variable = made(alloc, part, value)?;
     variables.insert(alloc, name, variable)?;
     Ok(())
-}
-
-// Changes the elements of a variable that is there.
-fn edit_there(
-    variables: &mut NameMap<Variable>,
-    alloc: Global,
-    name: &str,
-    part: Part<'_>,
-    edit: Edit<'_>,
-) -> Result<(), VarFault>
-    requires { IsSome (map.get variables.old (chars name.now)) }
-    ensures done { OnOk result (stored_in variables.old (chars name.now) (edit_part edit.entry (map.get variables.old (chars name.now)) (part_of part.entry)) ≡ Ok variables.new) }
-    ensures refused { IfErr result (Refuses (edit_part edit.entry (map.get variables.old (chars name.now)) (part_of part.entry))) }
-    ensures same { OnRefused result (variables.new ≡ variables.old) }
-{
-    match variables.get_mut(name) {
-        Some(variable) => variable.edit(alloc, part, edit),
-        None => unreachable!(),
-    }
 }
 
 // The array that is begun by a change.
@@ -188,9 +150,8 @@ pub(crate) fn edit_in(
     ensures refused { IfErr result (Refuses (edit_part edit.entry (map.get variables.old (chars name.now)) (part_of part.entry))) }
     ensures same { OnRefused result (variables.new ≡ variables.old) }
 {
-    let is_there = variables.get(name).is_some();
-    if is_there {
-        return edit_there(variables, alloc, name, part, edit);
+    if let Some(variable) = variables.get_mut(name) {
+        return variable.edit(alloc, part, edit);
     }
     let variable = begun(alloc, part, edit)?;
     variables.insert(alloc, name, variable)?;

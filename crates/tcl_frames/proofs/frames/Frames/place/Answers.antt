@@ -1,27 +1,29 @@
-use Rattle.std.proofs.Common.{List, ℕ, refl, ap, ◌∙◌}
+use Rattle.std.proofs.Common.{List, ℕ, ◌≡◌, refl, ap, ◌∙◌}
 use mathlib.Core.Logic.{inl}
 use Rattle.std.specs.FinMap as map
 use Rattle.std.specs.Str.{chars}
-use Rattle.tcl_meaning.specs.Names.{Name}
-use Rattle.tcl_meaning.specs.Variables.{missing}
+use Rattle.tcl_meaning.specs.Names.{Name, divided_name}
+use Rattle.tcl_meaning.specs.State.{Commands}
+use Rattle.tcl_meaning.specs.Variables.{missing, spot_of as place_named}
 use Rattle.tcl_frames.specs.Places.{spot_of}
 use Rattle.tcl_frames.specs.Standing.{store_of}
 use Rattle.tcl_frames.proofs.Joined.{get_place, put_place}
 use Rattle.tcl_frames.proofs.frames.Frames.place.Goals as goal
 
-pub returns-in-Ok-place_at : goal.returns-in-Ok-place_at
-returns-in-Ok-place_at c =
+pub returns-in-Ok : goal.returns-in-Ok
+returns-in-Ok c =
     let now = c.args.self.now in
     let name = chars c.args.name.now in
-    let p = spot_of c.as_place.result in
-    let miss = c.missing-missing.ensures ∙ ap (λ (n : Name). missing n.part) c.divide.ensures in
-    let after = λ (w : List ℕ). put_place now name p w (c.as_place.ensures ∙ c.in-Ok.ensures.leads map.empty) in
-    (λ i. inl (c.in-Ok-place_at.value.ghost_name, λ w. after w i), (λ cs. get_place (store_of cs now) name p c.missing-missing.result (c.as_place.ensures ∙ c.in-Ok.ensures.leads cs) miss ∙ c.in-Ok-place_at.ensures.found cs, λ cs. tt))
+    let p = spot_of c.in-Some.at in
+    let miss = c.missing-missing.ensures ∙ ap (λ (n : Name). missing n.part) c.divide-divided.ensures in
+    let leads : (cs : Commands) → p ≡ place_named (store_of cs now) (divided_name name) = λ cs. c.in-Some.ensures.leads cs ∙ ap (place_named (store_of cs now)) c.divide-divided.ensures in
+    let after = λ (w : List ℕ). put_place now name p w (leads map.empty) in
+    (λ i. inl (c.in-Ok.value.ghost_name, λ w. after w i), (λ cs. get_place (store_of cs now) name p c.missing-missing.result (leads cs) miss ∙ c.in-Ok.ensures.found cs, λ cs. tt))
 
-pub returns : goal.returns
-returns c =
+pub returns-in-Err : goal.returns-in-Err
+returns-in-Err c =
     let now = c.args.self.now in
     let name = chars c.args.name.now in
-    let p = spot_of c.as_place.result in
-    let miss = c.missing-missing.ensures ∙ ap (λ (n : Name). missing n.part) c.divide.ensures in
-    (refl, (λ cs. tt, λ cs. get_place (store_of cs now) name p c.missing-missing.result (c.as_place.ensures ∙ c.in-Ok.ensures.leads cs) miss ∙ c.in-Err.ensures.refused cs))
+    let p = spot_of c.in-Some.at in
+    let miss = c.missing-missing.ensures ∙ ap (λ (n : Name). missing n.part) c.divide-divided.ensures in
+    (refl, (λ cs. tt, λ cs. get_place (store_of cs now) name p c.missing-missing.result (c.in-Some.ensures.leads cs ∙ ap (place_named (store_of cs now)) c.divide-divided.ensures) miss ∙ c.in-Err.ensures.refused cs))
