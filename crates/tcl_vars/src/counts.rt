@@ -5,7 +5,6 @@ ghost use Rattle.tcl_chars.specs.Texts.{literal};
 ghost use Rattle.tcl_vars.specs.Updating.{usage_of, AddsOne, Fits};
 
 use std::alloc::{AllocError, Global};
-use tcl_chars::message;
 use tcl_pages::UpdatePage;
 use tcl_values::Value;
 
@@ -62,6 +61,6 @@ pub(crate) fn with_one(alloc: Global, words: &[Value]) -> Result<Vec<Value>, All
     for word in behind {
         given.push(word.copy()?)?;
     }
-    given.push(Value::of_text(message(alloc, "1")?))?;
+    given.push(Value::of_int(1))?;
     Ok(given)
 }
