@@ -32,6 +32,15 @@ impl<T: Drop> Pile<T> {
         }
     }
 
+    /// With nothing on it, and room for so many.
+    pub fn with_room(alloc: Global, count: u32) -> Result<Pile<T>, AllocError>
+        ensures { IfOk result (λ p. p ≡ []) }
+    {
+        Ok(Pile {
+            items: Vec::with_capacity(alloc, count as usize)?,
+        })
+    }
+
     /// One more on top.
     pub fn push(&mut self, item: T) -> Result<(), AllocError>
         ensures { OnOk result (self.new ≡ item ∷ self.old) }

@@ -3,9 +3,9 @@ ghost use Rattle.std.specs.Prelude.{◌≡◌, [], ◌∷◌, ◌++◌, ◌≤�
 ghost use Rattle.tcl_code.specs.Machine.{taken};
 
 use crate::pile::Pile;
+use crate::results::Results;
 use std::alloc::{AllocError, Global};
 use std::marker::Model;
-use tcl_steps::Completion;
 use tcl_values::Value;
 
 /// Words that are gathered for a command.
@@ -61,7 +61,7 @@ impl Words {
 pub struct Stack {
     pub texts: Pile<Value>,
     pub lists: Pile<Words>,
-    pub results: Pile<Completion>,
+    pub results: Results,
     pub depth: u32,
 }
 

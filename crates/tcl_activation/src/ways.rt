@@ -1,5 +1,5 @@
 //! Instructions of ways through a code, and its end.
-ghost use Rattle.std.specs.Prelude.{◌≡◌, ◌≤◌, ℕ, None, length};
+ghost use Rattle.std.specs.Prelude.{◌≡◌, ◌≤◌, ℕ, None, length, IfOk};
 ghost use Rattle.tcl_activation.specs.Moves.{here};
 ghost use Rattle.tcl_activation.specs.Turnings.{Leads, Spends};
 ghost use Rattle.tcl_chars.specs.declared.numbers.Dialect.{Dialect};
@@ -9,7 +9,8 @@ ghost use Rattle.tcl_meaning.specs.State.{State};
 
 use crate::stack::Stack;
 use std::alloc::{AllocError, Global};
-use tcl_chars::{Dialect, Fault, expect_truth};
+use tcl_chars::{Dialect, Fault};
+use tcl_operators::truth_value;
 use tcl_steps::Completion;
 
 /// Where a code goes on.
@@ -46,8 +47,7 @@ impl Stack {
         ensures { Leads dialect wanted self.old self.new result }
     {
         let mut text = self.texts.pop();
-        let text = text.text(alloc)?;
-        match expect_truth(alloc, text.as_str(), dialect) {
+        match truth_value(alloc, &mut text, dialect) {
             Ok(holds) => Ok(if holds == wanted {
                 Way::Past
             } else {
@@ -59,12 +59,12 @@ impl Stack {
     }
 
     /// Where the code ends, how its script's last command has ended.
-    pub fn finish(&mut self) -> Completion
+    pub fn finish(&mut self, alloc: Global) -> Result<Completion, AllocError>
         requires texts { length self.old.texts ≡ 0 }
         requires lists { length self.old.lists ≡ 0 }
         requires results { length self.old.results ≡ 1 }
-        ensures { (dialect : Dialect) (at : ℕ) (s : State) → here dialect None at self.old s ≡ Ends (Gives result s) }
+        ensures { IfOk result (λ c. (dialect : Dialect) (at : ℕ) (s : State) → here dialect None at self.old s ≡ Ends (Gives c s)) }
     {
-        self.results.pop()
+        self.results.pop().into_completion(alloc)
     }
 }

@@ -1,4 +1,5 @@
 pub mod Answering
 pub mod Calling
+pub mod Leading
 pub mod Owing
 pub mod Scoping

@@ -36,14 +36,30 @@ impl<V: Devices> Engine for Host<'_, '_, '_, '_, V> {
 
     ghost leaves = { HostLeaves V.leaves };
 
-    fn step(&mut self, activation: &mut Activation) -> Result<Progress<Scope, Owes, Loop>, Stop> {
-        match self.instruct(activation)? {
-            Instructed::Moved => Ok(Progress::Moved),
-            Instructed::Spent => Ok(Progress::Spent),
-            Instructed::Turned => Ok(Progress::Turned),
-            Instructed::Calls(mut words) => Ok(Progress::Asks(self.invoke(&mut words)?)),
-            Instructed::Over(completion) => Ok(Progress::Over(completion)),
-            Instructed::Broke => Err(Stop::Budget),
+    fn step(
+        &mut self,
+        activation: &mut Activation,
+        paid: &mut u64,
+    ) -> Result<Progress<Scope, Owes, Loop>, Stop> {
+        'walk: loop {
+            match self.instruct(activation)? {
+                Instructed::Moved => {}
+                Instructed::Spent => *paid += 1,
+                Instructed::Turned => return Ok(Progress::Turned),
+                Instructed::Calls(mut words) => match self.invoke(&mut words)? {
+                    Step::Done(completion) => {
+                        if completion.is_ok() {
+                            activation.answer(completion)?;
+                            *paid -= 1;
+                        } else {
+                            return Ok(Progress::Asks(Step::Done(completion)));
+                        }
+                    }
+                    step => return Ok(Progress::Asks(step)),
+                },
+                Instructed::Over(completion) => return Ok(Progress::Over(completion)),
+                Instructed::Broke => return Err(Stop::Budget),
+            }
         }
     }
 

@@ -59,6 +59,9 @@ pub(crate) fn truth_operand(
     ensures truth { Answers (λ b. b) result (truth_or (non_numeric (chars operator.now)) (truth_of dialect value.old)) }
     ensures same { value.new ≡ value.old }
 {
+    if let Whole::Number(number) = value.whole(alloc, dialect)? {
+        return Ok(number != 0);
+    }
     let text = value.text(alloc)?;
     match read_truth(text.as_str(), dialect) {
         Truth::Yes => Ok(true),
@@ -73,6 +76,9 @@ pub fn truth_value(alloc: Global, value: &mut Value, dialect: Dialect) -> Result
     ensures truth { Answers (λ b. b) result (truth_value dialect value.old) }
     ensures same { value.new ≡ value.old }
 {
+    if let Whole::Number(number) = value.whole(alloc, dialect)? {
+        return Ok(number != 0);
+    }
     let text = value.text(alloc)?;
     expect_truth(alloc, text.as_str(), dialect)
 }

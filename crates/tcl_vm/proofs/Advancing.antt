@@ -1,86 +1,111 @@
--- What the real instruction makes of the real machine.
-use Rattle.std.proofs.Common.{◌≡◌, ℕ, ◌+◌, ◌-◌, ◌≤◌, Result, Ok, Err, sym, subst, ⊎_elim}
+-- What the real instructions make of the real machine.
+use Rattle.std.proofs.Common.{◌≡◌, ℕ, ◌+◌, ◌-◌, ◌≤◌, List, Result, Ok, Err, IfOk, sym, subst, ⊎_elim}
 use Rattle.tcl_meaning.specs.Completions.{Completion}
 use Rattle.tcl_chars.specs.declared.numbers.Dialect.{Dialect}
 use Rattle.tcl_meaning.specs.State.{State}
-use Rattle.tcl_vm.specs.Engines.{Views, completion_of, step_of, Steps}
-use Rattle.tcl_vm.specs.Machines.{machine_of, Stops, Makes}
-use Rattle.tcl_vm.specs.Standing.{Running}
-use Rattle.tcl_vm.specs.Turns.{Next, Asking, Ending, Config, Fits, Onward, Turned, On, Used}
+use Rattle.tcl_vm.specs.Engines.{Views, completion_of, step_of, Steps, Position, Strides}
+use Rattle.tcl_vm.specs.Machines.{Stops, Makes}
+use Rattle.tcl_vm.specs.Standing.{Running, Waiting, Machine}
+use Rattle.tcl_vm.specs.Turns.{Turn, Next, Asking, Ending, Config, Fits, Kind, Onward, Turned, On, Used}
 use Rattle.tcl_vm.specs.declared.engine.Stop.{Stop}
 use Rattle.tcl_vm.specs.declared.engine.Stop.TheVariants as stop
 use Rattle.tcl_steps.specs.declared.step.Step.{Step as Asked}
 use Rattle.tcl_vm.specs.declared.engine.Progress.{Progress}
 use Rattle.tcl_vm.specs.declared.engine.Progress.TheVariants as progress
-use Rattle.tcl_vm.specs.declared.machine.Machine.{Machine}
+use Rattle.tcl_vm.specs.declared.machine.Machine.{Machine as RealMachine}
 use Rattle.tcl_vm.specs.declared.machine.Made.{Made}
-use Rattle.tcl_vm.proofs.Turning.{config, on_moved, on_spent, on_turned, on_over, on_paused, called_paid, on_called, on_called_exit, on_called_broken, refused}
+use Rattle.tcl_vm.proofs.Turning.{config, on_turned, on_over, on_paused, called_paid, on_called, on_called_exit, on_called_broken, refused}
+use Rattle.tcl_vm.proofs.Walking.{machine_at, config_at, Walked, walked, then_turned, then_stops}
 
-pub makes_err : {A U S O L : Type 0} (dialect : Dialect) (views : Views A U S O L) (x : Result (Made S O L) Stop) (e : Stop) (c : Config) (m : Machine A U O) (s : State) → x ≡ Err e → Stops dialect e c s → Makes dialect views x c m s
+pub makes_err : {A U S O L : Type 0} (dialect : Dialect) (views : Views A U S O L) (x : Result (Made S O L) Stop) (e : Stop) (c : Config) (m : RealMachine A U O) (s : State) → x ≡ Err e → Stops dialect e c s → Makes dialect views x c m s
 makes_err dialect views x e c m s q h = subst (λ y. Makes dialect views y c m s) (sym q) h
 
-module _ {A U S O L : Type 0} (dialect : Dialect) (views : Views A U S O L) (m : Machine A U O) (a : A) (s t : State) (e : (views.running a).code ≡ (views.running m.current).code) (g : Onward s t) where
+module _ {A U S O L : Type 0} (dialect : Dialect) (views : Views A U S O L) (ws : List Waiting) (p q : Position) where
   abbrev before : Config
-  before = config Next (machine_of views m) m.paid s
+  before = config_at p ws
 
-  abbrev after : ℕ → Machine A U O
-  after n = record { current = a; callers = m.callers; paid = n }
+  -- the machine before what it does next, so many commands being paid for
+  abbrev after : Turn → ℕ → Config
+  after turn n = config turn (machine_at q.running ws) n q.state
 
-  -- the code is the same
-  with_code : (P : Running → Type 0) → P (record { code = (views.running m.current).code; spot = (views.running a).spot }) → P (views.running a)
-  with_code P h = subst (λ k. P (record { code = k; spot = (views.running a).spot })) (sym e) h
+  -- ---- the instruction at which they end
 
-  abbrev steps_to : Result (Progress S O L) Stop → Type 0
-  steps_to x = Steps dialect views x (views.running m.current) (views.running a) s t
+  module _ (at : Position) (g : Onward at.state q.state) where
+    -- the code is the same
+    with_code : q.running.code ≡ at.running.code → (P : Running → Type 0) → P (record { code = at.running.code; spot = q.running.spot }) → P q.running
+    with_code e P h = subst (λ k. P (record { code = k; spot = q.running.spot })) (sym e) h
 
-  pub step_moved : (x : Progress S O L) → x ≡ progress.Moved → steps_to (Ok x) → Turned dialect On before (config Next (machine_of views (after m.paid)) m.paid t)
-  step_moved x q h =
-      let k = subst (λ y. steps_to (Ok y)) q h in
-      with_code (λ b. Turned dialect On before (config Next (record { current = b; callers = (machine_of views m).callers }) m.paid t))
-      (on_moved dialect (machine_of views m) m.paid s t (views.running a).spot k.0 g.adds k.1)
+    abbrev steps_to : Result (Progress S O L) Stop → Type 0
+    steps_to x = Steps dialect views x at.running q.running at.state q.state
 
-  pub step_spent : (x : Progress S O L) → x ≡ progress.Spent → steps_to (Ok x) → Turned dialect On before (config Next (machine_of views (after (m.paid + 1))) (m.paid + 1) t)
-  step_spent x q h =
-      let k = subst (λ y. steps_to (Ok y)) q h in
-      with_code (λ b. Turned dialect On before (config Next (record { current = b; callers = (machine_of views m).callers }) (m.paid + 1) t))
-      (on_spent dialect (machine_of views m) m.paid s t (views.running a).spot k.0 g.adds k.1 k.2)
+    abbrev there : Machine
+    there = machine_at at.running ws
 
-  pub step_turned : (x : Progress S O L) → x ≡ progress.Turned → steps_to (Ok x) → Turned dialect Used before (config Next (machine_of views (after m.paid)) m.paid t)
-  step_turned x q h =
-      let k = subst (λ y. steps_to (Ok y)) q h in
-      with_code (λ b. Turned dialect Used before (config Next (record { current = b; callers = (machine_of views m).callers }) m.paid t))
-      (on_turned dialect (machine_of views m) m.paid s t (views.running a).spot k.0 g.adds k.1.0 k.1.1 k.2)
+    step_turned : q.running.code ≡ at.running.code → (x : Progress S O L) → x ≡ progress.Turned → steps_to (Ok x) → Turned dialect Used (config_at at ws) (after Next at.paid)
+    step_turned e x is h =
+        let k = subst (λ y. steps_to (Ok y)) is h in
+        with_code e (λ b. Turned dialect Used (config_at at ws) (config Next (machine_at b ws) at.paid q.state))
+        (on_turned dialect there at.paid at.state q.state q.running.spot k.0 g.adds k.1.0 k.1.1 k.2)
 
-  pub step_asks : (x : Progress S O L) (asked : Asked S O L) → x ≡ progress.Asks asked → steps_to (Ok x) → Turned dialect Used before (config (Asking (step_of views asked)) (machine_of views (after (m.paid - 1))) (m.paid - 1) t)
-  step_asks x asked q h =
-      let k = subst (λ y. steps_to (Ok y)) q h in
-      let called = k.0 in
-      with_code (λ b. Turned dialect Used before (config (Asking (step_of views asked)) (record { current = b; callers = (machine_of views m).callers }) (m.paid - 1) t))
-      (on_called dialect (machine_of views m) m.paid s t called.0 (views.running a).spot called.1 called.2.0 (step_of views asked) called.2.1 called.2.2 k.1 g.adds)
+    step_asks : q.running.code ≡ at.running.code → (x : Progress S O L) (asked : Asked S O L) → x ≡ progress.Asks asked → steps_to (Ok x) → Turned dialect Used (config_at at ws) (after (Asking (step_of views asked)) (at.paid - 1))
+    step_asks e x asked is h =
+        let k = subst (λ y. steps_to (Ok y)) is h in
+        let called = k.0 in
+        with_code e (λ b. Turned dialect Used (config_at at ws) (config (Asking (step_of views asked)) (machine_at b ws) (at.paid - 1) q.state))
+        (on_called dialect there at.paid at.state q.state called.0 q.running.spot called.1 called.2.0 (step_of views asked) called.2.1 called.2.2 k.1 g.adds)
 
-  pub step_paid : (x : Progress S O L) (asked : Asked S O L) → x ≡ progress.Asks asked → steps_to (Ok x) → Fits before → 1 ≤ m.paid
-  step_paid x asked q h f =
-      let k = subst (λ y. steps_to (Ok y)) q h in
-      let called = k.0 in
-      called_paid dialect (machine_of views m) m.paid s t called.0 (views.running a).spot called.1 f
+    step_paid : (x : Progress S O L) (asked : Asked S O L) → x ≡ progress.Asks asked → steps_to (Ok x) → Fits (config_at at ws) → 1 ≤ at.paid
+    step_paid x asked is h f =
+        let k = subst (λ y. steps_to (Ok y)) is h in
+        let called = k.0 in
+        called_paid dialect there at.paid at.state q.state called.0 q.running.spot called.1 f
 
-  pub step_over : (x : Progress S O L) (c : Completion) → x ≡ progress.Over c → steps_to (Ok x) → Turned dialect On before (config (Ending (completion_of c)) (machine_of views (after m.paid)) m.paid t)
-  step_over x c q h =
-      let k = subst (λ y. steps_to (Ok y)) q h in
-      over_elsewhere (on_over dialect (machine_of views m) m.paid s t (completion_of c) k.0 k.1 g.adds)
-    where
-      over_elsewhere : Turned dialect On before (config (Ending (completion_of c)) (machine_of views m) m.paid t) → Turned dialect On before (config (Ending (completion_of c)) (machine_of views (after m.paid)) m.paid t)
-      over_elsewhere h = record {
-        stands = λ r x. record { either = (h.stands r x).either };
-        fits = λ f. let y = h.fits f in record { by = y.by; room = y.room };
-        less = λ f. h.less f;
-        onward = h.onward;
-      }
+    step_over : (x : Progress S O L) (c : Completion) → x ≡ progress.Over c → steps_to (Ok x) → Turned dialect On (config_at at ws) (after (Ending (completion_of c)) at.paid)
+    step_over x c is h =
+        let k = subst (λ y. steps_to (Ok y)) is h in
+        let t = on_over dialect there at.paid at.state q.state (completion_of c) k.0 k.1 g.adds in
+        record {
+          stands = λ r y. record { either = (t.stands r y).either };
+          fits = λ f. let y = t.fits f in record { by = y.by; room = y.room };
+          less = λ f. t.less f;
+          onward = t.onward;
+        }
 
-  pub step_stops : (e : Stop) → steps_to (Err e) → Stops dialect e before t
-  step_stops stop.Budget h = on_paused dialect (machine_of views m) m.paid s t h g.spends g.adds
-  step_stops (stop.Exit n) h = on_called_exit dialect (machine_of views m) m.paid s t h.0 (views.running a).spot h.1 n h.2 g.spends g.adds
-  step_stops stop.Memory h =
-      ⊎_elim (λ x. refused dialect before t x g.spends) (λ x. on_called_broken dialect (machine_of views m) m.paid s t x.0 (views.running a).spot x.1 x.2 g.spends g.adds) h
-  step_stops stop.Io h =
-      ⊎_elim (λ x. refused dialect before t x g.spends) (λ x. on_called_broken dialect (machine_of views m) m.paid s t x.0 (views.running a).spot x.1 x.2 g.spends g.adds) h
+    step_stops : (x : Stop) → steps_to (Err x) → Stops dialect x (config_at at ws) q.state
+    step_stops stop.Budget h = on_paused dialect there at.paid at.state q.state h g.spends g.adds
+    step_stops (stop.Exit n) h = on_called_exit dialect there at.paid at.state q.state h.1.0 h.0 h.1.1 n h.1.2 g.spends g.adds
+    step_stops stop.Memory h =
+        ⊎_elim (λ x. refused dialect (config_at at ws) q.state x g.spends) (λ x. on_called_broken dialect there at.paid at.state q.state x.1.0 x.0 x.1.1 x.1.2 g.spends g.adds) h
+    step_stops stop.Io h =
+        ⊎_elim (λ x. refused dialect (config_at at ws) q.state x g.spends) (λ x. on_called_broken dialect there at.paid at.state q.state x.1.0 x.0 x.1.1 x.1.2 g.spends g.adds) h
+
+  -- ---- all of them
+
+  module _ {result : Result (Progress S O L) Stop} (h : Strides dialect views result p q) where
+    way : Walked dialect before (config_at h.at ws)
+    way = walked dialect ws p h.at h.walks
+
+    turned_by : (kind : Kind) (turn : Turn) (left : ℕ → ℕ) → Turned dialect kind (config_at h.at ws) (after turn (left h.at.paid)) → Turned dialect kind before (after turn (left q.paid))
+    turned_by kind turn left t =
+        subst (λ n. Turned dialect kind before (after turn (left n))) (sym h.paid) (then_turned dialect kind before (config_at h.at ws) (after turn (left h.at.paid)) way t)
+
+    steps_as : (r : Result (Progress S O L) Stop) → result ≡ r → Steps dialect views r h.at.running q.running h.at.state q.state
+    steps_as r is = subst (λ y. Steps dialect views y h.at.running q.running h.at.state q.state) is h.steps
+
+    code_as : (x : Progress S O L) → result ≡ Ok x → q.running.code ≡ h.at.running.code
+    code_as x is = subst (λ y. IfOk y (λ _. q.running.code ≡ h.at.running.code)) is h.code
+
+    pub strides_turned : (x : Progress S O L) → result ≡ Ok x → x ≡ progress.Turned → Turned dialect Used before (after Next q.paid)
+    strides_turned x was is = turned_by Used Next (λ n. n) (step_turned h.at h.onward (code_as x was) x is (steps_as (Ok x) was))
+
+    pub strides_asks : (x : Progress S O L) (asked : Asked S O L) → result ≡ Ok x → x ≡ progress.Asks asked → Turned dialect Used before (after (Asking (step_of views asked)) (q.paid - 1))
+    strides_asks x asked was is = turned_by Used (Asking (step_of views asked)) (λ n. n - 1) (step_asks h.at h.onward (code_as x was) x asked is (steps_as (Ok x) was))
+
+    pub strides_paid : (x : Progress S O L) (asked : Asked S O L) → result ≡ Ok x → x ≡ progress.Asks asked → Fits before → 1 ≤ q.paid
+    strides_paid x asked was is f = subst (λ n. 1 ≤ n) (sym h.paid) (step_paid h.at h.onward x asked is (steps_as (Ok x) was) (way.fits f))
+
+    pub strides_over : (x : Progress S O L) (c : Completion) → result ≡ Ok x → x ≡ progress.Over c → Turned dialect On before (after (Ending (completion_of c)) q.paid)
+    strides_over x c was is = turned_by On (Ending (completion_of c)) (λ n. n) (step_over h.at h.onward x c is (steps_as (Ok x) was))
+
+    pub strides_stop : (x : Stop) → result ≡ Err x → Stops dialect x before q.state
+    strides_stop x was = then_stops dialect x before (config_at h.at ws) q way (step_stops h.at h.onward x (steps_as (Err x) was))

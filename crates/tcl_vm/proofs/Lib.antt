@@ -8,3 +8,4 @@ pub mod Returning
 pub mod Stuck
 pub mod Turning
 pub mod Unwinding
+pub mod Walking

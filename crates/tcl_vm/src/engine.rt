@@ -1,6 +1,6 @@
 //! What a machine runs over: codes, pages, and what scripts keep.
 
-ghost use Rattle.std.specs.Prelude.{◌≡◌, ◌≤◌, ℕ, Bool, false, OnOk, OnErr, IfOk};
+ghost use Rattle.std.specs.Prelude.{◌≡◌, ◌≤◌, ◌<◌, ◌+◌, ◌^◌, ℕ, Bool, false, OnOk, OnErr, IfOk};
 ghost use Rattle.tcl_chars.specs.declared.numbers.Dialect.{Dialect};
 ghost use Rattle.tcl_meaning.specs.Asking.{questions_owed, questions};
 ghost use Rattle.tcl_meaning.specs.Completions.{too_deep};
@@ -10,7 +10,7 @@ ghost use Rattle.tcl_meaning.specs.Pages.{owed};
 ghost use Rattle.tcl_meaning.specs.Script.{most_depth};
 ghost use Rattle.tcl_meaning.specs.State.{State};
 ghost use Rattle.tcl_code.specs.Means.{Means, MeansExpr};
-ghost use Rattle.tcl_vm.specs.Engines.{Views, completion_of, step_of, Answers, Steps, BeginsAs, Spent, is_io, stop_by};
+ghost use Rattle.tcl_vm.specs.Engines.{Views, completion_of, step_of, Answers, Strides, position, BeginsAs, Spent, is_io, stop_by};
 ghost use Rattle.tcl_vm.specs.Fitting.{answered, FitsHere};
 ghost use Rattle.tcl_vm.specs.Standing.{Nothing, undone_of, undo};
 ghost use Rattle.tcl_vm.specs.Turns.{Onward};
@@ -62,12 +62,9 @@ impl From<Fault> for Stop {
     }
 }
 
-/// What an instruction has done.
+/// What instructions have come to.
 #[derive(Drop)]
 pub enum Progress<S, O, L> {
-    Moved,
-    /// A unit pays for the next command.
-    Spent,
     /// A unit has paid for a turn back.
     Turned,
     /// A command was called, and its page asks for this.
@@ -99,15 +96,16 @@ pub trait Engine {
     /// What calls leave of what the definition doesn't see, as the devices; in the last of them a device failed or not.
     ghost leaves: { Bool → Self → Self → Type 0 };
 
-    /// One instruction, or the end of the code. Where a command is called, its page's first step is made.
+    /// Instructions, and the commands that they call, until a unit has paid for a turn back, a command asks for something, or the
+    /// code has ended. The commands that units pay for on the way are counted until they are called.
     fn step(
         &mut self,
         activation: &mut Self::Activation,
+        paid: &mut u64,
     ) -> Result<Progress<Self::Scope, Self::Owes, Self::Loop>, Stop>
-        requires { (n : ℕ) × FitsHere (views.running activation.old) n }
-        ensures code { (views.running activation.new).code ≡ (views.running activation.old).code }
-        ensures makes { Steps dialect views result (views.running activation.old) (views.running activation.new) (shown self.old) (shown self.new) }
-        ensures onward { Onward (shown self.old) (shown self.new) }
+        requires fits { (n : ℕ) × FitsHere (views.running activation.old) n × (n ≤ paid.old) }
+        requires room { (shown self.old).units + paid.old < 2 ^ 64 }
+        ensures makes { Strides dialect views result (position (views.running activation.old) paid.old (shown self.old)) (position (views.running activation.new) paid.new (shown self.new)) }
         ensures frames { IfOk result (λ _. SameFrames (shown self.old) (shown self.new)) }
         ensures leaves { leaves (is_io result) self.old self.new };
 

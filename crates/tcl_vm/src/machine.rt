@@ -71,7 +71,7 @@ impl<A: Drop, U: Drop, O: Drop> Machine<A, U, O> {
     }
 }
 
-/// One instruction.
+/// Instructions of the code that runs.
 pub(crate) fn advance<E: Engine>(
     engine: &mut E,
     machine: &mut Machine<E::Activation, E::Undone, E::Owes>,
@@ -80,12 +80,7 @@ pub(crate) fn advance<E: Engine>(
     ensures makes { Makes E.dialect E.views result (config_of E.views turn.Next machine.old (E.shown engine.old)) machine.new (E.shown engine.new) }
     ensures leaves { E.leaves (is_io result) engine.old engine.new }
 {
-    match engine.step(&mut machine.current)? {
-        Progress::Moved => Ok(Made::On(Turn::Next)),
-        Progress::Spent => {
-            machine.paid += 1;
-            Ok(Made::On(Turn::Next))
-        }
+    match engine.step(&mut machine.current, &mut machine.paid)? {
         Progress::Turned => Ok(Made::Used(Turn::Next)),
         Progress::Asks(step) => {
             machine.paid -= 1;
