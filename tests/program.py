@@ -1,6 +1,7 @@
 """Checks of the built program that no case file can say: devices that fail, files that can't be read, great sizes."""
 import os
 import re
+import select
 import subprocess
 import tempfile
 import time
@@ -121,10 +122,10 @@ def usage_check(name, words):
         expect(tested.run(words, room), 5, b"", USAGE)
 
 
-# (these two until there is a prompt)
-usage_check("no-word", [])
-usage_check("budget-without-file", ["-budget", "5"])
 usage_check("budget-alone", ["-budget"])
+usage_check("budget-word-alone", ["-budget", "x"])
+usage_check("budget-empty-alone", ["-budget", ""])
+usage_check("budget-one-too-many-alone", ["-budget", "9223372036854775808"])
 usage_check("budget-word", ["-budget", "x", "script.tcl"])
 usage_check("budget-empty", ["-budget", "", "script.tcl"])
 usage_check("budget-negative", ["-budget", "-1", "script.tcl"])
@@ -211,6 +212,7 @@ def _(tested, room):
     write(room, "puts $argv0\n")
     expect(Program(f"{TOP}/tclint").run(["script.tcl"], room), 0, b"script.tcl\n")
     expect(Program(f"{TOP}/tclint").run(["-budget", "0", "script.tcl"], room), 2, b"", b"budget spent\n")
+    expect(Program(f"{TOP}/tclint").run([], room, stdin=b"puts a\n"), 0, b"% a\n% ")
 
 
 # ---- texts at the edge
@@ -273,9 +275,9 @@ text_check("pattern-of-stars", lambda: b"puts [string match " + b"*a" * 30 + b"b
 # ---- input
 
 
-def run_by_bytes(tested, room, text, stdin):
-    """Runs a script's text on an input that comes a byte at a time."""
-    started = tested.start([write(room, text)], room)
+def run_by_bytes(tested, room, words, stdin):
+    """Runs the program on an input that comes a byte at a time."""
+    started = tested.start(words, room)
     try:
         for byte in stdin:
             os.write(started.stdin.fileno(), bytes([byte]))
@@ -292,7 +294,7 @@ def input_check(name, text, stdin, stdout):
 
     @check(f"input/{name}-by-bytes")
     def _(tested, room):
-        expect(run_by_bytes(tested, room, text, stdin), 0, stdout)
+        expect(run_by_bytes(tested, room, [write(room, text)], stdin), 0, stdout)
 
 
 input_check("lines", "while {[gets stdin l] >= 0} {puts <$l>}; puts [eof stdin]", b"a\r\nb", b"<a>\n<b>\n1\n")
@@ -329,6 +331,127 @@ def _(tested, room):
 def _(tested, room):
     folder = by_shell('exec "$0" "$@" <.')
     expect(run_text(tested, room, "puts a; catch {gets stdin l}; puts b", by=folder), 4, b"a\n", IO_FAULT)
+
+
+# ---- sessions: without a file
+
+
+def session_check(name, stdin, stdout, stderr=b"", status=0, words=()):
+    """A session, over an input that is there at once, from a file, and a byte at a time."""
+
+    @check(f"session/{name}")
+    def _(tested, room):
+        given = stdin() if callable(stdin) else stdin
+        wanted = stdout() if callable(stdout) else stdout
+        write(room, given, "input")
+        expect(tested.run(words, room, stdin=given), status, wanted, stderr)
+        expect(tested.run(words, room, by=FROM_FILE), status, wanted, stderr)
+        if len(given) < 200:
+            expect(run_by_bytes(tested, room, words, given), status, wanted, stderr)
+
+
+FROM_FILE = by_shell('exec "$0" "$@" <input')
+UNKNOWN = b'invalid command name "nosuch"\n'
+
+session_check("empty-input", b"", b"% ")
+session_check("empty-input-with-budget", b"", b"% ", words=["-budget", "0"])
+session_check("empty-lines", b"\n\n", b"% % % ")
+session_check("one-text", b"puts a\n", b"% a\n% ")
+session_check("no-last-newline", b"puts a", b"% a\n% ")
+session_check("result", b"set x a\nset y {}\nset x\n", b"% a\n% % a\n% ")
+session_check("several-commands-a-line", b"puts a; set x b\n", b"% a\nb\n% ")
+session_check("state-goes-on", b"proc f x {return <$x>}\nset y a\nf $y\n", b"% % a\n% <a>\n% ")
+session_check("error-and-on", b"nosuch\nputs a\n", b"% % a\n% ", UNKNOWN)
+session_check("error-of-a-code", b"break\nputs a\n", b"% % a\n% ", b'invoked "break" outside of a loop\n')
+session_check("malformed-and-on", b"puts {a}b\nputs a\n", b"% % a\n% ", b"extra characters after close-brace\n")
+session_check("text-of-lines", b"set x {a\nb}\nputs hi\n", b"% a\nb\n% hi\n% ")
+session_check("text-of-lines-by-backslash", b"puts \\\na\n", b"% a\n% ")
+session_check("text-of-lines-by-bracket", b"puts [\nset x 1\n]\n", b"% 1\n% ")
+session_check("text-of-lines-by-quote", b'puts "a\n\nb"\n', b"% a\n\nb\n% ")
+session_check("incomplete-at-the-end", b"puts a\nputs {b\n", b"% a\n% % ", b"missing close-brace\n")
+session_check("incomplete-without-newline", b"puts [", b"% % ", b"missing close-bracket\n")
+session_check("exit", b"puts a\nexit 3\nputs no\n", b"% a\n% ", status=3)
+session_check("exit-plain", b"exit\nputs no\n", b"% ")
+session_check("exit-inside", b"proc f {} {catch {exit 255}}\nf\n", b"% % ", status=255)
+session_check("budget", b"set x 1\nset y 2\n", b"% 1\n% ", b"budget spent\n", 2, ["-budget", "1"])
+session_check("budget-none", b"\n# no command\nset x 1\n", b"% % % ", b"budget spent\n", 2, ["-budget", "0"])
+session_check("budget-enough", b"set x 1\nset y 2\n", b"% 1\n% 2\n% ", words=["-budget", "2"])
+session_check("budget-in-a-loop", b"set i 0\nwhile 1 {incr i}\n", b"% 0\n% ", b"budget spent\n", 2, ["-budget", "1000"])
+session_check("words", b"puts $argv0|$argv|$argc\n", b"% tclint||0\n% ")
+session_check("words-with-budget", b"puts $argv0|$argv|$argc\n", b"% tclint||0\n% ", words=["-budget", "9"])
+session_check("input-taken-by-a-script", b"gets stdin l\ndata\nputs $l\n", b"% 4\n% data\n% ")
+session_check("input-taken-whole", b"puts [string length [read stdin]]\nab\nc", b"% 4\n% ")
+session_check("input-end-met-by-a-script", b"gets stdin l", b"% -1\n% ")
+session_check("crlf", b"set x {a\r\nb}\r\nputs hi\r\n", b"% a\nb\n% hi\n% ")
+session_check("crlf-by-backslash", b"puts \\\r\na\r\n", b"% a\n% ")
+session_check("lone-cr", b"puts {a\rb}\r", b"% a\rb\n% ")
+session_check("ill-formed", b"puts <\xff>\n\xe2\x82\n", b"% <\xef\xbf\xbd>\n% % ", b'invalid command name "\xef\xbf\xbd"\n')
+session_check("past-ascii", "puts é€\U0001f600\n".encode(), "% é€\U0001f600\n% ".encode())
+session_check("nul", b"puts a\0b\n\0\nputs c\n", b"% a\0b\n% % c\n% ", b'invalid command name "\0"\n')
+session_check("byte-order-mark", b"\xef\xbb\xbfputs a\n", b"% % ", b'invalid command name "\xef\xbb\xbfputs"\n')
+session_check("many-texts", lambda: b"set x 1\n" * 20_000, lambda: b"% 1\n" * 20_000 + b"% ")
+session_check("long-text", lambda: b"puts " + A_LONG_WORD[:1_000_000] + b"\n", lambda: b"% " + A_LONG_WORD[:1_000_000] + b"\n% ")
+session_check("many-lines-a-text", lambda: b"puts {" + b"ab\n" * 500 + b"}\n", lambda: b"% " + b"ab\n" * 500 + b"\n% ")
+
+
+@check("session/null-device")
+def _(tested, room):
+    expect(tested.run([], room, by=by_shell('exec "$0" "$@" </dev/null')), 0, b"% ")
+
+
+@check("session/input-closed")
+def _(tested, room):
+    expect(tested.run([], room, by=by_shell('exec "$0" "$@" <&-')), 4, b"% ", IO_FAULT)
+
+
+@check("session/input-is-a-folder")
+def _(tested, room):
+    expect(tested.run([], room, by=by_shell('exec "$0" "$@" <.')), 4, b"% ", IO_FAULT)
+
+
+@check("session/input-of-a-command")
+def _(tested, room):
+    expect(tested.run([], room, by=by_shell('printf "puts a\nputs {b\nc}\n" | "$0" "$@"')), 0, b"% a\n% b\nc\n% ")
+
+
+@check("session/answers-line-by-line")
+def _(tested, room):
+    # the input goes on: each prompt and each answer is there before the next line is
+    started = tested.start([], room)
+    turns = [
+        (b"", b"% "),
+        (b"set x 5\n", b"5\n% "),
+        (b'puts "a\n', b""),
+        (b'b"\n', b"a\nb\n% "),
+        (b"gets stdin\n", b""),
+        (b"zz\n", b"zz\n% "),
+        (b"nosuch\n", b"% "),
+        (b"exit 7\n", b""),
+    ]
+    try:
+        for line, wanted in turns:
+            os.write(started.stdin.fileno(), line)
+            answer = answered(started.stdout, len(wanted))
+            if answer != wanted:
+                raise Wrong(f"behind {line!r}: expected {wanted!r}, got {answer!r}")
+    finally:
+        got = tested.end(started)
+    expect(got, 7, b"", UNKNOWN)
+
+
+def answered(device, size):
+    """So many bytes of a device; fewer where they don't come in time. None are there beyond them."""
+    read = b""
+    ends = time.monotonic() + SECONDS
+    while len(read) < size and time.monotonic() < ends:
+        if select.select([device], [], [], 0.2)[0]:
+            taken = os.read(device.fileno(), 4096)
+            if not taken:
+                break
+            read += taken
+    if size == 0 and select.select([device], [], [], 0.05)[0]:
+        read += os.read(device.fileno(), 4096)
+    return read
 
 
 # ---- devices that fail
@@ -369,6 +492,32 @@ def _(tested, room):
         expect(run_text(tested, room, "puts a\nputs b\n", stdout=writing), 4, b"", IO_FAULT)
     finally:
         os.close(writing)
+
+
+@check("output/full-in-a-session")
+def _(tested, room):
+    with full() as device:
+        expect(tested.run([], room, stdin=b"puts stderr no\n", stdout=device), 4, b"", IO_FAULT)
+
+
+@check("output/closed-in-a-session")
+def _(tested, room):
+    expect(tested.run([], room, stdin=b"puts stderr no\n", by=CLOSED_OUT), 4, b"", IO_FAULT)
+
+
+@check("output/reader-gone-in-a-session")
+def _(tested, room):
+    started = tested.start([], room)
+    try:
+        answered(started.stdout, 2)
+        started.stdout.close()
+        os.write(started.stdin.fileno(), b"puts a\nputs stderr no\n")
+        started.stdin.close()
+        err = started.stderr.read()
+        status = started.wait(timeout=SECONDS)
+    finally:
+        started.kill()
+    expect(Result(status, b"", err), 4, b"", IO_FAULT)
 
 
 @check("output/full-in-mid-run")
@@ -421,6 +570,20 @@ status_stays_check("budget", ["-budget", "0", "script.tcl"], 2, b"")
 status_stays_check("usage", ["-budget"], 5, b"")
 status_stays_check("file", ["nosuch.tcl"], 5, b"")
 status_stays_check("not-utf8", ["bytes.tcl"], 5, b"")
+
+
+def unwritten_check(name, words, stdin, status, stdout):
+    @check(f"errors/unwritten-in-a-session-{name}")
+    def _(tested, room):
+        with full() as device:
+            expect(tested.run(words, room, stdin=stdin, stderr=device), status, stdout)
+        expect(tested.run(words, room, stdin=stdin, by=CLOSED_ERR), status, stdout)
+
+
+# the message of a text's error is written by the session, the line of a status isn't
+unwritten_check("message", [], b"nosuch\nputs no\n", 4, b"% ")
+unwritten_check("budget", ["-budget", "0"], b"puts no\n", 2, b"% ")
+unwritten_check("usage", [b"\xff"], b"puts no\n", 5, b"")
 
 
 @check("errors/both-full")

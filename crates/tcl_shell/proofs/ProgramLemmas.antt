@@ -1,5 +1,5 @@
 -- What the program does, put together from the calls that it makes.
-use Rattle.std.proofs.Common.{◌≡◌, ℕ, ◌-◌, ◌<◌, suc, zero, false, List, [], ◌∷◌, length, take, drop, map, Option, Some, None, option_map, refl, sym, ap, subst, ◌∙◌, arith, Bor, slice_index_or}
+use Rattle.std.proofs.Common.{◌≡◌, ℕ, ◌-◌, ◌<◌, suc, zero, Bool, false, List, [], ◌∷◌, length, take, drop, map, Option, Some, None, option_map, refl, sym, ap, subst, ◌∙◌, arith, Bor, slice_index_or}
 use Rattle.std.specs.Str.{chars, IsUtf8}
 use Rattle.std.proofs.lemmas.List.{length-drop}
 use Rattle.std.proofs.Math.Seq.{take-length}
@@ -12,11 +12,16 @@ use Rattle.tcl_meaning.specs.State.{State}
 use Rattle.tcl_interp.specs.Channels.{RunCounted}
 use Rattle.tcl_interp.specs.Outcome.{outcome_is_io}
 use Rattle.tcl_interp.specs.Report.{Reports}
+use Rattle.tcl_interp.specs.declared.host.Outcome.{Outcome}
 use Rattle.tcl_interp.specs.declared.host.Outcome.TheVariants as outcome
 use Rattle.tcl_interp.specs.declared.report.Report.{Report}
 use Rattle.tcl_interp.proofs.Ending.{begun_part}
+use Rattle.tcl_session.specs.Ends.{Tells, end_is_io}
+use Rattle.tcl_session.specs.Session.{session}
+use Rattle.tcl_session.specs.declared.end.SessionEnd.{SessionEnd}
+use Rattle.tcl_session.specs.declared.end.SessionEnd.TheVariants as end
 use Rattle.tcl_shell.specs.Lines.{Said, SaidIf, unreadable, not_utf8}
-use Rattle.tcl_shell.specs.Program.{Devices, Ran, RunsWords, RunsFile, channels_at, failures_told, file_name, status_of, outcome_line}
+use Rattle.tcl_shell.specs.Program.{Devices, IsTold, Ran, RanSession, RunsAsked, RunsWords, RunsFile, channels_at, failures_told, file_name, status_of, outcome_by, outcome_line}
 use Rattle.tcl_shell.specs.declared.words.Request.{Request}
 
 -- ---- a run
@@ -36,18 +41,42 @@ module _ {R W E : Type 0} (script : List ℕ) (args : List (List ℕ)) (budget s
       let s : State = record { store = first_store (argument_variables args); channels = channels_at old; units = budget } in
       written_more (Ran got status old) old new input out (record {
         report = record { outcome = outcome.Memory; interp = None };
-        before = old.err;
-        reports = record { memory = refl; part = record { left = s.channels.input; met_end = false; holds = begun_part Tcl86 script s } };
-        failures = refl;
-        answers = answers;
-        says = says;
+        is_told = record {
+          before = old.err;
+          outputs = record { memory = refl; part = record { left = s.channels.input; met_end = false; holds = begun_part Tcl86 script s } };
+          failures = refl;
+          answers = answers;
+          says = says;
+        };
       })
 
   -- and one that is reported
   ran : (report : Report) (between new : Devices R W E) → new.input ≡ between.input → new.out ≡ between.out → Reports report got between.out.bytes between.err.bytes → RunCounted (outcome_is_io report.outcome) (failures_told old) (failures_told between)
       → status ≡ status_of report.outcome → SaidIf (outcome_line report.outcome) between.err new.err → Ran got status old new
   ran report between new input out reports failures answers says =
-      written_more (Ran got status old) between new input out (record { report = report; before = between.err; reports = reports; failures = failures; answers = answers; says = says })
+      written_more (Ran got status old) between new input out (record { report = report; is_told = record { before = between.err; outputs = reports; failures = failures; answers = answers; says = says } })
+
+-- ---- a session
+
+-- a device failed in the session where the outcome says so
+io_by : (e : SessionEnd) → end_is_io e ≡ outcome_is_io (outcome_by e)
+io_by end.Ended = refl
+io_by end.Budget = refl
+io_by (end.Exit status) = refl
+io_by end.Memory = refl
+io_by end.Io = refl
+
+pub ran_session : {R W E : Type 0} (budget status : ℕ) (e : SessionEnd) (o : Outcome) (old between new : Devices R W E) → o ≡ outcome_by e → new.input ≡ between.input → new.out ≡ between.out → Tells e (session (channels_at old) budget) between.out.bytes between.err.bytes
+    → RunCounted (end_is_io e) (failures_told old) (failures_told between) → status ≡ status_of o → SaidIf (outcome_line o) between.err new.err → RanSession budget status old new
+ran_session budget status e o old between new is input out tells failures answers says =
+    let told : IsTold (Tells e (session (channels_at old) budget)) o status old (record between { err = new.err }) = record {
+      before = between.err;
+      outputs = tells;
+      failures = subst (λ (io : Bool). RunCounted io (failures_told old) (failures_told between)) (io_by e ∙ ap outcome_is_io (sym is)) failures;
+      answers = answers;
+      says = says;
+    } in
+    written_more (RanSession budget status old) between new input out (record { end = e; is_told = subst (λ (x : Outcome). IsTold (Tells e (session (channels_at old) budget)) x status old (record between { err = new.err })) is told })
 
 -- ---- what is answered for a file and the words from its name on
 
@@ -97,5 +126,7 @@ from_place ws n = ap texts (ap (λ k. take k (drop n ws)) (sym (length-drop n ws
     behind [] (suc n) = refl
     behind (w ∷ ws) (suc n) = behind ws n
 
-pub answered : {R W E : Type 0} (asked : Option Request) (r : Request) (ws : List (Bor (List ℕ))) (file : Option (List ℕ)) (status : ℕ) (old new : Devices R W E) → asked ≡ Some r → RunsFile r.budget (texts (take (length ws - r.file) (drop r.file ws))) file status old new → RunsWords asked (texts ws) file status old new
-answered asked r ws file status old new e h = rw e (subst (λ words. RunsFile r.budget words file status old new) (from_place ws r.file) h)
+pub answered : {R W E : Type 0} (asked : Option Request) (r : Request) (place : ℕ) (ws : List (Bor (List ℕ))) (file : Option (List ℕ)) (status : ℕ) (old new : Devices R W E) → asked ≡ Some r → r.file ≡ Some place
+    → RunsFile r.budget (texts (take (length ws - place) (drop place ws))) file status old new → RunsWords asked (texts ws) file status old new
+answered asked r place ws file status old new e at h =
+    rw e (subst (λ (f : Option ℕ). RunsAsked r.budget f (texts ws) file status old new) (sym at) (subst (λ words. RunsFile r.budget words file status old new) (from_place ws place) h))

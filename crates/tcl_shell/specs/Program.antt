@@ -1,4 +1,4 @@
--- What the program does with its file, and what it answers.
+-- What the program does for its words and its file, and what it answers.
 use Rattle.std.specs.Prelude.{◌≡◌, ℕ, zero, suc, ℤ, pos, negsuc, List, [], ◌∷◌, drop, map, Option, Some, None, option_map}
 use Rattle.std.specs.Rc.{rc_str_bytes}
 use Rattle.std.specs.Str.{chars, IsUtf8}
@@ -16,6 +16,10 @@ use Rattle.tcl_interp.specs.Report.{Reports}
 use Rattle.tcl_interp.specs.declared.host.Outcome.{Outcome}
 use Rattle.tcl_interp.specs.declared.host.Outcome.TheVariants as outcome
 use Rattle.tcl_interp.specs.declared.report.Report.{Report}
+use Rattle.tcl_session.specs.Ends.{Tells}
+use Rattle.tcl_session.specs.Session.{session}
+use Rattle.tcl_session.specs.declared.end.SessionEnd.{SessionEnd}
+use Rattle.tcl_session.specs.declared.end.SessionEnd.TheVariants as end
 use Rattle.tcl_shell.specs.Lines.{Told, told, Said, SaidIf, usage_line, unreadable, not_utf8, message_line, budget_spent, out_of_memory, broken}
 use Rattle.tcl_shell.specs.declared.words.Request.{Request}
 
@@ -70,17 +74,34 @@ outcome_line outcome.Memory = Some out_of_memory
 outcome_line outcome.Io = Some broken
 outcome_line outcome.Failed = Some broken
 
+-- The outcome of a run that ends as a session does. A session that ended by itself is told as `exit 0` is.
+abbrev pub outcome_by : SessionEnd → Outcome
+outcome_by end.Ended = outcome.Exit 0
+outcome_by end.Budget = outcome.Budget
+outcome_by (end.Exit status) = outcome.Exit status
+outcome_by end.Memory = outcome.Memory
+outcome_by end.Io = outcome.Io
+
 -- ---- what the program does
 
--- A run reports what the script means, and then the line of its outcome goes to standard error.
-pub record Ran {R W E : Type 0} (got : Got Completion) (status : ℕ) (old new : Devices R W E) : Type 0 where
-  pub report : Report
+-- What ended with this outcome and left outputs as P says is told: the status is the outcome's, and its line goes to standard error.
+pub record IsTold {R W E : Type 0} (P : Option (List ℕ) → Option (List ℕ) → Type 0) (o : Outcome) (status : ℕ) (old new : Devices R W E) : Type 0 where
   -- standard error before that line
   pub before : Told E
-  pub reports : Reports report got new.out.bytes before.bytes
-  pub failures : RunCounted (outcome_is_io report.outcome) (failures_told old) (failures_told (record new { err = before }))
-  pub answers : status ≡ status_of report.outcome
-  pub says : SaidIf (outcome_line report.outcome) before new.err
+  pub outputs : P new.out.bytes before.bytes
+  pub failures : RunCounted (outcome_is_io o) (failures_told old) (failures_told (record new { err = before }))
+  pub answers : status ≡ status_of o
+  pub says : SaidIf (outcome_line o) before new.err
+
+-- A run reports what the script means, and is told.
+pub record Ran {R W E : Type 0} (got : Got Completion) (status : ℕ) (old new : Devices R W E) : Type 0 where
+  pub report : Report
+  pub is_told : IsTold (Reports report got) report.outcome status old new
+
+-- A session with so many units ends as its definition says, and is told.
+pub record RanSession {R W E : Type 0} (budget status : ℕ) (old new : Devices R W E) : Type 0 where
+  pub end : SessionEnd
+  pub is_told : IsTold (Tells end (session (channels_at old) budget)) (outcome_by end) status old new
 
 -- The words or the file are refused with a line, and nothing else happens.
 pub record Refused {R W E : Type 0} (line : List ℕ) (status : ℕ) (old new : Devices R W E) : Type 0 where
@@ -101,8 +122,14 @@ RunsFile budget words (Some bytes) status old new =
     (IsUtf8 bytes → Ran (run_with_args Tcl86 (joined_newlines (chars bytes)) (map chars words) (channels_at old) budget) status old new)
     × ((IsUtf8 bytes → ⊥) → Refused (not_utf8 (file_name words)) status old new)
 
+-- What the program does for its words, in UTF-8: it runs the file whose name stands at a place among them, or a session where no
+-- file is asked for.
+abbrev pub RunsAsked : {R W E : Type 0} → ℕ → Option ℕ → List (List ℕ) → Option (List ℕ) → ℕ → Devices R W E → Devices R W E → Type 0
+RunsAsked budget None words file status old new = RanSession budget status old new
+RunsAsked budget (Some place) words file status old new = RunsFile budget (drop place words) file status old new
+
 -- What the program does for what its words ask, the words in UTF-8, and its file: the status that it answers, and the devices
 -- before and after.
 abbrev pub RunsWords : {R W E : Type 0} → Option Request → List (List ℕ) → Option (List ℕ) → ℕ → Devices R W E → Devices R W E → Type 0
 RunsWords None words file status old new = Refused usage_line status old new
-RunsWords (Some request) words file status old new = RunsFile request.budget (drop request.file words) file status old new
+RunsWords (Some request) words file status old new = RunsAsked request.budget request.file words file status old new

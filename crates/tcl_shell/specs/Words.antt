@@ -1,4 +1,4 @@
--- The program's words: `?-budget N? file`.
+-- The program's words: `?-budget N? ?file arg ...?`.
 use Rattle.std.specs.Prelude.{ℕ, ◌-◌, ◌^◌, List, [], ◌∷◌, Option, Some, None, if◌then◌else◌}
 use Rattle.tcl_chars.specs.Texts.{literal, same_text}
 use Rattle.tcl_chars.specs.Whole.{decimal_of}
@@ -15,22 +15,31 @@ within_bounds decimal.Not = None
 abbrev pub budget_of : List ℕ → Option ℕ
 budget_of word = within_bounds (decimal_of word)
 
--- the budget of a run for which none is given
+-- the budget where none is given
 abbrev pub most_budget : ℕ
 most_budget = 2 ^ 63 - 1
 
--- The words ask for the file at a place, with a budget.
-abbrev pub asks : ℕ → Option ℕ → Option Request
+-- Where the file stands, behind so many words: it is the next one, if there is one.
+abbrev pub file_at : ℕ → List (List ℕ) → Option ℕ
+file_at place [] = None
+file_at place (file ∷ args) = Some place
+
+-- With a budget, the words ask for the file that stands there, or for a session where there is none.
+abbrev pub asks : Option ℕ → Option ℕ → Option Request
 asks file None = None
 asks file (Some budget) = Some (record { budget = budget; file = file })
 
 -- what the words behind `-budget` ask
 abbrev pub budgeted : List (List ℕ) → Option Request
 budgeted [] = None
-budgeted (number ∷ []) = None
-budgeted (number ∷ file ∷ args) = asks 2 (budget_of number)
+budgeted (number ∷ words) = asks (file_at 2 words) (budget_of number)
 
 -- What the words ask, if they are the program's usage.
 unfoldable pub request_of : List (List ℕ) → Option Request
-request_of [] = None
-request_of (word ∷ words) = if same_text word (literal "-budget") then budgeted words else asks 0 (Some most_budget)
+request_of [] = asks None (Some most_budget)
+request_of (word ∷ words) = if same_text word (literal "-budget") then budgeted words else asks (Some 0) (Some most_budget)
+
+-- where the file stands, if one is asked for
+abbrev pub file_of : Option Request → Option ℕ
+file_of None = None
+file_of (Some request) = request.file

@@ -5,5 +5,5 @@ mod lines;
 mod program;
 mod words;
 
-pub use program::tool;
+pub use program::{refuse_words, tool};
 pub use words::file_word;

@@ -3,8 +3,8 @@ ghost use Rattle.std.specs.Prelude.{◌≡◌, ◌<◌, length, map, option_map,
 ghost use Rattle.std.specs.Str.{chars};
 ghost use Rattle.std.specs.String.{string_bytes};
 ghost use Rattle.tcl_chan.specs.Newlines.{is_joined_return, joined_newlines};
-ghost use Rattle.tcl_shell.specs.Lines.{told, SaidIf};
-ghost use Rattle.tcl_shell.specs.Program.{RunsWords, RunsFile, devices, outcome_line, status_of};
+ghost use Rattle.tcl_shell.specs.Lines.{told, SaidIf, usage_line};
+ghost use Rattle.tcl_shell.specs.Program.{RanSession, Refused, RunsWords, RunsFile, devices, outcome_by, outcome_line, status_of};
 ghost use Rattle.tcl_shell.specs.Words.{request_of};
 
 use crate::lines::{Line, say};
@@ -13,6 +13,7 @@ use std::alloc::{AllocError, Global};
 use tcl_chan::device::{Input, Output};
 use tcl_chars::{begins, push, split_first};
 use tcl_interp::{Outcome, Report, run};
+use tcl_session::{SessionEnd, session};
 
 // Is the character the CR of a CR LF, where this follows it?
 #[tactic(auto, using(crate::proofs::JoinedNewlines::return_is))]
@@ -111,10 +112,55 @@ fn run_file<R: Input, W: Output, E: Output>(
     tell(alloc, reader, out, err, outcome)
 }
 
+// The outcome of a run that ends as a session does.
+fn outcome_by(end: SessionEnd) -> Outcome
+    ensures { result ≡ outcome_by end }
+{
+    match end {
+        SessionEnd::Ended => Outcome::Exit(0),
+        SessionEnd::Budget => Outcome::Budget,
+        SessionEnd::Exit(status) => Outcome::Exit(status),
+        SessionEnd::Memory => Outcome::Memory,
+        SessionEnd::Io => Outcome::Io,
+    }
+}
+
+// Runs a session, with a budget.
+fn run_session<R: Input, W: Output, E: Output>(
+    alloc: Global,
+    reader: &mut R,
+    out: &mut W,
+    err: &mut E,
+    budget: u64,
+) -> u8
+    ensures { RanSession budget result
+        (devices R.to_come R.failed_calls W.written W.failed_calls E.written E.failed_calls reader.old out.old err.old)
+        (devices R.to_come R.failed_calls W.written W.failed_calls E.written E.failed_calls reader.new out.new err.new) }
+{
+    let end = session(alloc, reader, out, err, budget);
+    tell(alloc, reader, out, err, outcome_by(end))
+}
+
+/// Refuses the program's words: its usage goes to standard error, and the answer is the status 5.
+pub fn refuse_words<R: Input, W: Output, E: Output>(
+    alloc: Global,
+    reader: &mut R,
+    out: &mut W,
+    err: &mut E,
+) -> u8
+    ensures { Refused usage_line result
+        (devices R.to_come R.failed_calls W.written W.failed_calls E.written E.failed_calls reader.old out.old err.old)
+        (devices R.to_come R.failed_calls W.written W.failed_calls E.written E.failed_calls reader.new out.new err.new) }
+{
+    say(alloc, reader, out, err, Line::Usage);
+    5
+}
+
 /// Runs the program for its words, its own name not among them, over the bytes of its file, or `None` where the file
-/// couldn't be read. The answer is the status: 0 done, 1 the script's error, 2 the budget is spent, 3 out of memory,
-/// 4 a read or a write failed, 5 the usage or the file is wrong, or what `exit` was given. But for 0 and `exit`, a line
-/// on standard error says so. The script reads the input; how far it was read ahead isn't promised.
+/// couldn't be read; without a file among the words it runs a session over the input. The answer is the status: 0 done, or
+/// the session ended, 1 the script's error, 2 the budget is spent, 3 out of memory, 4 a read or a write failed, 5 the usage or
+/// the file is wrong, or what `exit` was given. But for 0 and `exit`, a line on standard error says so. Scripts read the
+/// input; how far it was read ahead isn't promised.
 pub fn tool<R: Input, W: Output, E: Output>(
     alloc: Global,
     words: &[&str],
@@ -128,9 +174,18 @@ pub fn tool<R: Input, W: Output, E: Output>(
         (devices R.to_come R.failed_calls W.written W.failed_calls E.written E.failed_calls reader.new out.new err.new) }
 {
     let Some(request) = read_request(words) else {
-        say(alloc, reader, out, err, Line::Usage);
-        return 5;
+        return refuse_words(alloc, reader, out, err);
     };
-    let from_file = &words[request.file..];
-    run_file(alloc, from_file, file, reader, out, err, request.budget)
+    let Some(place) = request.file else {
+        return run_session(alloc, reader, out, err, request.budget);
+    };
+    run_file(
+        alloc,
+        &words[place..],
+        file,
+        reader,
+        out,
+        err,
+        request.budget,
+    )
 }

@@ -25,6 +25,8 @@ mod names;
 #[cfg(test)]
 mod pure;
 #[cfg(test)]
+mod session;
+#[cfg(test)]
 mod shell;
 #[cfg(test)]
 mod strings;

@@ -15,6 +15,7 @@ fn files(rt: HostRuntime) {
         (&["-budget", "9223372036854775807", "a"], Some(2)),
         (&["-budget", "9223372036854775808", "a"], None),
         (&["-budget", "", "a"], None),
+        (&["-budget"], None),
     ] {
         assert!(rt; file_word(words) == place, "{} words", words.len());
     }
@@ -57,8 +58,8 @@ static USAGE: &str = "usage: tclint ?-budget N? ?file arg ...?\n";
 #[test]
 fn bad_words_and_files(rt: HostRuntime) {
     for (words, file, want) in [
-        ([].as_slice(), None, USAGE),
-        (&["-budget", "5"], None, USAGE),
+        (["-budget"].as_slice(), None, USAGE),
+        (&["-budget", "x"], None, USAGE),
         (
             &["-budget", "-1", "a.tcl"],
             Some(b"puts a".as_slice()),

@@ -1,4 +1,4 @@
-//! tclint: runs a Tcl script from a file.
+//! tclint: runs a Tcl script from a file, or a session over standard input.
 #![tactic(auto)]
 
 use std::alloc::AllocError;
@@ -6,7 +6,7 @@ use std::io::ErrorKind;
 use std::process::ExitCode;
 use std::{env, fs, io};
 use tcl_chan::standard::{StandardInput, StandardOutput};
-use tcl_shell::{file_word, tool};
+use tcl_shell::{file_word, refuse_words, tool};
 
 // The program's words, without its own name.
 fn words_of(rt: &HostRuntime) -> io::Result<Vec<String>> {
@@ -22,45 +22,47 @@ fn is_refused(error: &io::Error) -> bool {
     error.kind() == ErrorKind::OutOfMemory
 }
 
+// The bytes of the file that the words ask for: `None` where it can't be read, or none is asked for.
+fn file_of(rt: &HostRuntime, words: &[&str]) -> Result<Option<Vec<u8>>, AllocError> {
+    let Some(place) = file_word(words) else {
+        return Ok(None);
+    };
+    match fs::read(rt, words[place]) {
+        Ok(bytes) => Ok(Some(bytes)),
+        Err(error) => {
+            if is_refused(&error) {
+                return Err(AllocError);
+            }
+            Ok(None)
+        }
+    }
+}
+
 // The status of the program, or that memory was refused to it.
 fn status(rt: &HostRuntime) -> Result<u8, AllocError> {
+    let mut input = StandardInput::new(rt.stdin());
+    let mut out = StandardOutput::stdout(rt.stdout());
+    let mut err = StandardOutput::stderr(rt.stderr());
     let words = match words_of(rt) {
         Ok(words) => words,
         Err(error) => {
             if is_refused(&error) {
                 return Err(AllocError);
             }
-            Vec::new(rt.alloc())
+            // A word that isn't UTF-8 is no usage.
+            return Ok(refuse_words(rt.alloc(), &mut input, &mut out, &mut err));
         }
     };
     let mut texts = Vec::new(rt.alloc());
     for word in &words {
         texts.push(word.as_str())?;
     }
-    let bytes = match file_word(&texts) {
-        None => None,
-        Some(place) => match fs::read(rt, texts[place]) {
-            Ok(bytes) => Some(bytes),
-            Err(error) => {
-                if is_refused(&error) {
-                    return Err(AllocError);
-                }
-                None
-            }
-        },
-    };
+    let bytes = file_of(rt, &texts)?;
     let file = match &bytes {
         Some(bytes) => Some(bytes.as_slice()),
         None => None,
     };
-    Ok(tool(
-        rt.alloc(),
-        &texts,
-        file,
-        &mut StandardInput::new(rt.stdin()),
-        &mut StandardOutput::stdout(rt.stdout()),
-        &mut StandardOutput::stderr(rt.stderr()),
-    ))
+    Ok(tool(rt.alloc(), &texts, file, &mut input, &mut out, &mut err))
 }
 
 fn main(rt: HostRuntime) -> ExitCode {
