@@ -7,7 +7,7 @@ ghost use Rattle.tcl_table.specs.BuiltIns.{with_built_ins};
 use crate::command::Command;
 use std::alloc::{AllocError, Global};
 use tcl_meaning::{BuiltIn, Ensemble, Page};
-use tcl_names::NameMap;
+use tcl_names::HashedNames;
 use tcl_pages::{ListPage, PurePage, StringPage, UpdatePage};
 
 // The built-in commands by their names.
@@ -109,7 +109,7 @@ const BUILT_INS: [(&str, BuiltIn); 50] = [
 // Puts commands under their names, one after another.
 fn add(
     alloc: Global,
-    commands: &mut NameMap<Command>,
+    commands: &mut HashedNames<Command>,
     built_ins: &[(&str, BuiltIn)],
 ) -> Result<(), AllocError>
     ensures { OnOk result (commands.new ≡ with_built_ins (each (λ entry. (chars entry.0.now, entry.1)) built_ins.now) commands.old) }
@@ -123,10 +123,10 @@ fn add(
 }
 
 /// The commands of a new interpreter.
-pub(crate) fn first_commands(alloc: Global) -> Result<NameMap<Command>, AllocError>
+pub(crate) fn first_commands(alloc: Global) -> Result<HashedNames<Command>, AllocError>
     ensures { IfOk result (λ commands. commands ≡ first_commands) }
 {
-    let mut commands = NameMap::new(alloc);
+    let mut commands = HashedNames::new(alloc);
     add(alloc, &mut commands, &BUILT_INS)?;
     Ok(commands)
 }

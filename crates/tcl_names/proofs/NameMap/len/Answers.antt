@@ -1,4 +1,4 @@
-use Rattle.std.proofs.Common.{ap, sym, ◌∙◌}
+use Rattle.std.proofs.Common.{ap, ◌∙◌}
 use Rattle.std.specs.FinMap as map
 use Rattle.tcl_names.proofs.Named.{len_named}
 use Rattle.tcl_names.proofs.NameMap.len.Goals as goal
