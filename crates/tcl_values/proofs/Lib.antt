@@ -1,5 +1,6 @@
 pub mod Decimals
 pub mod Depths
+pub mod Growth
 pub mod Joined
 pub mod PairKept
 pub mod PairPlaces

@@ -3,7 +3,9 @@ use Rattle.std.specs.Prelude.{ℕ, ◌≤◌, ◌≡◌, Bool, true, false, List
 use Rattle.std.specs.Int.{w64}
 use Rattle.std.specs.Fmt.{signed_decimal}
 use Rattle.std.specs.Option.{IsSome}
-use Rattle.std.specs.Str.{chars}
+use Rattle.std.specs.Bool.{OnTrue}
+use Rattle.std.specs.Rc.{rc_str_bytes}
+use Rattle.std.specs.Str.{chars, IsAscii}
 use Rattle.std.specs.String.{string_bytes}
 use Rattle.std.specs.declared.rc.RcStr.{RcStr}
 use Rattle.std.specs.declared.alloc.Global.{Global}
@@ -20,6 +22,7 @@ use Rattle.tcl_values.specs.declared.element.Pairs.{Pairs}
 use Rattle.tcl_values.specs.declared.element.Entry.{Entry}
 use Rattle.tcl_values.specs.declared.element.Entry.TheVariants as entry
 use Rattle.tcl_values.specs.declared.element.Element.TheInside as element
+use Rattle.tcl_values.specs.declared.value.Growing.{Growing}
 use Rattle.tcl_values.specs.declared.value.Held.{Held}
 use Rattle.tcl_values.specs.declared.value.Held.TheVariants as held
 use Rattle.tcl_values.specs.declared.value.Value.TheInside as value
@@ -104,24 +107,36 @@ kept a = record { text = entry_text a.entry; depth = entry_depth a.entry }
 abbrev pub IsElement : element.Inside → Type 0
 IsElement a = IsEntry a.entry
 
+-- what is said to be ASCII is it
+abbrev pub IsGrown : Growing → Type 0
+IsGrown g = OnTrue g.ascii (IsAscii (string_bytes g.text))
+
+-- the same text, and the same is known of it
+pub record AreSameGrown (g h : Growing) : Type 0 where
+  pub text : string_bytes g.text ≡ string_bytes h.text
+  pub ascii : g.ascii ≡ h.ascii
+
 -- the text that a value is
 abbrev pub held_text : Held → List ℕ
 held_text (held.Number n) = signed_decimal n
 held_text (held.Text s) = text_of s
-held_text (held.Grown s) = chars (string_bytes s.value)
+held_text (held.Ascii s) = text_of s
+held_text (held.Grown s) = chars (string_bytes s.value.text)
 held_text (held.Row r) = items_text r.value
 held_text (held.Dict r) = pairs_text r.value
 
 abbrev pub IsHeld : Held → Type 0
 IsHeld (held.Number n) = FitsSigned w64 n
 IsHeld (held.Text s) = ⊤
-IsHeld (held.Grown s) = ⊤
+IsHeld (held.Ascii s) = IsAscii (rc_str_bytes s)
+IsHeld (held.Grown s) = IsGrown s.value
 IsHeld (held.Row r) = AreKept r.value
 IsHeld (held.Dict r) = ArePaired r.value
 
 abbrev pub is_row : Held → Bool
 is_row (held.Number n) = false
 is_row (held.Text s) = false
+is_row (held.Ascii s) = false
 is_row (held.Grown s) = false
 is_row (held.Row r) = true
 is_row (held.Dict r) = false
@@ -129,6 +144,7 @@ is_row (held.Dict r) = false
 abbrev pub is_dict : Held → Bool
 is_dict (held.Number n) = false
 is_dict (held.Text s) = false
+is_dict (held.Ascii s) = false
 is_dict (held.Grown s) = false
 is_dict (held.Row r) = false
 is_dict (held.Dict r) = true
@@ -137,6 +153,7 @@ is_dict (held.Dict r) = true
 abbrev pub elements_held : Held → List Kept
 elements_held (held.Number n) = []
 elements_held (held.Text s) = []
+elements_held (held.Ascii s) = []
 elements_held (held.Grown s) = []
 elements_held (held.Row r) = elements r.value
 elements_held (held.Dict r) = []
@@ -145,6 +162,7 @@ elements_held (held.Dict r) = []
 abbrev pub pairs_held : Held → dictionaries.Pairs
 pairs_held (held.Number n) = []
 pairs_held (held.Text s) = []
+pairs_held (held.Ascii s) = []
 pairs_held (held.Grown s) = []
 pairs_held (held.Row r) = []
 pairs_held (held.Dict r) = pairs_in r.value

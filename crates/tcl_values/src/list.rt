@@ -119,6 +119,9 @@ impl Value {
             Held::Text(text) => Ok(Element {
                 entry: Entry::Text(text),
             }),
+            Held::Ascii(text) => Ok(Element {
+                entry: Entry::Text(text),
+            }),
             held => {
                 let text = held.text(alloc)?;
                 Ok(Element {

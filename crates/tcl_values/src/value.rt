@@ -2,11 +2,11 @@
 
 ghost use Rattle.std.specs.Prelude.{◌≡◌, ◌<◌, ◌++◌, IfOk, IfSome, OnOk, OnErr, true};
 ghost use Rattle.std.specs.Fmt.{signed_decimal};
-ghost use Rattle.std.specs.Str.{chars};
+ghost use Rattle.std.specs.Str.{chars, IsAscii};
 ghost use Rattle.std.specs.String.{string_bytes};
 ghost use Rattle.tcl_chars.specs.Whole.{whole_of};
 ghost use Rattle.tcl_list.specs.Texts.{text_of};
-ghost use Rattle.tcl_values.specs.Shape.{held_text, is_dict, is_row, IsHeld};
+ghost use Rattle.tcl_values.specs.Shape.{held_text, is_dict, is_row, IsGrown, IsHeld};
 
 use crate::element::{Items, Pairs};
 use crate::items::{row_text, show};
@@ -30,12 +30,61 @@ pub(crate) enum Held {
     Number(i64),
     /// A text.
     Text(RcStr),
+    /// A text that is known to be ASCII: its characters are its bytes.
+    Ascii(RcStr),
     /// A text that grows at its end.
-    Grown(Rc<String>),
+    Grown(Rc<Growing>),
     /// A list.
     Row(Rc<Items>),
     /// A dictionary.
     Dict(Rc<Pairs>),
+}
+
+/// A text that grows at its end.
+#[derive(Drop)]
+pub(crate) struct Growing {
+    pub(crate) text: String,
+    /// Is it known to be ASCII?
+    pub(crate) ascii: bool,
+}
+
+impl Clone for Growing {
+    ghost use Rattle.tcl_values.specs.Shape.{AreSameGrown};
+
+    ghost is_clone = { AreSameGrown };
+
+    fn clone(&self) -> Result<Growing, AllocError> {
+        Ok(Growing {
+            text: self.text.clone()?,
+            ascii: self.ascii,
+        })
+    }
+}
+
+impl Growing {
+    /// This text, which is looked at once, as a whole.
+    fn new(text: String) -> Growing
+        ensures text { string_bytes result.text ≡ string_bytes text }
+        ensures known { IsGrown result }
+    {
+        let ascii = text.as_str().is_ascii();
+        Growing { text, ascii }
+    }
+
+    /// Writes a text at its end. Of what stands there already nothing is looked at.
+    fn push(&mut self, more: &str) -> Result<(), AllocError>
+        requires { IsGrown self.old }
+        ensures done { OnOk result (chars (string_bytes self.new.text)
+            ≡ chars (string_bytes self.old.text) ++ chars more.now) }
+        ensures same { OnErr result (string_bytes self.new.text ≡ string_bytes self.old.text) }
+        ensures known { IsGrown self.new }
+    {
+        push_text(&mut self.text, more)?;
+        if !more.is_ascii() {
+            self.ascii = false;
+        }
+        Ok(())
+    }
 }
 
 impl Model for Value {
@@ -78,13 +127,15 @@ fn joined(alloc: Global, text: &str, more: &str) -> Result<String, AllocError>
 }
 
 /// Writes a text at the end of one, in place where nobody else holds it.
-fn grow(text: &mut Rc<String>, more: &str) -> Result<(), AllocError>
-    ensures done { OnOk result (chars (string_bytes text.new.value)
-        ≡ chars (string_bytes text.old.value) ++ chars more.now) }
-    ensures same { OnErr result (string_bytes text.new.value ≡ string_bytes text.old.value) }
+fn grow(text: &mut Rc<Growing>, more: &str) -> Result<(), AllocError>
+    requires { IsGrown text.old.value }
+    ensures done { OnOk result (chars (string_bytes text.new.value.text)
+        ≡ chars (string_bytes text.old.value.text) ++ chars more.now) }
+    ensures same { OnErr result (string_bytes text.new.value.text ≡ string_bytes text.old.value.text) }
+    ensures known { IsGrown text.new.value }
 {
     let own = Rc::make_mut(text)?;
-    push_text(own, more)
+    own.push(more)
 }
 
 impl Held {
@@ -110,7 +161,8 @@ impl Held {
         match self {
             Held::Number(n) => number_text(alloc, *n),
             Held::Text(text) => text.clone(),
-            Held::Grown(text) => RcStr::from_str(alloc, text.as_str()),
+            Held::Ascii(text) => text.clone(),
+            Held::Grown(grown) => RcStr::from_str(alloc, grown.text.as_str()),
             Held::Row(row) => row_text(row, alloc),
             Held::Dict(pairs) => dict_text(pairs, alloc),
         }
@@ -122,9 +174,12 @@ impl Value {
     pub fn of_text(text: RcStr) -> Value
         ensures { result ≡ text_of text }
     {
-        Value {
-            held: Held::Text(text),
-        }
+        let held = if text.as_str().is_ascii() {
+            Held::Ascii(text)
+        } else {
+            Held::Text(text)
+        };
+        Value { held }
     }
 
     /// The value that is this text, which can grow in place.
@@ -132,7 +187,7 @@ impl Value {
         ensures { IfOk result (λ v. v ≡ chars (string_bytes text)) }
     {
         Ok(Value {
-            held: Held::Grown(Rc::new(alloc, text)?),
+            held: Held::Grown(Rc::new(alloc, Growing::new(text))?),
         })
     }
 
@@ -180,7 +235,8 @@ impl Value {
         let held = match &self.held {
             Held::Number(n) => Held::Number(*n),
             Held::Text(text) => Held::Text(text.clone()?),
-            Held::Grown(text) => Held::Grown(text.clone()?),
+            Held::Ascii(text) => Held::Ascii(text.clone()?),
+            Held::Grown(grown) => Held::Grown(grown.clone()?),
             Held::Row(row) => Held::Row(row.clone()?),
             Held::Dict(pairs) => Held::Dict(pairs.clone()?),
         };
@@ -194,7 +250,8 @@ impl Value {
         match &self.held {
             Held::Number(_) => None,
             Held::Text(text) => Some(text.as_str()),
-            Held::Grown(text) => Some(text.as_str()),
+            Held::Ascii(text) => Some(text.as_str()),
+            Held::Grown(grown) => Some(grown.text.as_str()),
             Held::Row(row) => match &row.text {
                 Some(text) => Some(text.as_str()),
                 None => None,
@@ -203,6 +260,23 @@ impl Value {
                 Some(text) => Some(text.as_str()),
                 None => None,
             },
+        }
+    }
+
+    /// Its text, where it is known that each character of it is one byte: the value is of a text that was ASCII when the value
+    /// was made, and nothing but ASCII has been appended. Nothing is looked at.
+    pub fn ascii(&self) -> Option<&str>
+        ensures text { IfSome result (λ t. t.now ≡ self.now) }
+        ensures ascii { IfSome result (λ t. IsAscii t.now) }
+    {
+        match &self.held {
+            Held::Ascii(text) => Some(text.as_str()),
+            Held::Grown(grown) => if grown.ascii {
+                Some(grown.text.as_str())
+            } else {
+                None
+            },
+            _ => None,
         }
     }
 
@@ -216,10 +290,10 @@ impl Value {
         ensures same { OnErr result (self.new ≡ self.old) }
     {
         match &mut self.held {
-            Held::Grown(text) => grow(text, more),
+            Held::Grown(grown) => grow(grown, more),
             held => {
                 let text = held.text(alloc)?;
-                let grown = joined(alloc, text.as_str(), more)?;
+                let grown = Growing::new(joined(alloc, text.as_str(), more)?);
                 *held = Held::Grown(Rc::new(alloc, grown)?);
                 Ok(())
             }
