@@ -1,3 +1,4 @@
+pub mod Bytes
 pub mod Empty
 pub mod Figures
 pub mod FirstFit

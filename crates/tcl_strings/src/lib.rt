@@ -2,6 +2,7 @@
 //! text: what a command answers is its definition in `tcl_pages`, and the words are left as they were.
 #![tactic(auto)]
 
+mod ascii;
 mod cases;
 mod classes;
 mod directives;

@@ -8,11 +8,12 @@ ghost use Rattle.tcl_chars.specs.Texts.{text_of};
 ghost use Rattle.tcl_pages.specs.Strings as spec;
 ghost use Rattle.tcl_pages.specs.Texts.{count_text};
 
+use crate::ascii::{character_at, characters_between};
 use itoa::Buffer;
 use std::alloc::{AllocError, Global};
 use std::rc::RcStr;
 use tcl_arguments::{
-    behind, clamped, index_of, one_text, three_or_four_texts, three_texts, two_texts,
+    behind, clamped, index_of, one_text, text_at, three_or_four_texts, three_texts, two_texts,
 };
 use tcl_chars::{Dialect, Fault, before, push_text, split_first};
 use tcl_values::Value;
@@ -113,10 +114,16 @@ pub(crate) fn count_value(alloc: Global, count: usize) -> Result<Value, AllocErr
 /// # Errors
 ///
 /// `Fault::Error` with the usage, `Fault::Memory`.
+#[tactic(auto, using(tcl_arguments::proofs::Arguments::is_one))]
 pub fn string_length(alloc: Global, words: &mut [Value]) -> Result<Value, Fault>
     ensures answer { Answers (λ v. v) result (spec.string_length words.old) }
     ensures same { words.new ≡ words.old }
 {
+    if words.len() == 1 {
+        if let Some(text) = words[0].ascii() {
+            return Ok(count_value(alloc, text.len())?);
+        }
+    }
     let text = one_text(alloc, words, "string length string")?;
     Ok(count_value(alloc, count(text.as_str()))?)
 }
@@ -126,10 +133,18 @@ pub fn string_length(alloc: Global, words: &mut [Value]) -> Result<Value, Fault>
 /// # Errors
 ///
 /// `Fault::Error` with the usage or the bad index, `Fault::Memory`.
+#[tactic(auto, using(tcl_arguments::proofs::Arguments::are_two))]
 pub fn string_index(alloc: Global, words: &mut [Value], dialect: Dialect) -> Result<Value, Fault>
     ensures answer { Answers (λ v. v) result (spec.string_index dialect words.old) }
     ensures same { words.new ≡ words.old }
 {
+    if words.len() == 2 {
+        let index = text_at(alloc, words, 1)?;
+        if let Some(text) = words[0].ascii() {
+            let place = index_of(alloc, index.as_str(), text.len(), dialect)?;
+            return Ok(value_of(alloc, character_at(text, place))?);
+        }
+    }
     let (text, index) = two_texts(alloc, words, "string index string charIndex")?;
     let count = count(text.as_str());
     let place = index_of(alloc, index.as_str(), count, dialect)?;
@@ -141,10 +156,22 @@ pub fn string_index(alloc: Global, words: &mut [Value], dialect: Dialect) -> Res
 /// # Errors
 ///
 /// `Fault::Error` with the usage or the first bad index, `Fault::Memory`.
+#[tactic(auto, using(tcl_arguments::proofs::Arguments::are_three, crate::proofs::Bytes::clamped_le))]
 pub fn string_range(alloc: Global, words: &mut [Value], dialect: Dialect) -> Result<Value, Fault>
     ensures answer { Answers (λ v. v) result (spec.string_range dialect words.old) }
     ensures same { words.new ≡ words.old }
 {
+    if words.len() == 3 {
+        let first = text_at(alloc, words, 1)?;
+        let last = text_at(alloc, words, 2)?;
+        if let Some(text) = words[0].ascii() {
+            let count = text.len();
+            let first = index_of(alloc, first.as_str(), count, dialect)?;
+            let last = index_of(alloc, last.as_str(), count, dialect)?;
+            let part = characters_between(text, clamped(first, count), behind(last, count));
+            return Ok(value_of(alloc, part)?);
+        }
+    }
     let (text, first, last) = three_texts(alloc, words, "string range string first last")?;
     let count = count(text.as_str());
     let first = index_of(alloc, first.as_str(), count, dialect)?;
