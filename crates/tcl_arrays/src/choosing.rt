@@ -8,7 +8,7 @@ ghost use Rattle.tcl_meaning.specs.Arrays as spec;
 
 use std::alloc::{AllocError, Global};
 use std::rc::RcStr;
-use tcl_names::NameMap;
+use tcl_names::HashedNames;
 use tcl_strings::glob_match;
 use tcl_values::Value;
 
@@ -25,15 +25,15 @@ pub(crate) fn name_fits(pattern: &Option<RcStr>, name: &str) -> bool
 /// The names that match, in their order.
 pub(crate) fn names_among(
     alloc: Global,
-    elements: &NameMap<Value>,
+    elements: &HashedNames<Value>,
     pattern: &Option<RcStr>,
 ) -> Result<Vec<RcStr>, AllocError>
     ensures { IfOk result (λ names. each text_of names.items ≡ spec.names_among (option_map text_of pattern.now) (map.entries elements.now)) }
 {
     let mut found = Vec::new(alloc);
-    for (name, _) in elements.iter() {
+    for (name, _) in elements.entries(alloc)? {
         if name_fits(pattern, name.as_str()) {
-            found.push(name.clone()?)?;
+            found.push(name)?;
         }
     }
     Ok(found)
@@ -42,15 +42,15 @@ pub(crate) fn names_among(
 /// The names that match, each with its text behind it.
 pub(crate) fn pairs_among(
     alloc: Global,
-    elements: &NameMap<Value>,
+    elements: &HashedNames<Value>,
     pattern: &Option<RcStr>,
 ) -> Result<Vec<Value>, AllocError>
     ensures { IfOk result (λ pairs. pairs.items ≡ spec.pairs_among (option_map text_of pattern.now) (map.entries elements.now)) }
 {
     let mut found = Vec::new(alloc);
-    for (name, value) in elements.iter() {
+    for (name, value) in elements.entries(alloc)? {
         if name_fits(pattern, name.as_str()) {
-            found.push(Value::of_text(name.clone()?))?;
+            found.push(Value::of_text(name))?;
             found.push(value.copy()?)?;
         }
     }

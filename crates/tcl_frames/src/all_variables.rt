@@ -23,7 +23,7 @@ use crate::variables::{array_in, edit_in, find_in, is_there_in, place_in, put_in
 use std::alloc::{AllocError, Global};
 use std::marker::Model;
 use tcl_meaning::Refusal;
-use tcl_names::NameMap;
+use tcl_names::{HashedNames, NameMap};
 use tcl_values::Value;
 
 /// The variables of all frames, by the numbers of the frames.
@@ -93,7 +93,7 @@ impl AllVariables {
     }
 
     /// The elements of an array.
-    pub(crate) fn array(&self, at: Place<'_>) -> Option<&NameMap<Value>>
+    pub(crate) fn array(&self, at: Place<'_>) -> Option<&HashedNames<Value>>
         requires { at.frame < length self.now }
         ensures { option_copied result ≡ whole_array (variable_in self.now (spot_of at.entry)) (spot_of at.entry).part }
     {

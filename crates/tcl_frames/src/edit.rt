@@ -6,7 +6,7 @@ ghost use Rattle.tcl_values.specs.Kept.{texts};
 
 use std::alloc::{AllocError, Global};
 use std::rc::RcStr;
-use tcl_names::NameMap;
+use tcl_names::HashedNames;
 use tcl_values::{Element, Value};
 
 /// A change of the elements of an array: array(n).
@@ -23,7 +23,7 @@ impl Edit<'_> {
     pub(crate) fn apply(
         self,
         alloc: Global,
-        elements: &mut NameMap<Value>,
+        elements: &mut HashedNames<Value>,
     ) -> Result<(), AllocError>
         ensures { OnOk result (elements.new ≡ edited self.entry elements.old) }
     {
@@ -40,7 +40,7 @@ impl Edit<'_> {
 // Puts names and texts in turn into an array.
 fn put_pairs(
     alloc: Global,
-    elements: &mut NameMap<Value>,
+    elements: &mut HashedNames<Value>,
     pairs: &[Element],
 ) -> Result<(), AllocError>
     ensures { OnOk result (elements.new ≡ with_pairs elements.old (texts pairs.now)) }
@@ -55,7 +55,7 @@ fn put_pairs(
 }
 
 // Takes the elements of some names out of an array.
-fn remove_names(elements: &mut NameMap<Value>, names: &[RcStr])
+fn remove_names(elements: &mut HashedNames<Value>, names: &[RcStr])
     ensures { elements.new ≡ without_names elements.old (each text_of names.now) }
 {
     for name in names {

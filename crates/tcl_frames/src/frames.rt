@@ -23,7 +23,7 @@ use crate::variable::Variable;
 use std::alloc::{AllocError, Global};
 use std::marker::Model;
 use tcl_meaning::Refusal;
-use tcl_names::NameMap;
+use tcl_names::{HashedNames, NameMap};
 use tcl_values::Value;
 
 /// The frames of a script, the global one first, and the active one, whose names the script means.
@@ -83,7 +83,7 @@ impl Frames {
     }
 
     /// The elements of an array: array(n). None where the name is no array's.
-    pub fn array(&self, name: &str) -> Option<&NameMap<Value>>
+    pub fn array(&self, name: &str) -> Option<&HashedNames<Value>>
         ensures { (cs : Commands) → option_copied result ≡ array_of (store_of cs self.now) (chars name.now) }
     {
         let at = place_of(&self.stack, name);

@@ -7,14 +7,14 @@ ghost use Rattle.tcl_frames.specs.Standing.{store_of};
 
 use crate::frames::{Frames, place_here};
 use tcl_meaning::Refusal;
-use tcl_names::NameMap;
+use tcl_names::HashedNames;
 use tcl_values::Value;
 
 /// A text, or the elements of an array.
 #[derive(Clone, Copy)]
 pub enum Seen<'a> {
     Text(&'a Value),
-    Array(&'a NameMap<Value>),
+    Array(&'a HashedNames<Value>),
 }
 
 impl Frames {

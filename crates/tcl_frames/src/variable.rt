@@ -20,14 +20,14 @@ use crate::name::Part;
 use std::alloc::Global;
 use std::marker::Model;
 use tcl_meaning::Refusal;
-use tcl_names::NameMap;
+use tcl_names::HashedNames;
 use tcl_values::Value;
 
 // What a variable holds.
 #[derive(Drop)]
 enum Held {
     Text(Value),
-    Array(NameMap<Value>),
+    Array(HashedNames<Value>),
 }
 
 /// A variable: a text, or an array of texts.
@@ -74,7 +74,7 @@ impl Held {
 }
 
 // Takes an element out of an array.
-fn take_out(elements: &mut NameMap<Value>, index: &str, missing: Refusal) -> Result<(), Refusal>
+fn take_out(elements: &mut HashedNames<Value>, index: &str, missing: Refusal) -> Result<(), Refusal>
     ensures done { OnOk result (without_element missing elements.old (chars index.now) (map.get elements.old (chars index.now)) ≡ Ok (Some (array elements.new))) }
     ensures refused { IfErr result (λ refusal. without_element missing elements.old (chars index.now) (map.get elements.old (chars index.now)) ≡ Err refusal) }
     ensures same { OnErr result (elements.new ≡ elements.old) }
@@ -97,7 +97,7 @@ impl Variable {
     }
 
     /// The array of these elements.
-    pub fn of_array(elements: NameMap<Value>) -> Variable
+    pub fn of_array(elements: HashedNames<Value>) -> Variable
         ensures { result ≡ array elements }
     {
         Variable {
@@ -123,7 +123,7 @@ impl Variable {
     }
 
     /// The elements, where the variable is an array and it is meant as a whole.
-    pub(crate) fn elements(&self, part: Part<'_>) -> Option<&NameMap<Value>>
+    pub(crate) fn elements(&self, part: Part<'_>) -> Option<&HashedNames<Value>>
         ensures { option_copied result ≡ whole_array (Some self.now) (part_of part.entry) }
     {
         match (&self.held, part) {

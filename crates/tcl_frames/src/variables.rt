@@ -20,7 +20,7 @@ use crate::name::Part;
 use crate::variable::Variable;
 use std::alloc::Global;
 use tcl_meaning::Refusal;
-use tcl_names::NameMap;
+use tcl_names::{HashedNames, NameMap};
 use tcl_values::Value;
 
 /// The text of a part of a variable.
@@ -47,7 +47,7 @@ pub(crate) fn array_in<'a>(
     variables: &'a NameMap<Variable>,
     name: &str,
     part: Part<'_>,
-) -> Option<&'a NameMap<Value>>
+) -> Option<&'a HashedNames<Value>>
     ensures { option_copied result ≡ whole_array (map.get variables.now (chars name.now)) (part_of part.entry) }
 {
     match variables.get(name) {
@@ -94,7 +94,7 @@ fn made(alloc: Global, part: Part<'_>, value: Value) -> Result<Variable, VarFaul
     match part {
         Part::Whole => Ok(Variable::of_text(value)),
         Part::Element(index) => {
-            let mut elements = NameMap::new(alloc);
+            let mut elements = HashedNames::new(alloc);
             elements.insert(alloc, index, value)?;
             Ok(Variable::of_array(elements))
         }
@@ -129,7 +129,7 @@ fn begun(alloc: Global, part: Part<'_>, edit: Edit<'_>) -> Result<Variable, VarF
 {
     match part {
         Part::Whole => {
-            let mut elements = NameMap::new(alloc);
+            let mut elements = HashedNames::new(alloc);
             edit.apply(alloc, &mut elements)?;
             Ok(Variable::of_array(elements))
         }

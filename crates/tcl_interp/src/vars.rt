@@ -11,7 +11,7 @@ use crate::host::HostVar;
 use std::alloc::{AllocError, Global};
 use std::rc::RcStr;
 use tcl_frames::{Frames, Seen};
-use tcl_names::NameMap;
+use tcl_names::{HashedNames, NameMap};
 use tcl_values::Value;
 
 /// The text of a value, for keeps.
@@ -25,13 +25,13 @@ pub(crate) fn text_of(alloc: Global, value: &Value) -> Result<RcStr, AllocError>
 // The elements of an array, by name in the order of code points.
 fn host_elements(
     alloc: Global,
-    elements: &NameMap<Value>,
+    elements: &HashedNames<Value>,
 ) -> Result<Vec<(RcStr, RcStr)>, AllocError>
     ensures { IfOk result (λ shown. elements_shown shown.items ≡ map.entries elements.now) }
 {
     let mut shown = Vec::new(alloc);
-    for (name, value) in elements.iter() {
-        shown.push((name.clone()?, text_of(alloc, value)?))?;
+    for (name, value) in elements.entries(alloc)? {
+        shown.push((name, text_of(alloc, value)?))?;
     }
     Ok(shown)
 }

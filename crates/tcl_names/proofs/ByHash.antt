@@ -1,15 +1,15 @@
 -- What a change of a `HashMap` with `RcStr` keys is to the finite map from texts, and what sorting its entries gives.
 use Rattle.std.proofs.Common.{ℕ, zero, suc, ◌+◌, ◌<◌, List, [], ◌∷◌, ◌≡◌, Bool, false, cond, Ordering, refl, sym, ap, subst, ◌∙◌, Option, None, Some, length, get_or, arith}
 use Rattle.std.specs.FinMap as map
-use Rattle.std.specs.FinMap.{find, same_map, get-from_entries}
+use Rattle.std.specs.FinMap.{find, same_map, get-from_entries, len-empty, len-insert}
 use Rattle.std.specs.List.{AllByRecursion, IsDistinct}
 use Rattle.std.specs.List.Sorted.{IsStrictlySortedBy, IsSorted, IsSortedBy, IsPermutation}
 use Rattle.std.specs.declared.cmp.Ordering.TheVariants.{Less, Equal, Greater}
-use Rattle.std.specs.HashMap.{HashMap, UpdatesBy, WritesThrough, get_by}
+use Rattle.std.specs.HashMap.{HashMap, UpdatesBy, WritesThrough, get_by, IsUnique, hash_map_len}
 use Rattle.std.specs.Map.{keys_of, lookup}
 use Rattle.std.specs.Cmp.{IsEquivalence, eq_by_cmp_equiv}
 use Rattle.std.specs.Ordering.{is_eq, is_lt, nat_cmp, ordering_reverse}
-use Rattle.std.specs.Option.{option_map, IsSome}
+use Rattle.std.specs.Option.{option_map, IsSome, is_some}
 use Rattle.std.specs.Cmp.Lexicographic.{slice_cmp, nat_list_cmp_total}
 use Rattle.std.specs.Str.{chars, IsUtf8, bytes_eq}
 use Rattle.std.specs.Rc.{rc_str_bytes}
@@ -74,6 +74,19 @@ module _ {H : Type 0} where
       by (Some v) None there here = sym here ∙ lookup-from_Contains laws q v fs e (Contains-permutation es fs (q, v) moves (Contains-from_lookup same_text q v es there))
       by None None there here = refl
 
+  none_alike : (q : List ℕ) (es : List (List ℕ × H)) → AllByRecursion (λ t. same q t ≡ false) (keys_of es) → find by_code_point q es ≡ None
+  none_alike q [] h = refl
+  none_alike q (e ∷ es) h = ap (λ b. cond b (Some e.1) (find by_code_point q es)) h.0 ∙ none_alike q es h.1
+
+  -- keys that differ are counted one by one
+  counted : (es : List (List ℕ × H)) → IsDistinct same (keys_of es) → map.len (map.from_entries {R = by_code_point} es) ≡ length es
+  unfolding IsDistinct
+  counted [] d = len-empty by_code_point H
+  counted (e ∷ es) d =
+      let m = map.from_entries {R = by_code_point} es in
+      let more : length es + 1 ≡ suc (length es) = omega arith in
+      len-insert nat_list_cmp_total m e.0 e.1 ∙ ap (λ o. cond (is_some o) (map.len m) (map.len m + 1)) (get-from_entries nat_list_cmp_total es e.0 ∙ none_alike e.0 es d.0) ∙ ap (λ n. n + 1) (counted es d.1) ∙ more
+
 strictly : (o : Ordering) → is_lt o ≡ false → is_eq (ordering_reverse o) ≡ false → ordering_reverse o ≡ Less
 strictly Less a b = absurd cc
 strictly Equal a b = absurd cc
@@ -115,6 +128,10 @@ module _ {X H : Type 0} (f : X → H) where
   unfolding IsDistinct
   texts_differ [] h = tt
   texts_differ (e ∷ es) h = (texts_apart e.0 es h.0, texts_differ es h.1)
+
+-- how many names there are
+pub len_hashed : {X H S : Type 0} (f : X → H) (m : HashMap (RcStr Global) X S) → IsUnique rc_eq m → hash_map_len m ≡ map.len (hashed f m)
+len_hashed f m differ = sym (counted (by_text f m.entries) (texts_differ f m.entries differ) ∙ length-map m.entries _)
 
 -- the entries of a map, shown as ps, are those of the finite map in their order once ps is sorted by name
 pub entries_sorted : {X Y H : Type 0} (f : X → H) (g : Y → H) (es : List (RcStr Global × X)) (ps qs : List (RcStr Global × Y)) → IsDistinct rc_eq (keys_of es) → by_text g ps ≡ by_text f es → IsPermutation ps qs → IsSortedBy before qs

@@ -53,6 +53,13 @@ impl<V> HashedNames<V> {
         }
     }
 
+    /// How many names there are.
+    pub fn len(&self) -> usize
+        ensures { result ≡ map.len self.now }
+    {
+        self.map.len()
+    }
+
     /// Puts a value under a name.
     pub fn insert(&mut self, alloc: Global, name: &str, value: V) -> Result<(), AllocError>
     where
