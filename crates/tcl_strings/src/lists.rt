@@ -1,6 +1,6 @@
 //! Texts made into lists, and lists into texts: split(n), join(n).
 
-ghost use Rattle.std.specs.Prelude.{◌≡◌, ◌∷◌, ◌++◌, [], map, option_map, IfOk, OnOk};
+ghost use Rattle.std.specs.Prelude.{◌≡◌, ◌∷◌, ◌++◌, [], map, option_map, slice_get, IfOk, OnOk};
 ghost use Rattle.std.specs.Str.{chars};
 ghost use Rattle.std.specs.String.{string_bytes};
 ghost use Rattle.tcl_chars.specs.Answers.{Answers};
@@ -13,7 +13,7 @@ use crate::places::{front, room, value_of};
 use crate::trim::is_among;
 use std::alloc::{AllocError, Global};
 use std::rc::RcStr;
-use tcl_arguments::one_or_two_texts;
+use tcl_arguments::{one_or_two_texts, text_at, usage};
 use tcl_chars::{Fault, before, push_text, split_first};
 use tcl_values::{Element, Value};
 
@@ -133,16 +133,32 @@ fn between_of(between: &Option<RcStr>) -> &str
     }
 }
 
-/// `join list ?joinString?`: the elements with a text between each two.
+/// The text of the word behind the list, if there is one.
+fn between_word(alloc: Global, words: &mut [Value]) -> Result<Option<RcStr>, AllocError>
+    ensures text { IfOk result (λ t. option_map text_of t ≡ slice_get words.old 1) }
+    ensures same { words.new ≡ words.old }
+{
+    if words.len() > 1 {
+        Ok(Some(text_at(alloc, words, 1)?))
+    } else {
+        Ok(None)
+    }
+}
+
+/// `join list ?joinString?`: the elements with a text between each two. The list is read as it is kept.
 ///
 /// # Errors
 ///
 /// `Fault::Error` with the usage or the list's fault, `Fault::Memory`.
+#[tactic(auto, using(tcl_arguments::proofs::Arguments::one_and_maybe, tcl_arguments::proofs::Arguments::too_few_for_one, tcl_arguments::proofs::Arguments::too_many_for_two))]
 pub fn join(alloc: Global, words: &mut [Value]) -> Result<Value, Fault>
     ensures answer { Answers (λ v. v) result (spec.join_page words.old) }
     ensures same { words.new ≡ words.old }
 {
-    let (list, between) = one_or_two_texts(alloc, words, "join list ?joinString?")?;
-    let row = Value::of_text(list).row(alloc)?;
+    if words.is_empty() || words.len() > 2 {
+        return Err(Fault::Error(usage(alloc, "join list ?joinString?")?));
+    }
+    let between = between_word(alloc, words)?;
+    let row = words[0].row(alloc)?;
     Ok(Value::of_string(alloc, joined(alloc, row.items(), between_of(&between))?)?)
 }
