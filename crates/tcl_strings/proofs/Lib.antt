@@ -1,6 +1,7 @@
 pub mod Bytes
 pub mod Empty
 pub mod Figures
+pub mod Finder
 pub mod FirstFit
 pub mod Pairs
 pub mod Parts

@@ -1,6 +1,6 @@
 //! Texts made into lists, and lists into texts: split(n), join(n).
 
-ghost use Rattle.std.specs.Prelude.{◌≡◌, ◌∷◌, ◌++◌, [], map, option_map, slice_get, IfOk, OnOk};
+ghost use Rattle.std.specs.Prelude.{◌≡◌, ◌∷◌, ◌++◌, [], map, option_map, IfOk, OnOk};
 ghost use Rattle.std.specs.Str.{chars};
 ghost use Rattle.std.specs.String.{string_bytes};
 ghost use Rattle.tcl_chars.specs.Answers.{Answers};
@@ -9,11 +9,11 @@ ghost use Rattle.tcl_pages.specs.Strings as spec;
 ghost use Rattle.tcl_strings.specs.Taken.{to_separator};
 ghost use Rattle.tcl_values.specs.Kept.{texts};
 
-use crate::places::{front, room, value_of};
+use crate::places::{front, room, text_if, value_of};
 use crate::trim::is_among;
 use std::alloc::{AllocError, Global};
 use std::rc::RcStr;
-use tcl_arguments::{one_or_two_texts, text_at, usage};
+use tcl_arguments::{one_or_two_texts, usage};
 use tcl_chars::{Fault, before, push_text, split_first};
 use tcl_values::{Element, Value};
 
@@ -133,18 +133,6 @@ fn between_of(between: &Option<RcStr>) -> &str
     }
 }
 
-/// The text of the word behind the list, if there is one.
-fn between_word(alloc: Global, words: &mut [Value]) -> Result<Option<RcStr>, AllocError>
-    ensures text { IfOk result (λ t. option_map text_of t ≡ slice_get words.old 1) }
-    ensures same { words.new ≡ words.old }
-{
-    if words.len() > 1 {
-        Ok(Some(text_at(alloc, words, 1)?))
-    } else {
-        Ok(None)
-    }
-}
-
 /// `join list ?joinString?`: the elements with a text between each two. The list is read as it is kept.
 ///
 /// # Errors
@@ -158,7 +146,7 @@ pub fn join(alloc: Global, words: &mut [Value]) -> Result<Value, Fault>
     if words.is_empty() || words.len() > 2 {
         return Err(Fault::Error(usage(alloc, "join list ?joinString?")?));
     }
-    let between = between_word(alloc, words)?;
+    let between = text_if(alloc, words, 1)?;
     let row = words[0].row(alloc)?;
     Ok(Value::of_string(alloc, joined(alloc, row.items(), between_of(&between))?)?)
 }

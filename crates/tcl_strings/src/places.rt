@@ -1,6 +1,6 @@
 //! Characters by their places: string(n), length, index, range, replace.
 
-ghost use Rattle.std.specs.Prelude.{◌≡◌, ◌++◌, length, take, drop, [], option_map, unwrap_or, IfOk};
+ghost use Rattle.std.specs.Prelude.{◌≡◌, ◌++◌, length, take, drop, [], option_map, slice_get, unwrap_or, IfOk};
 ghost use Rattle.std.specs.Str.{chars};
 ghost use Rattle.std.specs.String.{string_bytes};
 ghost use Rattle.tcl_chars.specs.Answers.{Answers};
@@ -90,6 +90,22 @@ fn replaced(
     push_text(&mut changed, new)?;
     push_text(&mut changed, rest(text, behind))?;
     Ok(changed)
+}
+
+/// The text of the word at a place, if there is such a word.
+pub(crate) fn text_if(
+    alloc: Global,
+    words: &mut [Value],
+    place: usize,
+) -> Result<Option<RcStr>, AllocError>
+    ensures text { IfOk result (λ t. option_map text_of t ≡ slice_get words.old place) }
+    ensures same { words.new ≡ words.old }
+{
+    if place < words.len() {
+        Ok(Some(text_at(alloc, words, place)?))
+    } else {
+        Ok(None)
+    }
 }
 
 /// The value that is a text.

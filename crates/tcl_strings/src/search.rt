@@ -7,8 +7,9 @@ ghost use Rattle.tcl_chars.specs.Texts.{text_of};
 ghost use Rattle.tcl_pages.specs.Operators as truths;
 ghost use Rattle.tcl_pages.specs.Strings as spec;
 
+use crate::ascii::{first_in_bytes, last_in_bytes};
 use crate::glob::glob_match;
-use crate::places::{count, count_value, value_of};
+use crate::places::{count, count_value, text_if, value_of};
 use std::alloc::{AllocError, Global};
 use std::cmp::Ordering;
 use std::rc::RcStr;
@@ -193,10 +194,18 @@ pub fn string_match(alloc: Global, words: &mut [Value]) -> Result<Value, Fault>
 /// # Errors
 ///
 /// `Fault::Error` with the usage or the bad index, `Fault::Memory`.
+#[tactic(auto, using(tcl_arguments::proofs::Arguments::two_and_maybe))]
 pub fn string_first(alloc: Global, words: &mut [Value], dialect: Dialect) -> Result<Value, Fault>
     ensures answer { Answers (λ v. v) result (spec.string_first dialect words.old) }
     ensures same { words.new ≡ words.old }
 {
+    if words.len() == 2 || words.len() == 3 {
+        let index = text_if(alloc, words, 2)?;
+        if let (Some(needle), Some(text)) = (words[0].ascii(), words[1].ascii()) {
+            let start = start_of(alloc, &index, text.len(), dialect)?;
+            return Ok(place_value(alloc, first_in_bytes(needle, text, start))?);
+        }
+    }
     let (needle, text, index) = two_or_three_texts(
         alloc,
         words,
@@ -214,10 +223,18 @@ pub fn string_first(alloc: Global, words: &mut [Value], dialect: Dialect) -> Res
 /// # Errors
 ///
 /// `Fault::Error` with the usage or the bad index, `Fault::Memory`.
+#[tactic(auto, using(tcl_arguments::proofs::Arguments::two_and_maybe))]
 pub fn string_last(alloc: Global, words: &mut [Value], dialect: Dialect) -> Result<Value, Fault>
     ensures answer { Answers (λ v. v) result (spec.string_last dialect words.old) }
     ensures same { words.new ≡ words.old }
 {
+    if words.len() == 2 || words.len() == 3 {
+        let index = text_if(alloc, words, 2)?;
+        if let (Some(needle), Some(text)) = (words[0].ascii(), words[1].ascii()) {
+            let end = end_of(alloc, &index, text.len(), dialect)?;
+            return Ok(place_value(alloc, last_in_bytes(needle, text, end))?);
+        }
+    }
     let (needle, text, index) = two_or_three_texts(
         alloc,
         words,
