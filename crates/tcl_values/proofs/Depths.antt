@@ -1,7 +1,7 @@
 -- How deep a list is whose elements change.
 use Rattle.std.proofs.Common.{◌≡◌, ℕ, zero, suc, ◌+◌, ◌<◌, ◌≤◌, List, [], ◌∷◌, ◌++◌, length, take, get_or, slice_get, slice_set, Some, None, Option, inl, inr, drop, max, ap, sym, ◌∙◌, arith}
 use Rattle.std.proofs.lemmas.Bool.{cases_lt}
-use Rattle.std.proofs.lemmas.List.{take_more}
+use Rattle.std.proofs.lemmas.List.{take_more, take-append-drop}
 use Rattle.tcl_values.specs.Kept.{Kept, depth_over}
 
 depth_least : (ks : List Kept) → 1 ≤ depth_over ks
@@ -93,3 +93,19 @@ depth_over-append (x ∷ ks) ls = omega (arith, depth_over-append ks ls)
 pub depth_spliced : (ks ls now : List Kept) (i n d : ℕ) → now ≡ take i ks ++ ls ++ drop n ks → d ≡ depth_over ks → d ≤ 64 → depth_over ls ≤ 64 → depth_over now ≤ 64
 depth_spliced ks ls now i n d e exact limit low =
     omega (arith, ap depth_over e, depth_over-append (take i ks ++ ls) (drop n ks), depth_over-append (take i ks) ls, depth_take i ks, depth_drop n ks, exact, limit, low)
+
+-- elements that only come to the others
+pub depth_inserted : (ks ls now : List Kept) (i c d n : ℕ) → now ≡ take i ks ++ ls ++ drop (i + c) ks → d ≡ depth_over ks → n ≡ depth_over ls → c ≡ 0 → depth_over now ≡ max d n
+depth_inserted ks ls now i c d n e exact new none =
+    let behind : drop (i + c) ks ≡ drop i ks = ap (λ m. drop m ks) (omega (arith, none)) in
+    omega (
+      arith,
+      ap depth_over e,
+      depth_over-append (take i ks ++ ls) (drop (i + c) ks),
+      depth_over-append (take i ks) ls,
+      ap depth_over behind,
+      depth_over-append (take i ks) (drop i ks),
+      ap depth_over (take-append-drop i ks),
+      exact,
+      new,
+    )

@@ -1,6 +1,6 @@
 //! The elements of a list that is kept, behind a shared pointer: read, written, changed.
 
-ghost use Rattle.std.specs.Prelude.{◌≡◌, ◌<◌, ◌≤◌, ◌+◌, ◌∷◌, [], ◌++◌, None, map, length, take, drop, slice_get, slice_set, IfOk, OnOk, OnErr};
+ghost use Rattle.std.specs.Prelude.{◌≡◌, ◌<◌, ◌≤◌, ◌+◌, ◌∷◌, [], ◌++◌, None, map, length, max, take, drop, slice_get, slice_set, IfOk, OnOk, OnErr};
 ghost use Rattle.std.specs.Str.{chars};
 ghost use Rattle.std.specs.Option.{IsSome};
 ghost use Rattle.tcl_list.specs.Texts.{text_of};
@@ -348,6 +348,19 @@ pub(crate) fn splice(
     splice_own(own, first, count, inserted)
 }
 
+/// How deep a list is in which new elements stand in the place of so many others: it was `whole` deep, and a list of the new ones
+/// is `new` deep. Where they only came to the others, no element is looked at.
+fn depth_with(elements: &[Element], whole: u8, new: u8, gone: usize) -> u8
+    requires added { gone ≡ 0 → depth_over elements.now ≡ max whole new }
+    requires limit { depth_over elements.now ≤ 64 }
+    ensures { result ≡ depth_over elements.now }
+{
+    if gone == 0 {
+        return whole.max(new);
+    }
+    deepest(elements)
+}
+
 /// Puts elements in the place of so many others of a list behind the first ones.
 fn splice_own(
     own: &mut Items,
@@ -363,8 +376,9 @@ fn splice_own(
     ensures same { OnErr result (items_text own.new ≡ items_text own.old) }
     ensures kept { AreKept own.new }
 {
+    let new = deepest(&inserted);
     splice_elements(&mut own.items, first, count, inserted)?;
-    own.depth = deepest(&own.items);
+    own.depth = depth_with(&own.items, own.depth, new, count);
     own.text = None;
     Ok(())
 }
