@@ -42,6 +42,7 @@ impl<T: Drop> Pile<T> {
     }
 
     /// One more on top.
+    #[inline(always)]
     pub fn push(&mut self, item: T) -> Result<(), AllocError>
         ensures { OnOk result (self.new ≡ item ∷ self.old) }
     {
@@ -50,6 +51,7 @@ impl<T: Drop> Pile<T> {
     }
 
     /// What lies on top is taken away.
+    #[inline(always)]
     pub fn pop(&mut self) -> T
         requires { 1 ≤ length self.old }
         ensures { self.old ≡ result ∷ self.new }

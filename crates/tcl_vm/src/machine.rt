@@ -72,6 +72,7 @@ impl<A: Drop, U: Drop, O: Drop> Machine<A, U, O> {
 }
 
 /// Instructions of the code that runs.
+#[inline(always)]
 pub(crate) fn advance<E: Engine>(
     engine: &mut E,
     machine: &mut Machine<E::Activation, E::Undone, E::Owes>,
@@ -91,6 +92,7 @@ pub(crate) fn advance<E: Engine>(
 }
 
 /// A page is done.
+#[inline(always)]
 pub(crate) fn done<E: Engine>(
     engine: &mut E,
     machine: &mut Machine<E::Activation, E::Undone, E::Owes>,
@@ -109,6 +111,7 @@ pub(crate) fn done<E: Engine>(
 }
 
 /// A page has a script run.
+#[inline(always)]
 pub(crate) fn run_script<E: Engine>(
     engine: &mut E,
     machine: &mut Machine<E::Activation, E::Undone, E::Owes>,
@@ -133,6 +136,7 @@ pub(crate) fn run_script<E: Engine>(
 }
 
 /// A page has an expression evaluated.
+#[inline(always)]
 pub(crate) fn evaluate<E: Engine>(
     engine: &mut E,
     machine: &mut Machine<E::Activation, E::Undone, E::Owes>,
@@ -151,6 +155,7 @@ pub(crate) fn evaluate<E: Engine>(
 }
 
 /// A turn of a loop is paid for and made.
+#[inline(always)]
 pub(crate) fn pay<E: Engine>(
     engine: &mut E,
     machine: &mut Machine<E::Activation, E::Undone, E::Owes>,
@@ -168,6 +173,7 @@ pub(crate) fn pay<E: Engine>(
 }
 
 /// What a page asks for is done.
+#[inline(always)]
 pub(crate) fn ask<E: Engine>(
     engine: &mut E,
     machine: &mut Machine<E::Activation, E::Undone, E::Owes>,
@@ -186,6 +192,7 @@ pub(crate) fn ask<E: Engine>(
 }
 
 /// A code has ended, and the page that waits for it goes on.
+#[inline(always)]
 pub(crate) fn end<E: Engine>(
     engine: &mut E,
     machine: &mut Machine<E::Activation, E::Undone, E::Owes>,
@@ -208,6 +215,7 @@ pub(crate) fn end<E: Engine>(
 }
 
 /// One turn.
+#[inline(always)]
 pub(crate) fn make<E: Engine>(
     engine: &mut E,
     machine: &mut Machine<E::Activation, E::Undone, E::Owes>,
