@@ -4,6 +4,7 @@ use Rattle.std.proofs.lemmas.List.{append-nil}
 use Rattle.std.specs.declared.rc.RcStr.{RcStr}
 use Rattle.std.specs.declared.alloc.Global.{Global}
 use Rattle.tcl_arguments.specs.WordAt.{word}
+use Rattle.tcl_chars.specs.Texts.{text_of}
 use Rattle.tcl_list.specs.Elements.{elements_of}
 use Rattle.tcl_list.specs.Written.{written}
 use Rattle.tcl_pages.specs.Answers.{Answer, ◌>>=◌}
@@ -12,7 +13,9 @@ use Rattle.tcl_pages.specs.DictPages.{dictionary, value_at, or_text, value_or, k
 use Rattle.tcl_pages.specs.Lists.{lappend, with_more}
 use Rattle.tcl_pages.specs.Texts.{Text}
 use Rattle.tcl_pages.specs.Updates.{by_key, dict_append, dict_set_words, text_appended}
+use Rattle.tcl_values.specs.Changes.{after, after_under}
 use Rattle.tcl_values.specs.Dictionaries.{less_key, with_key}
+use Rattle.tcl_values.specs.declared.change.Change.TheVariants as change
 use Rattle.tcl_values.specs.Lists.{count_of, pushed}
 use Rattle.tcl_values.proofs.Joined.{reads_written}
 use Rattle.tcl_dicts.specs.Levels.{changed, changed_known, level_text, rebuilt}
@@ -193,3 +196,25 @@ pub unset_one : (t last : Text) (ws : List Text) → length ws ≡ 1 → last �
 unset_one t last [] l e = absurd (omega arith)
 unset_one t last (w ∷ []) l e = ap (less_key t) (sym e)
 unset_one t last (w ∷ u ∷ ws) l e = absurd (omega arith)
+
+-- ---- a value under a key, to which more comes
+
+text_behind : (t : Text) (ws : List Text) → text_appended t ws ≡ t ++ text_appended [] ws
+text_behind t [] = sym (append-nil t)
+text_behind t (w ∷ ws) = text_behind (t ++ w) ws ∙ append_assoc t w (text_appended [] ws) ∙ ap (λ u. t ++ u) (sym (text_behind w ws))
+
+-- words behind a value: dict append
+pub append_one : (t key : Text) (s : RcStr Global) (ws : List Text) → text_of s ≡ text_appended [] ws → after_under (change.Text s) t key ≡ changed t key [] (λ old. Ok (text_appended old ws))
+append_one t key s ws e = under_is t key [] (after (change.Text s)) ∙ (λ i. changed t key [] (λ old. Ok ((ap (λ u. old ++ u) e ∙ sym (text_behind old ws)) i)))
+
+one_word : (ws : List Text) → length ws ≡ 2 → drop 1 ws ≡ word ws 1 ∷ []
+one_word [] l = absurd (omega (arith, l))
+one_word (w ∷ []) l = absurd (omega (arith, l))
+one_word (w ∷ u ∷ []) l = refl
+one_word (w ∷ u ∷ v ∷ ws) l = absurd (omega (arith, l))
+
+-- an element behind the others: dict lappend
+pub lappend_one : (t key x : Text) (ws : List Text) → length ws ≡ 2 → x ≡ word ws 1 → after_under (change.Item x) t key ≡ changed t key [] (λ old. lappend old (drop 1 ws))
+lappend_one t key x ws l e =
+    let is : x ∷ [] ≡ drop 1 ws = ap (λ v. v ∷ []) e ∙ sym (one_word ws l) in
+    under_is t key [] (after (change.Item x)) ∙ (λ i. changed t key [] (λ old. lappend old (is i)))

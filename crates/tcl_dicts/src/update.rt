@@ -17,7 +17,7 @@ use std::alloc::{AllocError, Global};
 use std::rc::RcStr;
 use tcl_arguments::text_at;
 use tcl_chars::{Dialect, Fault, Op, binary, expect_number};
-use tcl_values::Value;
+use tcl_values::{Change, Value};
 
 /// The value of a key of a dictionary, or a text where the key isn't there.
 fn value_or(alloc: Global, first: &str, value: &mut Value, key: &str) -> Result<Value, Fault>
@@ -91,7 +91,18 @@ fn with_number(alloc: Global, number: Value, by: &str, dialect: Dialect) -> Resu
     }
 }
 
-/// The words behind the first one, written behind the value of a key.
+/// The words from a place on, one behind the other.
+fn joined_words(alloc: Global, words: &mut [Value], first: usize) -> Result<RcStr, AllocError>
+    requires { first ≤ length words.old }
+    ensures text { IfOk result (λ t. text_of t ≡ updates.text_appended [] (drop first words.old)) }
+    ensures same { words.new ≡ words.old }
+{
+    let empty = Value::of_text(RcStr::from_str(alloc, "")?);
+    let mut joined = with_words(alloc, empty, words, first)?;
+    joined.text(alloc)
+}
+
+/// The words behind the first one, written behind the value of a key. It takes the time of what is written, whatever stands there.
 fn append_under(
     alloc: Global,
     value: &mut Value,
@@ -103,9 +114,18 @@ fn append_under(
     ensures same { OnErr result (value.new ≡ value.old) }
     ensures words { words.new ≡ words.old }
 {
-    let old = value_or_empty(alloc, value, key.as_str())?;
-    let new = with_words(alloc, old, words, 1)?;
-    value.dict_put(alloc, key, new)
+    let more = joined_words(alloc, words, 1)?;
+    value.dict_change(alloc, key, Change::Text(more))
+}
+
+/// The second word, as the last element of the list that is the value of a key. It takes the time of that element, whatever the list.
+fn lappend_one(alloc: Global, value: &mut Value, key: RcStr, words: &[Value]) -> Result<(), Fault>
+    requires { length words.now ≡ 2 }
+    ensures done { Leaves value.new (changed value.old (text_of key) [] (λ old. lists.lappend old (drop 1 words.now))) result }
+    ensures same { OnErr result (value.new ≡ value.old) }
+{
+    let item = word_at(words, 1)?;
+    value.dict_change(alloc, key, Change::Item(item))
 }
 
 /// The words behind the first one, as the last elements of the list that is the value of a key.
@@ -120,6 +140,9 @@ fn lappend_under(
     ensures same { OnErr result (value.new ≡ value.old) }
     ensures words { words.new ≡ words.old }
 {
+    if words.len() == 2 {
+        return lappend_one(alloc, value, key, words);
+    }
     let old = value_or_empty(alloc, value, key.as_str())?;
     let new = with_elements(alloc, old, words, 1)?;
     value.dict_put(alloc, key, new)

@@ -1,3 +1,5 @@
+pub mod Changed
+pub mod ChangedPairs
 pub mod Decimals
 pub mod Depths
 pub mod Growth

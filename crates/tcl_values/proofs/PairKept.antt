@@ -21,7 +21,7 @@ use Rattle.tcl_values.proofs.PairTexts.{reads_none, reads_put, reads_without, re
 pub bare_text : (p : Pairs) → p.text ≡ None → pairs_text p ≡ dictionary (pairs_in p)
 bare_text p none = ap (λ t. shown_pairs (shared_text t) (pairs_in p)) none
 
-bare_reads : (p : Pairs) → p.text ≡ None → pairs_of (dictionary (pairs_in p)) ≡ Ok (pairs_in p) → pairs_of (pairs_text p) ≡ Ok (pairs_in p)
+pub bare_reads : (p : Pairs) → p.text ≡ None → pairs_of (dictionary (pairs_in p)) ≡ Ok (pairs_in p) → pairs_of (pairs_text p) ≡ Ok (pairs_in p)
 bare_reads p none e = ap pairs_of (bare_text p none) ∙ e
 
 pub put_kept : (own new : Pairs) (k v : Text) → ArePaired own → new.depth ≤ 64 → depth_over new.values.items ≤ new.depth → length new.keys.keys ≡ length new.values.items → new.text ≡ None

@@ -1,3 +1,4 @@
+pub mod Changes
 pub mod Dictionaries
 pub mod Falls
 pub mod Kept

@@ -8,6 +8,7 @@ use Rattle.std.specs.Rc.{rc_str_bytes}
 use Rattle.std.specs.Str.{chars, IsAscii}
 use Rattle.std.specs.String.{string_bytes}
 use Rattle.std.specs.declared.rc.RcStr.{RcStr}
+use Rattle.std.specs.declared.string.String.{String}
 use Rattle.std.specs.declared.alloc.Global.{Global}
 use Rattle.tcl_list.specs.Elements.{elements_of}
 use Rattle.tcl_list.specs.Written.{written}
@@ -86,30 +87,42 @@ pub record AreSamePairs (p q : Pairs) : Type 0 where
 
 -- ---- elements and values
 
+-- what is said to be ASCII is it
+abbrev pub IsGrown : Growing → Type 0
+IsGrown g = OnTrue g.ascii (IsAscii (string_bytes g.text))
+
+-- a list without a text of its own, and how it is written
+pub record IsWritten (r : Items) (t : String Global) : Type 0 where
+  pub kept : AreKept r
+  pub bare : r.text ≡ None
+  pub written : chars (string_bytes t) ≡ written (texts (elements r))
+
 abbrev pub entry_text : Entry → List ℕ
 entry_text (entry.Text s) = text_of s
 entry_text (entry.Row r) = items_text r.value
 entry_text (entry.Dict r) = pairs_text r.value
+entry_text (entry.Grown s) = chars (string_bytes s.value.text)
+entry_text (entry.Longer r s) = chars (string_bytes s.value)
 
 abbrev pub entry_depth : Entry → ℕ
 entry_depth (entry.Text s) = 0
 entry_depth (entry.Row r) = r.value.depth
 entry_depth (entry.Dict r) = r.value.depth
+entry_depth (entry.Grown s) = 0
+entry_depth (entry.Longer r s) = r.value.depth
 
 abbrev pub IsEntry : Entry → Type 0
 IsEntry (entry.Text s) = ⊤
 IsEntry (entry.Row r) = IsSome r.value.text × AreKept r.value
 IsEntry (entry.Dict r) = IsSome r.value.text × ArePaired r.value
+IsEntry (entry.Grown s) = IsGrown s.value
+IsEntry (entry.Longer r s) = IsWritten r.value s.value
 
 abbrev pub kept : element.Inside → Kept
 kept a = record { text = entry_text a.entry; depth = entry_depth a.entry }
 
 abbrev pub IsElement : element.Inside → Type 0
 IsElement a = IsEntry a.entry
-
--- what is said to be ASCII is it
-abbrev pub IsGrown : Growing → Type 0
-IsGrown g = OnTrue g.ascii (IsAscii (string_bytes g.text))
 
 -- the same text, and the same is known of it
 pub record AreSameGrown (g h : Growing) : Type 0 where

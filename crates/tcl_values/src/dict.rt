@@ -21,7 +21,7 @@ use tcl_chars::Fault;
 
 /// Reads what is kept as a dictionary, which is kept from now on.
 #[tactic(auto, unfolding(tcl_pages::specs::Dictionaries::pairs_of))]
-fn read_dict(held: &mut Held, alloc: Global) -> Result<(), Fault>
+pub(crate) fn read_dict(held: &mut Held, alloc: Global) -> Result<(), Fault>
     requires { IsHeld held.old }
     ensures read { Answers (λ _. pairs_held held.new) result (pairs_of (held_text held.old)) }
     ensures dict { OnOk result (is_dict held.new ≡ true) }

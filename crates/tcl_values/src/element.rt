@@ -4,9 +4,9 @@ ghost use Rattle.std.specs.Prelude.{◌≡◌, ◌<◌, IfOk};
 ghost use Rattle.std.specs.Str.{chars};
 ghost use Rattle.tcl_list.specs.Texts.{text_of};
 
-use crate::value::{Held, Value};
+use crate::value::{Growing, Held, Value};
 use indexmap::IndexSet;
-use std::alloc::AllocError;
+use std::alloc::{AllocError, Global};
 use std::marker::Model;
 use std::rc::{Rc, RcStr};
 
@@ -27,6 +27,10 @@ pub(crate) enum Entry {
     Row(Rc<Items>),
     /// The dictionary that its text is read as, with the text.
     Dict(Rc<Pairs>),
+    /// A text that grows at its end.
+    Grown(Rc<Growing>),
+    /// A list that grows at its end, beside its text, which is how it is written and grows with it.
+    Longer(Rc<Items>, Rc<String>),
 }
 
 /// The elements of a list, beside its text where that has been written or read.
@@ -84,6 +88,8 @@ impl Element {
                 Some(text) => text.as_str(),
                 None => unreachable!(),
             },
+            Entry::Grown(grown) => grown.text.as_str(),
+            Entry::Longer(_, text) => text.as_str(),
         }
     }
 
@@ -95,6 +101,8 @@ impl Element {
             Entry::Text(text) => Held::Text(text.clone()?),
             Entry::Row(row) => Held::Row(row.clone()?),
             Entry::Dict(pairs) => Held::Dict(pairs.clone()?),
+            Entry::Grown(grown) => Held::Grown(grown.clone()?),
+            Entry::Longer(row, _) => Held::Row(row.clone()?),
         };
         Ok(Value { held })
     }
@@ -107,6 +115,8 @@ impl Element {
             Entry::Text(text) => Entry::Text(text.clone()?),
             Entry::Row(row) => Entry::Row(row.clone()?),
             Entry::Dict(pairs) => Entry::Dict(pairs.clone()?),
+            Entry::Grown(grown) => Entry::Grown(grown.clone()?),
+            Entry::Longer(row, text) => Entry::Longer(row.clone()?, text.clone()?),
         };
         Ok(Element { entry })
     }
@@ -119,6 +129,8 @@ impl Element {
             Entry::Text(_) => 0,
             Entry::Row(row) => row.depth,
             Entry::Dict(pairs) => pairs.depth,
+            Entry::Grown(_) => 0,
+            Entry::Longer(row, _) => row.depth,
         }
     }
 
@@ -130,12 +142,14 @@ impl Element {
             Entry::Text(text) => Held::Text(text),
             Entry::Row(row) => Held::Row(row),
             Entry::Dict(pairs) => Held::Dict(pairs),
+            Entry::Grown(grown) => Held::Grown(grown),
+            Entry::Longer(row, _text) => Held::Row(row),
         };
         Value { held }
     }
 
-    /// Its text, shared.
-    pub(crate) fn shared_text(&self) -> Result<RcStr, AllocError>
+    /// Its text, shared, or copied where it grows.
+    pub(crate) fn shared_text(&self, alloc: Global) -> Result<RcStr, AllocError>
         ensures { IfOk result (λ t. text_of t ≡ self.now.text) }
     {
         match &self.entry {
@@ -148,16 +162,18 @@ impl Element {
                 Some(text) => text.clone(),
                 None => unreachable!(),
             },
+            Entry::Grown(grown) => RcStr::from_str(alloc, grown.text.as_str()),
+            Entry::Longer(_, text) => RcStr::from_str(alloc, text.as_str()),
         }
     }
 
     /// The element as its text alone.
-    pub(crate) fn plain(&self) -> Result<Element, AllocError>
+    pub(crate) fn plain(&self, alloc: Global) -> Result<Element, AllocError>
         ensures text { IfOk result (λ e. e.text ≡ self.now.text) }
         ensures depth { IfOk result (λ e. e.depth ≡ 0) }
     {
         Ok(Element {
-            entry: Entry::Text(self.shared_text()?),
+            entry: Entry::Text(self.shared_text(alloc)?),
         })
     }
 }

@@ -3,6 +3,7 @@
 ghost use Rattle.std.specs.Prelude.{◌≡◌, ◌<◌, ◌≤◌, ◌+◌, ◌∷◌, [], ◌++◌, None, map, length, max, take, drop, slice_get, slice_set, IfOk, OnOk, OnErr};
 ghost use Rattle.std.specs.Str.{chars};
 ghost use Rattle.std.specs.Option.{IsSome};
+ghost use Rattle.std.specs.String.{string_bytes};
 ghost use Rattle.tcl_list.specs.Texts.{text_of};
 ghost use Rattle.tcl_list.specs.Written.{written};
 ghost use Rattle.tcl_values.specs.Kept.{texts, depth_over, rotated};
@@ -14,9 +15,9 @@ use std::mem::replace;
 use std::rc::{Rc, RcStr};
 use tcl_list::append_element;
 
-/// The elements written as a list.
-fn write_items(alloc: Global, items: &[Element]) -> Result<RcStr, AllocError>
-    ensures { IfOk result (λ t. text_of t ≡ written (texts items.now)) }
+/// The elements written as a list, by a text that can grow.
+pub(crate) fn write_text(alloc: Global, items: &[Element]) -> Result<String, AllocError>
+    ensures { IfOk result (λ t. chars (string_bytes t) ≡ written (texts items.now)) }
 {
     let mut text = String::new(alloc);
     let mut first = true;
@@ -24,7 +25,14 @@ fn write_items(alloc: Global, items: &[Element]) -> Result<RcStr, AllocError>
         append_element(&mut text, item.text(), first)?;
         first = false;
     }
-    RcStr::from_string(text)
+    Ok(text)
+}
+
+/// The elements written as a list.
+fn write_items(alloc: Global, items: &[Element]) -> Result<RcStr, AllocError>
+    ensures { IfOk result (λ t. text_of t ≡ written (texts items.now)) }
+{
+    RcStr::from_string(write_text(alloc, items)?)
 }
 
 /// The text of a list.
@@ -92,7 +100,7 @@ impl Clone for Items {
 }
 
 /// How deep a list of these elements is.
-fn deepest(elements: &[Element]) -> u8
+pub(crate) fn deepest(elements: &[Element]) -> u8
     requires { depth_over elements.now ≤ 64 }
     ensures { result ≡ depth_over elements.now }
 {
@@ -277,7 +285,7 @@ fn detach(own: &mut Items, index: usize) -> Result<Element, AllocError>
     ensures same { items_text own.new ≡ items_text own.old }
     ensures kept { AreKept own.new }
 {
-    let plain = own.items[index].plain()?;
+    let plain = own.items[index].plain(*own.items.allocator())?;
     let before = put(&mut own.items, index, plain);
     let alone = before.depth() + 1;
     own.depth = depth_after(&own.items, own.depth, alone, 1);

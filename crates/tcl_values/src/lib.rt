@@ -7,7 +7,9 @@
 //! - [`Value`]: made by `of_text`, `of_string`, `of_int`, `of_list`; copied by `copy`. Read by `text`, `shown` and `ascii`, as a number by
 //!   `whole`, as a list by `count`, `item`, `row`, `list`, `range`. Changed by `append` at the end of the text, and as a list by `push`,
 //!   `replace_item` and `splice`; `take_item` lends an element to a change.
-//!   As a dictionary made by `of_dict`, read by `dict_size`, `dict_get`, `dictionary`, changed by `dict_put` and `dict_remove`.
+//!   As a dictionary made by `of_dict`, read by `dict_size`, `dict_get`, `dictionary`, changed by `dict_put`, `dict_remove` and
+//!   `dict_change`.
+//! - [`Change`]: what `dict_change` makes of the value under a key. A list or a text that has grown there once grows in place from then on.
 //! - [`Dictionary`]: the pairs of a value, to be looked at and to be changed into another dictionary; a share as a row is.
 //! - [`Row`]: the elements of a value, to be looked at as a slice of [`Element`]s. It is a share of the value's list: drop it
 //!   before the value is changed, or the change copies the list.
@@ -16,6 +18,7 @@
 //! A call that only reads leaves the value as it was, and so does one that is refused.
 #![tactic(auto)]
 
+mod change;
 mod dict;
 mod dictionary;
 mod element;
@@ -25,6 +28,7 @@ mod pairs;
 mod row;
 mod value;
 
+pub use change::Change;
 pub use dictionary::Dictionary;
 pub use element::Element;
 pub use row::Row;

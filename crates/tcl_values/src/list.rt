@@ -21,7 +21,7 @@ use tcl_chars::Fault;
 use tcl_list::split;
 
 /// Texts as elements that are their texts alone.
-fn plain_elements(alloc: Global, words: Vec<RcStr>) -> Result<Vec<Element>, AllocError>
+pub(crate) fn plain_elements(alloc: Global, words: Vec<RcStr>) -> Result<Vec<Element>, AllocError>
     ensures texts { IfOk result (λ v. texts v.items ≡ map text_of words.items) }
     ensures depth { IfOk result (λ v. depth_over v.items ≡ 1) }
 {

@@ -166,7 +166,7 @@ fn set_value(own: &mut Pairs, place: usize, value: Element)
 }
 
 /// Adds a key that isn't there, with its value.
-fn add_pair(own: &mut Pairs, key: RcStr, value: Element) -> Result<(), AllocError>
+pub(crate) fn add_pair(own: &mut Pairs, key: RcStr, value: Element) -> Result<(), AllocError>
     requires absent { list_any (λ k. bytes_eq (rc_str_bytes key) (rc_str_bytes k)) own.old.keys.keys ≡ false }
     requires value { value.depth < 64 }
     requires limit { own.old.depth ≤ 64 }
@@ -244,7 +244,7 @@ fn build_pairs(alloc: Global, elements: &[Element]) -> Result<Pairs, Fault>
         let Some((value, after)) = behind.split_first() else {
             return Err(Fault::Error(missing_value(alloc)?));
         };
-        put_own(&mut pairs, key.shared_text()?, value.duplicate()?)?;
+        put_own(&mut pairs, key.shared_text(alloc)?, value.duplicate()?)?;
         rest = after;
     }
     Ok(pairs)

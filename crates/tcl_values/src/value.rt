@@ -63,7 +63,7 @@ impl Clone for Growing {
 
 impl Growing {
     /// This text, which is looked at once, as a whole.
-    fn new(text: String) -> Growing
+    pub(crate) fn new(text: String) -> Growing
         ensures text { string_bytes result.text ≡ string_bytes text }
         ensures known { IsGrown result }
     {
@@ -118,7 +118,7 @@ fn canonical(text: &str, whole: Whole) -> Option<i64>
 }
 
 /// The one text and the other behind it.
-fn joined(alloc: Global, text: &str, more: &str) -> Result<String, AllocError>
+pub(crate) fn joined(alloc: Global, text: &str, more: &str) -> Result<String, AllocError>
     ensures { IfOk result (λ s. chars (string_bytes s) ≡ chars text.now ++ chars more.now) }
 {
     let mut joined = String::from_str(alloc, text)?;
@@ -127,7 +127,7 @@ fn joined(alloc: Global, text: &str, more: &str) -> Result<String, AllocError>
 }
 
 /// Writes a text at the end of one, in place where nobody else holds it.
-fn grow(text: &mut Rc<Growing>, more: &str) -> Result<(), AllocError>
+pub(crate) fn grow(text: &mut Rc<Growing>, more: &str) -> Result<(), AllocError>
     requires { IsGrown text.old.value }
     ensures done { OnOk result (chars (string_bytes text.new.value.text)
         ≡ chars (string_bytes text.old.value.text) ++ chars more.now) }

@@ -6,7 +6,7 @@ use Rattle.std.specs.String.{string_bytes}
 use Rattle.tcl_list.specs.Written.{appended}
 use Rattle.tcl_list.proofs.Joining.{written_step}
 use Rattle.tcl_values.specs.Kept.{Kept}
-use Rattle.tcl_values.proofs.items.write_items.Goals as goal
+use Rattle.tcl_values.proofs.items.write_text.Goals as goal
 
 pub loop-item-init : goal.loop-item-init
 loop-item-init c = record { so_far = ap chars c.new-text.ensures.bytes ∙ chars-nil; at_first = refl }

@@ -1,0 +1,109 @@
+-- Pairs of which the value under a key becomes another one.
+use Rattle.std.proofs.Common.{◌≡◌, ℕ, zero, suc, ◌<◌, ◌≤◌, false, List, [], ◌∷◌, ◌++◌, length, map, get_or, slice_set, position, None, Some, Result, Ok, Err, OnOk, OnErr, refl, sym, subst, ap, ◌∙◌, arith}
+use Rattle.std.proofs.lemmas.List.{map-set}
+use Rattle.std.specs.List.{list_any}
+use Rattle.std.specs.Rc.{rc_str_bytes}
+use Rattle.std.specs.Str.{chars, IsUtf8, bytes_eq}
+use Rattle.std.specs.declared.rc.RcStr.{RcStr}
+use Rattle.std.specs.declared.alloc.Global.{Global}
+use Rattle.tcl_chars.specs.Answers.{Answers, Stops}
+use Rattle.tcl_chars.specs.Texts.{text_of}
+use Rattle.tcl_chars.specs.declared.fault.Fault.{Fault}
+use Rattle.tcl_pages.specs.Answers.{Answer, ◌>>=◌}
+use Rattle.tcl_pages.specs.Dictionaries as dictionaries
+use Rattle.tcl_pages.specs.Dictionaries.{put_key, pairs_of}
+use Rattle.tcl_pages.specs.DictPages.{dictionary, or_text, value_at}
+use Rattle.tcl_pages.specs.Texts.{Text}
+use Rattle.tcl_values.specs.Changes.{after, after_at, after_in}
+use Rattle.tcl_values.specs.Kept.{Kept, texts, depth_over}
+use Rattle.tcl_values.specs.Paired.{zipped}
+use Rattle.tcl_values.specs.Shape.{pairs_in, pairs_text, ArePaired}
+use Rattle.tcl_values.specs.declared.change.Change.{Change}
+use Rattle.tcl_values.specs.declared.element.Pairs.{Pairs}
+use Rattle.tcl_values.proofs.Changed.{stops_then, answers_then}
+use Rattle.tcl_values.proofs.PairKept.{bare_reads, same_kept}
+use Rattle.tcl_values.proofs.PairPlaces.{put_there, put_behind, found_there, found_nowhere}
+use Rattle.tcl_values.proofs.PairTexts.{reads_put}
+
+abbrev nothing : Kept
+nothing = record { text = []; depth = 0 }
+
+get_again : (ks : List Kept) (i : ℕ) (d : Kept) → i < length ks → get_or ks i d ≡ get_or ks i (get_or ks i d)
+get_again [] i d l = absurd (omega arith)
+get_again (x ∷ ks) zero d l = refl
+get_again (x ∷ ks) (suc i) d l = any ks i d (get_or ks i d) (omega (arith, l))
+  where
+    any : (qs : List Kept) (n : ℕ) (a b : Kept) → n < length qs → get_or qs n a ≡ get_or qs n b
+    any [] n a b l = absurd (omega arith)
+    any (q ∷ qs) zero a b l = refl
+    any (q ∷ qs) (suc n) a b l = any qs n a b (omega (arith, l))
+
+text_got : (ks : List Kept) (i : ℕ) → (get_or ks i nothing).text ≡ get_or (texts ks) i []
+text_got [] i = refl
+text_got (x ∷ ks) zero = refl
+text_got (x ∷ ks) (suc i) = text_got ks i
+
+both : {A B : Type 0} (r : Answer Text) (f : Text → A) (g : A → B) → (r >>= λ x. Ok (g (f x))) ≡ ((r >>= λ x. Ok (f x)) >>= λ a. Ok (g a))
+both (Ok x) f g = refl
+both (Err m) f g = refl
+
+abbrev put_in : dictionaries.Pairs → Text → Answer Text → Answer dictionaries.Pairs
+put_in ps key r = r >>= λ new. Ok (put_key ps key new)
+
+module _ (bs : List ℕ) (u : IsUtf8 bs) (js : List (RcStr Global)) (vs : List Kept) (even : length js ≡ length vs) (c : Change) where
+  abbrev before : dictionaries.Pairs
+  before = zipped (map text_of js) (texts vs)
+
+  placed : (i : ℕ) (new : Text) → Some i ≡ position (λ j. bytes_eq bs (rc_str_bytes j)) js → put_key before (chars bs) new ≡ zipped (map text_of js) (slice_set (texts vs) i new)
+  placed i new at =
+      let v : Kept = record { text = new; depth = 0 } in
+      sym (put_there bs u js vs even v i at) ∙ ap (zipped (map text_of js)) (map-set (λ (q : Kept). q.text) vs i v)
+
+  in_place : (i : ℕ) → Some i ≡ position (λ j. bytes_eq bs (rc_str_bytes j)) js → i < length vs → after_in c before (chars bs) ≡ (after_at c (texts vs) i >>= λ ts. Ok (zipped (map text_of js) ts))
+  in_place i at l =
+      let found : value_at (chars bs) before ≡ Some (get_or (texts vs) i []) = sym (found_there bs u js vs even (get_or vs i nothing) i at (get_again vs i nothing l)) ∙ ap Some (text_got vs i) in
+      ap (λ o. put_in before (chars bs) (after c (or_text [] o))) found
+      ∙ (λ n. after c (get_or (texts vs) i []) >>= λ new. Ok (placed i new at n))
+      ∙ both (after c (get_or (texts vs) i [])) (λ new. slice_set (texts vs) i new) (zipped (map text_of js))
+
+  -- the key is there
+  pub some_done : {X : Type 0} (r : Result X Fault) (ks : List (RcStr Global)) (ws : List Kept) (i : ℕ) → Some i ≡ position (λ j. bytes_eq bs (rc_str_bytes j)) js → i < length vs → ks ≡ js
+      → Answers (λ (_ : X). texts ws) r (after_at c (texts vs) i) → Answers (λ (_ : X). zipped (map text_of ks) (texts ws)) r (after_in c before (chars bs))
+  some_done {X} r ks ws i at l same done =
+      subst (λ m. Answers (λ (_ : X). zipped (map text_of ks) (texts ws)) r m) (sym (in_place i at l))
+      (subst (λ (qs : List (RcStr Global)). Answers (λ (_ : X). zipped (map text_of qs) (texts ws)) r (after_at c (texts vs) i >>= λ ts. Ok (zipped (map text_of js) ts))) (sym same)
+      (answers_then r (after_at c (texts vs) i) (texts ws) (zipped (map text_of js)) done))
+
+  -- the key isn't there
+  not_in : list_any (λ j. bytes_eq bs (rc_str_bytes j)) js ≡ false → after_in c before (chars bs) ≡ put_in before (chars bs) (after c [])
+  not_in none = ap (λ o. put_in before (chars bs) (after c (or_text [] o))) (sym (found_nowhere bs u js vs even none))
+
+  pub none_stops : (f : Fault) → list_any (λ j. bytes_eq bs (rc_str_bytes j)) js ≡ false → Stops f (after c []) → Stops f (after_in c before (chars bs))
+  none_stops f none e = subst (λ m. Stops f m) (sym (not_in none)) (stops_then f (after c []) (λ new. Ok (put_key before (chars bs) new)) e)
+
+  pub none_done : (key : RcStr Global) (v : Kept) (ks : List (RcStr Global)) (ws : List Kept) → list_any (λ j. bytes_eq bs (rc_str_bytes j)) js ≡ false → text_of key ≡ chars bs → after c [] ≡ Ok v.text → ks ≡ js ++ key ∷ [] → ws ≡ vs ++ v ∷ []
+      → after_in c before (chars bs) ≡ Ok (zipped (map text_of ks) (texts ws))
+  none_done key v ks ws none is new keys values =
+      not_in none ∙ ap (put_in before (chars bs)) new
+      ∙ ap Ok (sym ((λ n. zipped (map text_of (keys n)) (texts (values n))) ∙ put_behind bs u js vs even key v none is))
+
+err_is_ok : (r : Answer dictionaries.Pairs) (m : Text) (ps : dictionaries.Pairs) → r ≡ Err m → r ≡ Ok ps → ⊥
+err_is_ok r m ps e f = cc
+
+ok_is : (r : Answer dictionaries.Pairs) (ps qs : dictionaries.Pairs) → r ≡ Ok ps → r ≡ Ok qs → ps ≡ qs
+ok_is r ps qs e f = cc
+
+reads_after : (t : Text) (ps qs : dictionaries.Pairs) (key : Text) (r : Answer Text) → pairs_of t ≡ Ok ps → put_in ps key r ≡ Ok qs → pairs_of (dictionary qs) ≡ Ok qs
+reads_after t ps qs key (Ok new) reads e = reads_put t ps qs key new reads (sym (ok_is _ (put_key ps key new) qs refl e))
+reads_after t ps qs key (Err m) reads e = absurd (err_is_ok _ m qs refl e)
+
+-- pairs that are kept stand for their text, whether the change is made or refused
+pub some_kept : {X : Type 0} (r : Result X Fault) (c : Change) (own new : Pairs) (key : Text) → ArePaired own → Answers (λ (_ : X). pairs_in new) r (after_in c (pairs_in own) key) → OnErr r (new.values.items ≡ own.values.items)
+    → new.keys.keys ≡ own.keys.keys → OnOk r (new.text ≡ None) → OnErr r (new.text ≡ own.text) → length new.values.items ≡ length own.values.items → new.depth ≤ 64 → depth_over new.values.items ≤ new.depth → ArePaired new
+some_kept (Ok x) c own new key kept done same keys bare text size limit deeper = record {
+  limit = limit;
+  deeper = deeper;
+  even = ap length keys ∙ kept.even ∙ sym size;
+  reading = bare_reads new bare (reads_after (pairs_text own) (pairs_in own) (pairs_in new) key (after c (or_text [] (value_at key (pairs_in own)))) kept.reading done);
+}
+some_kept (Err f) c own new key kept done same keys bare text size limit deeper = (same_kept own new kept limit deeper keys same text).1
