@@ -1,9 +1,10 @@
 -- The parts of a pattern, as the code has them, and how far it has come.
-use Rattle.std.specs.Prelude.{◌≡◌, ◌≢◌, ◌⊎◌, ◌≤◌, ℕ, true, List, [], ◌∷◌, length, Option, Some, None, ◌==◌, if◌then◌else◌}
+use Rattle.std.specs.Prelude.{◌≡◌, ◌≢◌, ◌⊎◌, ◌≤◌, ℕ, Bool, true, false, List, [], ◌∷◌, length, Option, Some, None, ◌==◌, if◌then◌else◌}
 use Rattle.std.specs.Str.{chars}
-use Rattle.tcl_chars.specs.Characters.{star}
+use Rattle.tcl_chars.specs.Characters.{star, backslash, open_bracket}
 use Rattle.tcl_chars.specs.Place.{begins}
-use Rattle.tcl_pages.specs.Glob.{One, any, just, one_of, dash, takes, first_part, some_rest, glob}
+use Rattle.tcl_pages.specs.Glob.{One, any, just, one_of, dash, question, takes, first_part, some_rest, glob}
+use Rattle.tcl_strings.specs.Taken.{to_separator}
 use Rattle.tcl_strings.specs.declared.glob.Part.{Part}
 use Rattle.tcl_strings.specs.declared.glob.Part.TheVariants as part
 
@@ -17,6 +18,15 @@ abbrev pub range_end : List ℕ → Option (ℕ × List ℕ)
 range_end [] = None
 range_end (d ∷ []) = None
 range_end (d ∷ y ∷ cs) = if d == dash then Some (y, cs) else None
+
+-- does the character stand for itself where a part begins with it
+abbrev pub is_plain : ℕ → Bool
+is_plain p = if p == star then false else (if p == question then false else (if p == open_bracket then false else (if p == backslash then false else true)))
+
+-- what a text has left at the next place where a pattern may fit it
+abbrev pub to_fit : List ℕ → List ℕ → List ℕ
+to_fit [] t = []
+to_fit (p ∷ ps) t = if is_plain p then to_separator (λ c. c == p) t else t
 
 -- the parts of ps up to qs take the characters of t up to u
 pub data Taken : List ℕ → List ℕ → List ℕ → List ℕ → Type 0 where

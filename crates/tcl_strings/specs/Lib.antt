@@ -1,3 +1,9 @@
+pub mod FieldArguments
+pub mod FieldGrammar
+pub mod FieldLaws
+pub mod FormatText
 pub mod Glob
+pub mod Grouped
 pub mod Shown
+pub mod Singles
 pub mod Taken

@@ -3,8 +3,9 @@
 ghost use Rattle.std.specs.Prelude.{◌≡◌, false, MatchOption, option_map};
 ghost use Rattle.std.specs.Str.{chars};
 ghost use Rattle.tcl_pages.specs.Glob as spec;
-ghost use Rattle.tcl_strings.specs.Glob.{one_of_part, range_end, Fit, FirstFit};
+ghost use Rattle.tcl_strings.specs.Glob.{one_of_part, range_end, is_plain, to_fit, Fit, FirstFit};
 
+use crate::seek::to_character;
 use tcl_chars::{before, split_first, tail};
 
 /// What a part of a pattern takes of a text: one character, of these.
@@ -130,6 +131,30 @@ fn fit<'p, 't>(pattern: &'p str, text: &'t str) -> Option<(&'p str, &'t str)>
     }
 }
 
+/// Does the character stand for itself at the beginning of a part of a pattern?
+fn is_plain(c: char) -> bool
+    ensures { result ≡ is_plain c }
+{
+    !matches!(c, '*' | '?' | '[' | '\\')
+}
+
+/// What a text has left at the next place where a pattern may fit it: at the character that the pattern begins with, where
+/// this stands for itself, and at the end where the pattern is empty.
+fn to_fit<'t>(pattern: &str, text: &'t str) -> &'t str
+    ensures { chars result.now ≡ to_fit (chars pattern.now) (chars text.now) }
+{
+    match split_first(pattern) {
+        Some((first, _)) => {
+            if is_plain(first) {
+                to_character(text, first)
+            } else {
+                text
+            }
+        }
+        None => "",
+    }
+}
+
 /// What is left where a pattern first fits a text or the rest of it behind some characters.
 fn first_fit<'p, 't>(pattern: &'p str, text: &'t str) -> Option<(&'p str, &'t str)>
     ensures { MatchOption result (spec.some_rest (spec.glob (chars pattern.now)) (chars text.now) ≡ false)
@@ -137,10 +162,13 @@ fn first_fit<'p, 't>(pattern: &'p str, text: &'t str) -> Option<(&'p str, &'t st
 {
     let mut rest = text;
     'places: loop {
-        if let Some((next, left)) = fit(pattern, rest) {
+        let place = to_fit(pattern, rest);
+        if let Some((next, left)) = fit(pattern, place) {
             return Some((next, left));
         }
-        let (_, after) = split_first(rest)?;
+        let Some((_, after)) = split_first(place) else {
+            return None;
+        };
         rest = after;
     }
 }

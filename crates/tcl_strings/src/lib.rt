@@ -4,16 +4,20 @@
 
 mod ascii;
 mod cases;
+mod characters;
 mod classes;
 mod directives;
 mod fields;
 mod formatting;
 mod glob;
+mod keys;
+pub mod laws;
 mod lists;
 mod mapping;
 mod page;
 mod places;
 mod search;
+mod seek;
 mod trim;
 
 pub use cases::{string_repeat, string_reverse, string_tolower, string_toupper};

@@ -1,6 +1,6 @@
 //! Texts made into lists, and lists into texts: split(n), join(n).
 
-ghost use Rattle.std.specs.Prelude.{◌≡◌, ◌∷◌, ◌++◌, [], map, option_map, IfOk, OnOk};
+ghost use Rattle.std.specs.Prelude.{◌≡◌, ◌++◌, option_map, IfOk, OnOk};
 ghost use Rattle.std.specs.Str.{chars};
 ghost use Rattle.std.specs.String.{string_bytes};
 ghost use Rattle.tcl_chars.specs.Answers.{Answers};
@@ -9,26 +9,14 @@ ghost use Rattle.tcl_pages.specs.Strings as spec;
 ghost use Rattle.tcl_strings.specs.Taken.{to_separator};
 ghost use Rattle.tcl_values.specs.Kept.{texts};
 
-use crate::places::{front, room, text_if, value_of};
+use crate::characters::characters;
+use crate::places::{room, text_if, value_of};
 use crate::trim::is_among;
 use std::alloc::{AllocError, Global};
 use std::rc::RcStr;
 use tcl_arguments::{one_or_two_texts, usage};
 use tcl_chars::{Fault, before, push_text, split_first};
 use tcl_values::{Element, Value};
-
-/// Each character by itself.
-fn characters(alloc: Global, text: &str) -> Result<Vec<Value>, AllocError>
-    ensures { IfOk result (λ v. v.items ≡ map (λ c. c ∷ []) (chars text.now)) }
-{
-    let mut parts = Vec::new(alloc);
-    let mut rest = text;
-    while let Some((_, after)) = split_first(rest) {
-        parts.push(value_of(alloc, front(rest, 1))?)?;
-        rest = after;
-    }
-    Ok(parts)
-}
 
 /// What the text has left at its first separator.
 fn to_separator<'a>(text: &'a str, set: &str) -> &'a str

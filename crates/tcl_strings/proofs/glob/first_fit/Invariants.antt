@@ -12,4 +12,4 @@ invariant-places l = record {
 }
 
 abbrev pub decreases-places : goal.decreases-places
-decreases-places l = length l.rest
+decreases-places l = length (chars l.rest)
