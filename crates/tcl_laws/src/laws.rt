@@ -1,0 +1,44 @@
+//! A written list as a script: each law is the contract of a function that does nothing.
+
+ghost use Rattle.tcl_laws.specs.ListWords.{ExpandsToElements, NextWordsAreElements, WordsAreElements};
+ghost use Rattle.tcl_laws.specs.ListCalls.{AskedListIsCalled, EvalIsCalled, ListIsCalled, ListThenRest, ListingIsCalled};
+
+/// What is written of one element or more is one command, whose words are its elements in every state.
+pub fn words_are_elements()
+    ensures { WordsAreElements }
+{}
+
+/// So it is where a command's end follows it, also inside brackets.
+pub fn next_words_are_elements()
+    ensures { NextWordsAreElements }
+{}
+
+/// A word with `{*}` in front that comes to a written list stands for its elements.
+pub fn expands_to_elements()
+    ensures { ExpandsToElements }
+{}
+
+/// To run a written list is to call the command that its first element names, with the others as arguments.
+pub fn list_is_called()
+    ensures { ListIsCalled }
+{}
+
+/// So it is where more commands follow it: they come after the call.
+pub fn list_then_rest()
+    ensures { ListThenRest }
+{}
+
+/// A page that asks for a written list to be run has that command called, and then does what it owes.
+pub fn asked_list_is_called()
+    ensures { AskedListIsCalled }
+{}
+
+/// `eval` of a written list is that call.
+pub fn eval_is_called()
+    ensures { EvalIsCalled }
+{}
+
+/// `eval` of what `list` answers is the call of the command that its first word names.
+pub fn listing_is_called()
+    ensures { ListingIsCalled }
+{}
