@@ -103,6 +103,11 @@ impl Interp {
         self.failed
     }
 
+    /// How many texts of scripts and expressions were compiled so far, 2^64 - 1 at most.
+    pub fn compiles(&self) -> u64 {
+        self.codes.compiles()
+    }
+
     /// Evaluates a script, with so many units to spend: one for each command and each turn of a loop.
     pub fn eval<R: Input, W: Output, E: Output>(
         &mut self,

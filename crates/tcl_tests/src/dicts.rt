@@ -114,6 +114,42 @@ fn incr(alloc: Global, start: &str, texts: &[&str]) -> Result<RcStr, Fault> {
     left(alloc, done, value)
 }
 
+/// What so many elements `a b`, put one after another into the list under the key `k`, leave.
+fn lengthened(alloc: Global, count: u32) -> Result<Value, Fault> {
+    let mut value = Value::of_text(RcStr::from_str(alloc, "")?);
+    let mut words = words(alloc, &["k", "a b"])?;
+    for _ in 0..count {
+        dict_lappend(alloc, &mut value, &mut words)?;
+    }
+    Ok(value)
+}
+
+/// What so many texts `ab`, put one after another behind the value of the key `k`, leave.
+fn extended(alloc: Global, count: u32) -> Result<Value, Fault> {
+    let mut value = Value::of_text(RcStr::from_str(alloc, "")?);
+    let mut words = words(alloc, &["k", "ab"])?;
+    for _ in 0..count {
+        dict_append(alloc, &mut value, &mut words)?;
+    }
+    Ok(value)
+}
+
+/// A text, so many others, and a last one.
+fn repeated(
+    alloc: Global,
+    first: &str,
+    other: &str,
+    count: u32,
+    last: &str,
+) -> Result<String, Fault> {
+    let mut text = String::from_str(alloc, first)?;
+    for _ in 0..count {
+        text.push_str(other)?;
+    }
+    text.push_str(last)?;
+    Ok(text)
+}
+
 /// So many keys, each put twice.
 fn many(alloc: Global, count: u32) -> Result<usize, Fault> {
     let mut value = Value::of_text(RcStr::from_str(alloc, "")?);
@@ -218,5 +254,39 @@ fn changed(rt: HostRuntime) -> Result<(), Fail> {
         "expected integer but got \"q\""
     );
     assert_eq!(rt; many(alloc, 10_000)?, 10_000usize);
+    Ok(())
+}
+
+#[test]
+fn grown(rt: HostRuntime) -> Result<(), Fail> {
+    let alloc = rt.alloc();
+    let mut list = lengthened(alloc, 1_000)?;
+    let written = repeated(alloc, "k {{a b}", " {a b}", 999, "}")?;
+    assert_eq!(rt; list.text(alloc)?.as_str(), written.as_str());
+    let mut text = extended(alloc, 1_000)?;
+    let written = repeated(alloc, "k ", "ab", 1_000, "")?;
+    assert_eq!(rt; text.text(alloc)?.as_str(), written.as_str());
+    Ok(())
+}
+
+#[test]
+fn shared(rt: HostRuntime) -> Result<(), Fail> {
+    let alloc = rt.alloc();
+    let mut value = lengthened(alloc, 2)?;
+    let mut copy = value.copy()?;
+    let mut words = words(alloc, &["k", "c"])?;
+    dict_lappend(alloc, &mut value, &mut words)?;
+    assert_eq!(rt; copy.text(alloc)?.as_str(), "k {{a b} {a b}}");
+    assert_eq!(rt; value.text(alloc)?.as_str(), "k {{a b} {a b} c}");
+    dict_append(alloc, &mut copy, &mut words)?;
+    assert_eq!(rt; copy.text(alloc)?.as_str(), "k {{a b} {a b}c}");
+    assert_eq!(rt;
+        lappend(alloc, "j 1", &["k", "x y"])?.as_str(),
+        "j 1 k {{x y}}"
+    );
+    assert_eq!(rt;
+        lappend(alloc, "k {", &["k", "x"])?.as_str(),
+        "unmatched open brace in list"
+    );
     Ok(())
 }

@@ -27,7 +27,10 @@ fn said(alloc: Global, answer: Result<Value, Fault>) -> Result<RcStr, Fault> {
 
 /// The command with these words.
 fn ran(alloc: Global, command: &str, texts: &[&str]) -> Result<RcStr, Fault> {
-    let mut words = words(alloc, texts)?;
+    ran_values(alloc, command, words(alloc, texts)?)
+}
+
+fn ran_values(alloc: Global, command: &str, mut words: Vec<Value>) -> Result<RcStr, Fault> {
     let answer = match command {
         "concat" => Ok(concat(alloc, &mut words)?),
         "lindex" => lindex(alloc, &mut words, Dialect::Tcl86),
@@ -168,5 +171,40 @@ fn whole_lists(rt: HostRuntime) -> Result<(), Fail> {
     );
     assert_eq!(rt; ran(alloc, "llength", &["a {b c}"])?.as_str(), "2");
     assert_eq!(rt; many(alloc)?.as_str(), "999");
+    Ok(())
+}
+
+/// Commands on `a {b c}` a thousand times, which is two thousand elements, with these words behind it, and how many bytes they
+/// answer.
+static LARGE: [(&str, &[&str], usize); 7] = [
+    ("concat", &["{d e}"], 8005),
+    ("linsert", &["end", "x y"], 8005),
+    ("list", &["z"], 8004),
+    ("lrange", &["1", "end-1"], 7991),
+    ("lreplace", &["1", "1", "x", "y"], 7997),
+    ("lreverse", &[], 7999),
+    ("lsort", &[], 7999),
+];
+
+/// How many bytes the command answers.
+fn size(alloc: Global, command: &str, more: &[&str]) -> Result<usize, Fault> {
+    let mut text = String::new(alloc);
+    for _ in 0..1000u32 {
+        text.push_str("a {b c} ")?;
+    }
+    let mut words = Vec::new(alloc);
+    words.push(Value::of_text(RcStr::from_str(alloc, &text)?))?;
+    for word in more {
+        words.push(Value::of_text(RcStr::from_str(alloc, word)?))?;
+    }
+    Ok(ran_values(alloc, command, words)?.len())
+}
+
+#[test]
+fn two_thousand_elements(rt: HostRuntime) -> Result<(), Fail> {
+    for row in &LARGE {
+        let (command, more, want) = *row;
+        assert!(rt; size(rt.alloc(), command, more)? == want, "{command}");
+    }
     Ok(())
 }

@@ -1,4 +1,5 @@
 //! Rows that the language's own shell answers the same way.
+use std::alloc::{AllocError, Global};
 use std::rc::RcStr;
 use std::test::Fail;
 use tcl_chars::{Dialect, Fault};
@@ -56,6 +57,15 @@ fn replacements(rt: HostRuntime) -> Result<(), Fail> {
     assert!(rt; answers(&rt, StringPage::Replace, &["abcde", "3", "1", "X"], "abcde")?);
     assert!(rt; answers(&rt, StringPage::Map, &["a 1 ab 2", "abab"], "1b1b")?);
     assert!(rt; answers(&rt, StringPage::Map, &["ab 2 a ab {} x", "aaba"], "ab2ab")?);
+    let many = "aa 0 {} x áb 1 ab 2 a 3 á 4 b 5 c 6 d 7 e 8 aá 9";
+    assert!(rt;
+        answers(
+            &rt,
+            StringPage::Map,
+            &[many, "aaáábaabšbgbab"],
+            "04105š5g52"
+        )?
+    );
     assert!(rt;
         refuses(
             &rt,
@@ -75,6 +85,11 @@ fn searches(rt: HostRuntime) -> Result<(), Fail> {
     assert!(rt; answers(&rt, StringPage::Last, &["an", "banana"], "3")?);
     assert!(rt; answers(&rt, StringPage::Last, &["an", "banana", "3"], "1")?);
     assert!(rt; answers(&rt, StringPage::Match, &["a*[x-z]?", "abcyd"], "1")?);
+    assert!(rt; answers(&rt, StringPage::Match, &["*a*b*", "xxaxxbx"], "1")?);
+    assert!(rt; answers(&rt, StringPage::Match, &["*a*b*", "xxbxa"], "0")?);
+    assert!(rt; answers(&rt, StringPage::Match, &["*áb*", "xáábx"], "1")?);
+    assert!(rt; answers(&rt, StringPage::Match, &["*\\**", "a*b"], "1")?);
+    assert!(rt; answers(&rt, StringPage::Match, &["*?b*", "b"], "0")?);
     Ok(())
 }
 
@@ -116,6 +131,7 @@ fn ends(rt: HostRuntime) -> Result<(), Fail> {
 fn lists(rt: HostRuntime) -> Result<(), Fail> {
     assert!(rt; answers(&rt, StringPage::Split, &["a:b::c", ":"], "a b {} c")?);
     assert!(rt; answers(&rt, StringPage::Split, &["abc", ""], "a b c")?);
+    assert!(rt; answers(&rt, StringPage::Split, &["abaáb", ""], "a b a á b")?);
     assert!(rt; answers(&rt, StringPage::Split, &["", ":"], "")?);
     assert!(rt; answers(&rt, StringPage::Split, &["a b\tc"], "a b c")?);
     assert!(rt; answers(&rt, StringPage::Join, &["a {b c} d", ", "], "a, b c, d")?);
@@ -170,5 +186,68 @@ fn formats(rt: HostRuntime) -> Result<(), Fail> {
             "format string ended in middle of field specifier"
         )?
     );
+    Ok(())
+}
+
+/// Commands on a part a thousand times with these words behind it, and how many characters they answer.
+static LARGE: [(StringPage, &str, &[&str], usize); 16] = [
+    (StringPage::Split, "ab ", &[], 3002),
+    (StringPage::Split, "a:", &[":"], 2002),
+    (StringPage::Split, "ab", &[""], 3999),
+    (StringPage::Join, "ab ", &[], 2999),
+    (StringPage::Join, "ab ", &[", "], 3998),
+    (StringPage::Reverse, "é中", &[], 2000),
+    (StringPage::Toupper, "ab", &[], 2000),
+    (StringPage::Tolower, "AB", &[], 2000),
+    (StringPage::Trim, " a", &[], 1999),
+    (StringPage::Trimleft, " a", &[], 1999),
+    (StringPage::Trimright, "a ", &[], 1999),
+    (StringPage::Format, "ab%%", &[], 3000),
+    (StringPage::Format, "%d", &["1"; 1000], 1000),
+    (StringPage::Repeat, "ab", &["10"], 20_000),
+    (StringPage::Range, "ab", &["1", "end-1"], 1998),
+    (StringPage::Replace, "ab", &["1", "1", "xyz"], 2002),
+];
+
+/// A part a thousand times.
+fn thousand(alloc: Global, part: &str) -> Result<String, AllocError> {
+    let mut text = String::new(alloc);
+    for _ in 0..1000u32 {
+        text.push_str(part)?;
+    }
+    Ok(text)
+}
+
+/// How many characters the command answers.
+fn size(alloc: Global, page: StringPage, part: &str, more: &[&str]) -> Result<usize, Fault> {
+    let text = thousand(alloc, part)?;
+    let mut words = Vec::new(alloc);
+    words.push(Value::of_text(RcStr::from_str(alloc, &text)?))?;
+    for word in more {
+        words.push(Value::of_text(RcStr::from_str(alloc, word)?))?;
+    }
+    let mut value = string_page(alloc, page, words.as_mut_slice(), Dialect::Tcl86)?;
+    let text = value.text(alloc)?;
+    Ok(text.chars().count())
+}
+
+#[test]
+fn a_thousand_parts(rt: HostRuntime) -> Result<(), Fail> {
+    for row in &LARGE {
+        let (page, part, more, want) = *row;
+        assert!(rt;
+            size(rt.alloc(), page, part, more)? == want,
+            "{part} in {want}"
+        );
+    }
+    Ok(())
+}
+
+/// A thousand keys of a text that are replaced.
+#[test]
+fn a_thousand_replacements(rt: HostRuntime) -> Result<(), Fail> {
+    let text = thousand(rt.alloc(), "ab")?;
+    let want = thousand(rt.alloc(), "xyz")?;
+    assert!(rt; answers(&rt, StringPage::Map, &["ab xyz", &text], &want)?);
     Ok(())
 }

@@ -104,3 +104,22 @@ fn links(alloc: Global) -> Result<bool, Fault> {
 fn a_host_writes_through_links(rt: HostRuntime) {
     assert!(rt; matches!(links(rt.alloc()), Ok(true)));
 }
+
+/// Are so few texts compiled for so many turns of a script?
+fn compiles_few(alloc: Global) -> Result<bool, Fault> {
+    let mut interp = fresh(alloc)?;
+    let script =
+        "set s {incr ::n}; proc q {} {eval $::s}; for {set i 0} {$i < 1000} {incr i} {q}; puts $n";
+    let end = evaluated(alloc, &mut interp, 5, script, 10000)?;
+    Ok(
+        is_done(&end.outcome, 0, "", 4995)
+            && end.out.bytes() == b"1000\n".as_slice()
+            && interp.compiles() >= 3
+            && interp.compiles() < 20,
+    )
+}
+
+#[test]
+fn kept_codes_are_not_compiled_again(rt: HostRuntime) {
+    assert!(rt; matches!(compiles_few(rt.alloc()), Ok(true)));
+}

@@ -120,3 +120,68 @@ fn thousands_of_turns_and_levels(rt: HostRuntime) {
         assert!(rt; matches!(answered, Ok(true)), "{script}");
     }
 }
+
+/// Scripts in which a value grows a thousand times, or has a thousand parts: what they cost, and their result.
+static GROWING: [(&str, u64, &str); 12] = [
+    (
+        "for {set i 0} {$i < 1000} {incr i} {append s ab}; string length $s",
+        3003,
+        "2000",
+    ),
+    (
+        "for {set i 0} {$i < 1000} {incr i} {lappend l k$i $i}; llength [dict keys [dict merge $l {a b}]]",
+        3005,
+        "1001",
+    ),
+    (
+        "for {set i 0} {$i < 1000} {incr i} {lappend l k$i $i}; llength [dict values [dict replace $l a b]]",
+        3005,
+        "1001",
+    ),
+    (
+        "for {set i 0} {$i < 1000} {incr i} {dict set d $i x}; dict size $d",
+        3003,
+        "1000",
+    ),
+    (
+        "for {set i 0} {$i < 1000} {incr i} {dict append d k ab}; string length [dict get $d k]",
+        3004,
+        "2000",
+    ),
+    (
+        "for {set i 0} {$i < 1000} {incr i} {dict lappend d k ab}; llength [dict get $d k]",
+        3004,
+        "1000",
+    ),
+    (
+        "for {set i 0} {$i < 1000} {incr i} {lappend l $i x}; array set a $l; llength [array get a]",
+        3005,
+        "2000",
+    ),
+    (
+        "set l [lrepeat 1000 a]; for {set i 0} {$i < 1000} {incr i} {lset l $i $i}; lindex $l 999",
+        3005,
+        "999",
+    ),
+    (
+        "for {set i 0} {$i < 1000} {incr i} {set v$i x}; llength [info vars v*]",
+        3004,
+        "1000",
+    ),
+    ("llength [lmap x [lrepeat 1000 a] {set x}]", 2003, "1000"),
+    ("llength [lassign [lrepeat 1000 a] x]", 3, "999"),
+    (
+        "proc p args {llength $args}; p {*}[lrepeat 1000 a]",
+        4,
+        "1000",
+    ),
+];
+
+#[test]
+fn values_that_grow(rt: HostRuntime) {
+    for row in &GROWING {
+        let (script, cost, want) = *row;
+        let answered = answers(rt.alloc(), script, cost, want);
+        assert!(rt; matches!(answered, Ok(true)), "{script}");
+    }
+}

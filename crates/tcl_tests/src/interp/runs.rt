@@ -2,8 +2,8 @@
 
 use super::setting::{holds, is_done};
 use std::alloc::{AllocError, Global};
-use tcl_chan::device::Output;
-use tcl_chan::faulty::FaultyOutput;
+use tcl_chan::device::{Input, Output};
+use tcl_chan::faulty::{FaultyInput, FaultyOutput};
 use tcl_chan::memory::{MemoryInput, MemoryOutput};
 use tcl_interp::{Interp, Outcome, Report, run};
 
@@ -150,5 +150,47 @@ fn nothing_is_flushed_after_a_failed_write(rt: HostRuntime) {
     ] {
         let failed = fails(rt.alloc(), script, 5, fail_write, (1, 1), want);
         assert!(rt; failed == Ok(true), "the end of {script}");
+    }
+}
+
+/// Does a run over an input whose first read fails end with Io, and is no output flushed then?
+fn fails_unflushed(alloc: Global, script: &str) -> Result<bool, AllocError> {
+    let mut input = FaultyInput::new(MemoryInput::new(b"a"), 1);
+    let mut out = FaultyOutput::new(MemoryOutput::new(alloc, 9)?, 0, 1);
+    let mut err = FaultyOutput::new(MemoryOutput::new(alloc, 9)?, 0, 1);
+    let report = run(alloc, script, &["a.tcl"], &mut input, &mut out, &mut err, 5);
+    let failures = (input.failures(), out.failures(), err.failures());
+    Ok(matches!(report.outcome, Outcome::Io) && failures == (1, 0, 0))
+}
+
+#[test]
+fn nothing_is_flushed_after_a_failed_read(rt: HostRuntime) {
+    for script in ["gets stdin", "puts x; catch {read stdin}"] {
+        let failed = fails_unflushed(rt.alloc(), script);
+        assert!(rt; failed == Ok(true), "the end of {script}");
+    }
+}
+
+/// Does a run end for want of memory, and is no output flushed then?
+fn wants_memory(alloc: Global, script: &str) -> Result<bool, AllocError> {
+    let mut input = MemoryInput::new(b"");
+    let mut out = FaultyOutput::new(MemoryOutput::new(alloc, 9)?, 0, 1);
+    let mut err = FaultyOutput::new(MemoryOutput::new(alloc, 9)?, 0, 1);
+    let report = run(alloc, script, &["a.tcl"], &mut input, &mut out, &mut err, 5);
+    let failures = (out.failures(), err.failures());
+    Ok(matches!(report.outcome, Outcome::Memory) && failures == (0, 0))
+}
+
+/// More than any memory holds is refused at once.
+#[test]
+fn nothing_is_flushed_where_memory_is_refused(rt: HostRuntime) {
+    for script in [
+        "string repeat abc 9223372036854775807",
+        "puts x; catch {string repeat abc 9223372036854775807}",
+    ] {
+        assert!(rt;
+            wants_memory(rt.alloc(), script) == Ok(true),
+            "the end of {script}"
+        );
     }
 }
