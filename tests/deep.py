@@ -1,0 +1,186 @@
+#!/usr/bin/env python3
+"""Checks of scripts, expressions and lists that nest deep, on a stack of 1 MiB and on one of 8 MiB.
+
+    tests/deep.py     these checks alone; tests/run runs them with all others
+
+A script has depth 1, each script that a command or a bracket of it runs is one deeper, and one of depth 1001 is an
+error (docs/PROFILE.md, What a run costs). What is expected is reckoned from that rule and from the 200 levels of a text.
+"""
+import os
+import sys
+
+sys.dont_write_bytecode = True
+
+from program import Program, Wrong, by_shell, check, checks, expect, run_text
+from run_checks import judged
+
+STACKS = [(size, by_shell(f'ulimit -s {size}; exec "$0" "$@"')) for size in (1024, 8192)]
+DEEPEST = 1000
+LEVELS = 200
+MILLION = 1_000_000
+MANY = 100_000
+TOO_DEEP = "too many nested evaluations (infinite loop?)"
+TOO_NESTED = "nesting too deep"
+
+
+def deep_check(name, text, answer, fault=None):
+    """A script that puts an answer, and ends with a fault if one is named, on each stack."""
+
+    @check(f"deep/{name}")
+    def _(tested, room):
+        made = text() if callable(text) else text
+        wanted = f"{answer}\n".encode() if answer is not None else b""
+        for size, by in STACKS:
+            try:
+                got = run_text(tested, room, made, by=by)
+                expect(got, 1 if fault else 0, wanted, f"{fault}\n".encode() if fault else b"")
+            except Wrong as what:
+                raise Wrong(f"on a stack of {size} KiB: {what}") from None
+
+
+# ---- each command that runs a script, in itself without end
+
+# Name, the script that runs itself, how many levels deeper it is each time.
+AGAIN = [
+    ("eval", "eval $s", 1),
+    ("eval-of-words", "eval eval {$s}", 2),
+    ("if", "if 1 $s", 1),
+    ("else", "if 0 {} else $s", 1),
+    ("while", "while 1 $s", 1),
+    ("for-start", "for $s 1 {} {}", 1),
+    ("for-next", "for {} 1 $s {}", 1),
+    ("for-body", "for {} 1 {} $s", 1),
+    ("foreach", "foreach x 1 $s", 1),
+    ("lmap", "lmap x 1 $s", 1),
+    ("switch", "switch a a $s", 1),
+    ("dict-for", "dict for {k v} {a 1} $s", 1),
+    ("uplevel", "uplevel 0 $s", 1),
+    ("uplevel-global", "uplevel #0 $s", 1),
+    ("apply", "apply [list {} $::s]", 1),
+    ("procedure", "f", 1),
+    ("procedure-by-eval", "eval f", 2),
+    ("procedure-by-uplevel", "uplevel 1 f", 2),
+    ("procedure-in-a-bracket", "set y [f]", 2),
+    ("bracket", "set y [eval $s]", 2),
+    ("bracket-in-quotes", 'set y "a[eval $s]b"', 2),
+    ("bracket-in-an-index", "set a([eval $s]) 1", 2),
+    ("expression", "expr {[eval $s]}", 2),
+    ("condition-of-if", "if {[eval $s]} {}", 2),
+    ("condition-of-while", "while {[eval $s]} {}", 2),
+    ("condition-of-for", "for {} {[eval $s]} {} {}", 2),
+    ("argument-of-a-function", "expr {abs([eval $s])}", 2),
+    ("right-of-and", "expr {1 && [eval $s]}", 2),
+]
+
+
+def turns(outside, levels):
+    """How many times a script runs that is run at a depth, and in itself so many levels deeper each time."""
+    return 1 + (DEEPEST - outside - 1) // levels
+
+
+for name, again, levels in AGAIN:
+    before = f"proc f {{}} {{incr ::n; {again}}}\nset s {{incr ::n; {again}}}\nset n 0\n"
+    begin = "f" if name.startswith("procedure") else "eval $s"
+    deep_check(f"{name}-without-end", f"{before}puts a\n{begin}\nputs no\n", "a", TOO_DEEP)
+    deep_check(f"{name}-how-deep", f"{before}catch {{{begin}}} m\nputs $n:$m\n", f"{turns(2, levels)}:{TOO_DEEP}")
+
+# a catch at each level sees the error of the one below, and goes on
+deep_check("catch-how-deep", "set s {incr n; catch $s m; set m}\nputs [eval $s],$n\n", f"{TOO_DEEP},{turns(2, 1)}")
+deep_check("twice", "proc f {} {incr ::n; f}\ncatch f\ncatch f m\nputs $n:$m\n", f"{2 * turns(2, 1)}:{TOO_DEEP}")
+
+# ---- each command that takes a script in braces, written in itself
+
+WRITTEN = [
+    ("eval", "eval {", "}"),
+    ("if", "if 1 {", "}"),
+    ("else", "if 0 {} else {", "}"),
+    ("while", "while 1 {", ";break}"),
+    ("for", "for {} 1 {} {", ";break}"),
+    ("foreach", "foreach x 1 {", "}"),
+    ("lmap", "lmap x 1 {", "}"),
+    ("switch", "switch a {a {", "}}"),
+    ("dict-for", "dict for {k v} {a 1} {", "}"),
+    ("uplevel", "uplevel 0 {", "}"),
+    ("apply", "apply {{} {", "}}"),
+    ("catch", "catch {", "}"),
+]
+
+
+def written(opener, closer, levels):
+    """A script that puts a where it stands so many levels below the file's."""
+    return opener * levels + "puts a" + closer * levels + "\n"
+
+
+for name, opener, closer in WRITTEN:
+    deep_check(f"{name}-written-{DEEPEST - 1}-deep", written(opener, closer, DEEPEST - 1), "a")
+    # the error that catch sees is no error of the script
+    fault = None if name == "catch" else TOO_DEEP
+    deep_check(f"{name}-written-{DEEPEST}-deep", written(opener, closer, DEEPEST), None, fault)
+
+
+def calls(count):
+    """Procedures of which each calls the next."""
+    return "".join(f"proc p{i} {{}} p{i + 1}\n" for i in range(count)) + f"proc p{count} {{}} {{puts a}}\np0\n"
+
+
+deep_check("procedures-of-their-own", calls(DEEPEST - 2), "a")
+deep_check("one-procedure-too-many", calls(DEEPEST - 1), None, TOO_DEEP)
+
+# ---- nesting within one text
+
+
+def parentheses(count, inside):
+    return "(" * count + inside + ")" * count
+
+
+def expressions(times):
+    """An expression 199 parentheses deep, and in a bracket there another, so many times."""
+    text = parentheses(LEVELS, "1")
+    for _ in range(times):
+        text = parentheses(LEVELS - 1, "[expr {" + text + "}]")
+    return text
+
+
+deep_check("expression", "puts [expr {" + parentheses(LEVELS, "7") + "}]\n", "7")
+deep_check("expression-too-deep", "puts [expr {" + parentheses(LEVELS + 1, "7") + "}]\n", None, TOO_NESTED)
+deep_check("expressions-in-brackets", "puts [expr {" + expressions(20) + "}]\n", "1")
+deep_check("expression-and-bracket-too-deep", "puts [expr {" + parentheses(LEVELS, "[set x 1]") + "}]\n", None, TOO_NESTED)
+deep_check("expression-of-signs", "puts [expr {" + "- " * LEVELS + "7}]\n", "7")
+deep_check("expression-of-signs-too-deep", "puts [expr {" + "- " * (LEVELS + 1) + "7}]\n", None, TOO_NESTED)
+deep_check("brackets", "puts " + "[set x " * LEVELS + "7" + "]" * LEVELS + "\n", "7")
+deep_check("brackets-too-deep", "puts " + "[set x " * (LEVELS + 1) + "7" + "]" * (LEVELS + 1) + "\n", None, TOO_NESTED)
+
+for name, character, fault in [
+    ("brackets", "[", TOO_NESTED),
+    ("indices", "$a(", TOO_NESTED),
+    ("braces", "{", "missing close-brace"),
+    ("names-in-braces", "${", "missing close-brace for variable name"),
+]:
+    million = MILLION // len(character)
+    deep_check(f"a-megabyte-of-{name}", lambda of=character * million: f"puts a\n{of}", "a", fault)
+
+REPEATED = "catch {%s [string repeat %s 1000000]} m; puts $m\n"
+deep_check("a-megabyte-of-brackets-evaluated", REPEATED % ("eval", "\\["), TOO_NESTED)
+deep_check("a-megabyte-of-brackets-in-an-expression", REPEATED % ("expr", "\\["), TOO_NESTED)
+deep_check("a-megabyte-of-parentheses", REPEATED % ("expr", "("), TOO_NESTED)
+deep_check("a-megabyte-of-signs", REPEATED % ("expr", "-"), TOO_NESTED)
+deep_check("a-megabyte-of-braces-in-a-list", REPEATED % ("llength", "\\{"), "unmatched open brace in list")
+
+# ---- lists in one another
+
+BRACES = "set l [string repeat \\{ 100000][string repeat \\} 100000]\n"
+deep_check("list-length", BRACES + "puts [llength $l]\n", "1")
+deep_check("list-element", BRACES + "puts [string length [lindex $l 0 0 0]]\n", str(2 * (MANY - 3)))
+deep_check("list-each", BRACES + "foreach x $l {puts [string length $x]}\n", str(2 * (MANY - 1)))
+deep_check("list-kept", BRACES + "lappend l a; lset l 1 b; puts [string length $l],[lindex $l 1]\n", f"{2 * MANY + 2},b")
+deep_check("list-written", BRACES + "puts [string length [list $l]],[string length [lreverse $l]]\n", f"{2 * MANY + 2},{2 * MANY}")
+
+
+def main():
+    top = os.path.dirname(os.path.dirname(os.path.realpath(__file__)))
+    tested = Program(os.environ.get("TCLINT") or f"{top}/crates/tclint/out/tclint")
+    return judged([(f"program/{name}", lambda test=test: test(tested)) for name, test in checks() if name.startswith("deep/")])
+
+
+if __name__ == "__main__":
+    sys.exit(main())
