@@ -12,7 +12,7 @@ use Rattle.tcl_meaning.specs.SeenPages.{array_names, array_get, array_exists, ar
 use Rattle.tcl_meaning.specs.State.{Commands, Store, active_frame}
 use Rattle.tcl_pages.specs.Answers.{◌>>=◌}
 use Rattle.tcl_pages.specs.Arguments.{one_argument, one_or_two}
-use Rattle.tcl_pages.specs.Operators.{truth_text}
+use Rattle.tcl_pages.specs.Results.{truth_text}
 use Rattle.tcl_pages.specs.Texts.{Text, count_text}
 use Rattle.tcl_pages.specs.Usage.{usage}
 

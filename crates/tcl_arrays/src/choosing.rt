@@ -8,8 +8,8 @@ ghost use Rattle.tcl_meaning.specs.Arrays as spec;
 
 use std::alloc::{AllocError, Global};
 use std::rc::RcStr;
+use tcl_glob::glob_match;
 use tcl_names::HashedNames;
-use tcl_strings::glob_match;
 use tcl_values::Value;
 
 /// Does a name match the pattern, if there is one?

@@ -1,7 +1,7 @@
 //! Counts and truth values, as commands answer them.
 ghost use Rattle.std.specs.Prelude.{◌≡◌, IfOk};
 ghost use Rattle.std.specs.Str.{chars};
-ghost use Rattle.tcl_pages.specs.Operators.{truth_text};
+ghost use Rattle.tcl_pages.specs.Results.{truth_text};
 ghost use Rattle.tcl_pages.specs.Texts.{count_text};
 
 use itoa::Buffer;

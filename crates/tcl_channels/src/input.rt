@@ -12,7 +12,7 @@ ghost use Rattle.tcl_meaning.specs.Beginnings.{OutputsBegin};
 ghost use Rattle.tcl_meaning.specs.Channels as spec;
 ghost use Rattle.tcl_meaning.specs.Value.{judged};
 ghost use Rattle.tcl_meaning.specs.Completions.{normal};
-ghost use Rattle.tcl_pages.specs.Operators.{truth_text};
+ghost use Rattle.tcl_pages.specs.Results.{truth_text};
 
 use crate::ends::halted;
 use crate::names::{Channel, channel_named, input_named};

@@ -4,7 +4,8 @@ use Rattle.std.specs.Prelude.{slice_get}
 use Rattle.tcl_chars.specs.declared.numbers.Dialect.{Dialect}
 use Rattle.tcl_chars.specs.Messages.{truth_value}
 use Rattle.tcl_pages.specs.Answers.{Answer}
-use Rattle.tcl_pages.specs.Operators.{lazy, truth_text, truth_answer}
+use Rattle.tcl_meaning.specs.Operators.{lazy, truth_answer}
+use Rattle.tcl_pages.specs.Results.{truth_text}
 use Rattle.tcl_pages.specs.Texts.{Text}
 use Rattle.tcl_meaning.specs.State.{State}
 use Rattle.tcl_meaning.specs.Effects.{Got, Gives, Broke, Exits, Untold, Prog, exec}

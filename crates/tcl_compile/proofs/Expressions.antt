@@ -9,7 +9,7 @@ use Rattle.tcl_expr.specs.Machine.{expression_of}
 use Rattle.tcl_expr.specs.Texts.{fault_text}
 use Rattle.tcl_expr.specs.Token.{Token}
 use Rattle.tcl_expr.specs.Tokens.{tokens, tokens_at, tokens_from, next_token, operand_token}
-use Rattle.tcl_pages.specs.Operators.{final_answer}
+use Rattle.tcl_meaning.specs.Operators.{final_answer}
 use Rattle.tcl_pages.specs.Texts.{Text}
 use Rattle.tcl_meaning.specs.Completions.{nothing, normal}
 use Rattle.tcl_meaning.specs.State.{State}

@@ -8,7 +8,8 @@ use Rattle.tcl_expr.specs.declared.token.BinaryOp.TheVariants as binary
 use Rattle.tcl_expr.specs.declared.token.Function.{Function}
 use Rattle.tcl_words.specs.Parts.{Stretch}
 use Rattle.tcl_pages.specs.Answers.{Answer}
-use Rattle.tcl_pages.specs.Operators.{Operator, lazy, eager, operator, truth_text, truth_answer, unary_answer, power_answer, function_answer, final_answer}
+use Rattle.tcl_meaning.specs.Operators.{Operator, lazy, eager, operator, truth_answer, unary_answer, power_answer, function_answer, final_answer}
+use Rattle.tcl_pages.specs.Results.{truth_text}
 use Rattle.tcl_pages.specs.Texts.{Text}
 use Rattle.tcl_meaning.specs.State.{State}
 use Rattle.tcl_meaning.specs.Effects.{Prog, exec}

@@ -9,7 +9,8 @@ use Rattle.tcl_expr.specs.declared.token.UnaryOp.{UnaryOp}
 use Rattle.tcl_expr.specs.declared.token.BinaryOp.{BinaryOp}
 use Rattle.tcl_expr.specs.declared.token.Function.{Function}
 use Rattle.tcl_words.specs.Parts.{Stretch, Shape}
-use Rattle.tcl_pages.specs.Operators.{operator, truth_text}
+use Rattle.tcl_meaning.specs.Operators.{operator}
+use Rattle.tcl_pages.specs.Results.{truth_text}
 use Rattle.tcl_meaning.specs.Expressions.{applied, tree_text, rest_text}
 use Rattle.tcl_code.specs.Instructions.{Instruction, Push, Unary, Binary, Power, Apply, Truth, Skip, SkipWhen}
 use Rattle.tcl_code.specs.Build.{with_count}

@@ -7,7 +7,7 @@ use Rattle.tcl_expr.specs.declared.token.BinaryOp.TheVariants as binary
 use Rattle.tcl_expr.specs.declared.token.Function.{Function}
 use Rattle.tcl_words.specs.First.{most_levels}
 use Rattle.tcl_words.specs.Parts.{Shape, parts_of}
-use Rattle.tcl_pages.specs.Operators.{operator, function_answer}
+use Rattle.tcl_meaning.specs.Operators.{operator, function_answer}
 use Rattle.tcl_pages.specs.Texts.{Text}
 use Rattle.tcl_meaning.specs.State.{State}
 use Rattle.tcl_expr.specs.ExprFault.{ExprFault}

@@ -7,7 +7,7 @@ ghost use Rattle.tcl_expr.specs.Machine.{args_of, rest_of};
 ghost use Rattle.tcl_expr.specs.View.{leaf_of, step_of, view};
 ghost use Rattle.tcl_code.specs.Build.{with_count};
 ghost use Rattle.tcl_code.specs.Instructions.{Instruction, Apply, Push};
-ghost use Rattle.tcl_pages.specs.Operators.{truth_text};
+ghost use Rattle.tcl_pages.specs.Results.{truth_text};
 ghost use Rattle.tcl_compile.specs.Fragments.{Grown};
 ghost use Rattle.tcl_compile.specs.Trees.{ArgsAreRead, ArgsLeft, LeafIsRead, RestCode, RestIsRead, StepCode, TreeCode, TreeIsRead, decided_by};
 

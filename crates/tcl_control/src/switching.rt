@@ -17,8 +17,8 @@ use std::alloc::{AllocError, Global};
 use std::rc::RcStr;
 use tcl_arguments::text_at;
 use tcl_chars::{Fault, about, begins, is_text, message};
+use tcl_glob::glob_match;
 use tcl_steps::{Completion, Loop, Owes, Scope, Step};
-use tcl_strings::glob_match;
 use tcl_values::Value;
 
 // Are patterns read as `string match` reads them? Or what is said of a word that is no option.

@@ -6,7 +6,7 @@ ghost use Rattle.tcl_chars.specs.Answers.{Answers};
 ghost use Rattle.tcl_chars.specs.Texts.{text_of};
 ghost use Rattle.tcl_pages.specs.Answers.{Answer};
 ghost use Rattle.tcl_pages.specs.DictPages as spec;
-ghost use Rattle.tcl_pages.specs.Operators.{truth_text};
+ghost use Rattle.tcl_pages.specs.Results.{truth_text};
 ghost use Rattle.tcl_pages.specs.Texts.{Text};
 
 use crate::words::dictionary_at;

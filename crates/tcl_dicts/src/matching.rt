@@ -15,7 +15,7 @@ use std::alloc::{AllocError, Global};
 use std::rc::RcStr;
 use tcl_arguments::{text_at, usage};
 use tcl_chars::Fault;
-use tcl_strings::glob_match;
+use tcl_glob::glob_match;
 use tcl_values::{Dictionary, Element, Value};
 
 /// Does the text match the pattern, if there is one?

@@ -12,8 +12,8 @@ use crate::message::usage;
 use crate::words::{empty, row_at, text_at};
 use std::alloc::{AllocError, Global};
 use tcl_chars::{Fault, about, is_text};
+use tcl_glob::glob_match;
 use tcl_pages::SearchOptions;
-use tcl_strings::glob_match;
 use tcl_values::{Element, Value};
 
 /// Options, and one more behind them: of two that clash the later counts.

@@ -5,7 +5,7 @@ use Rattle.tcl_chars.specs.Whole.{whole_of}
 use Rattle.tcl_chars.specs.declared.numbers.Dialect.{Dialect}
 use Rattle.tcl_chars.specs.Messages.{about, whole_or}
 use Rattle.tcl_chars.specs.Texts.{literal}
-use Rattle.tcl_pages.specs.Operators.{truth_text}
+use Rattle.tcl_pages.specs.Results.{truth_text}
 use Rattle.tcl_pages.specs.Texts.{Text, same_text, count_text}
 use Rattle.tcl_pages.specs.Answers.{Answer, ◌>>=◌ as answer_then}
 use Rattle.tcl_meaning.specs.Completions.{normal, nothing}

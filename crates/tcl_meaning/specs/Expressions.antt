@@ -12,7 +12,8 @@ use Rattle.tcl_meaning.specs.Effects.{Prog}
 use Rattle.tcl_meaning.specs.Tasks.{Task}
 use Rattle.tcl_meaning.specs.Value.{Value, ◌>>=◌, give, fail, judged}
 use Rattle.tcl_chars.specs.Messages.{truth_value}
-use Rattle.tcl_pages.specs.Operators.{Operator, lazy, eager, operator, truth_text, truth_answer, unary_answer, power_answer, function_answer, final_answer}
+use Rattle.tcl_meaning.specs.Operators.{Operator, lazy, eager, operator, truth_answer, unary_answer, power_answer, function_answer, final_answer}
+use Rattle.tcl_pages.specs.Results.{truth_text}
 use Rattle.tcl_meaning.specs.Substitution.{pieces_text}
 
 -- a program with a text for its value, or another one

@@ -5,7 +5,7 @@ use Rattle.tcl_chars.specs.Texts.{literal}
 use Rattle.tcl_list.specs.Written.{written}
 use Rattle.tcl_names.specs.Named.{Named}
 use Rattle.tcl_pages.specs.Answers.{Answer, ◌>>=◌}
-use Rattle.tcl_pages.specs.Operators.{truth_text}
+use Rattle.tcl_pages.specs.Results.{truth_text}
 use Rattle.tcl_pages.specs.Texts.{Text, count_text}
 use Rattle.tcl_pages.specs.Usage.{usage}
 use Rattle.tcl_meaning.specs.declared.page.SeenPage.{SeenPage}

@@ -4,7 +4,7 @@ use Rattle.std.specs.Prelude.{drop, slice_index_or}
 use Rattle.tcl_chars.specs.declared.numbers.Dialect.{Dialect}
 use Rattle.tcl_chars.specs.Messages.{number}
 use Rattle.tcl_pages.specs.Answers.{Answer}
-use Rattle.tcl_pages.specs.Operators.{numbers}
+use Rattle.tcl_meaning.specs.Operators.{numbers}
 use Rattle.tcl_pages.specs.Texts.{Text}
 
 -- numbers before those that are read

@@ -4,7 +4,7 @@ use Rattle.tcl_chars.specs.Answers.{Answers}
 use Rattle.tcl_chars.specs.declared.fault.Fault.{Fault}
 use Rattle.tcl_expr.specs.declared.token.BinaryOp.{BinaryOp}
 use Rattle.tcl_expr.specs.declared.token.BinaryOp.TheVariants as binary
-use Rattle.tcl_pages.specs.Operators.{Operator, lazy, eager}
+use Rattle.tcl_meaning.specs.Operators.{Operator, lazy, eager}
 use Rattle.tcl_pages.specs.Texts.{Text}
 
 -- the operator takes both texts

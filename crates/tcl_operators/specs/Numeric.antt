@@ -4,7 +4,8 @@ use Rattle.tcl_chars.specs.Arith.{ranged}
 use Rattle.tcl_expr.specs.declared.token.Function.{Function}
 use Rattle.tcl_expr.specs.declared.token.Function.TheVariants as function
 use Rattle.tcl_pages.specs.Answers.{Answer}
-use Rattle.tcl_pages.specs.Operators.{absolute, larger, smaller, in_decimal, of_first, of_all}
+use Rattle.tcl_meaning.specs.Operators.{absolute, larger, smaller, of_first, of_all}
+use Rattle.tcl_pages.specs.Results.{in_decimal}
 use Rattle.tcl_pages.specs.Texts.{Text, number_text}
 
 -- all but the truth value

@@ -5,7 +5,7 @@ ghost use Rattle.std.specs.Cmp.Lexicographic.{slice_cmp};
 ghost use Rattle.tcl_chars.specs.Answers.{Answers};
 ghost use Rattle.tcl_chars.specs.Texts.{same_text};
 ghost use Rattle.tcl_chars.specs.Whole.{whole_of};
-ghost use Rattle.tcl_pages.specs.Operators.{operator, compared, is_in};
+ghost use Rattle.tcl_meaning.specs.Operators.{operator, compared, is_in};
 ghost use Rattle.tcl_operators.specs.Eager.{IsTest, IsAnswered};
 ghost use Rattle.tcl_operators.specs.Members as spec;
 ghost use Rattle.tcl_values.specs.Kept.{texts};

@@ -1,7 +1,7 @@
 //! Functions of expressions: mathfunc(n).
 ghost use Rattle.std.specs.Prelude.{◌≡◌, [], Ok, IfOk};
 ghost use Rattle.tcl_chars.specs.Answers.{Answers};
-ghost use Rattle.tcl_pages.specs.Operators.{numbers, larger, smaller, best, absolute, function_answer};
+ghost use Rattle.tcl_meaning.specs.Operators.{numbers, larger, smaller, best, absolute, function_answer};
 ghost use Rattle.tcl_chars.specs.Arith.{ranged};
 ghost use Rattle.tcl_chars.specs.Messages.{number};
 ghost use Rattle.tcl_operators.specs.Numeric.{IsNumeric, numeric_answer};

@@ -6,7 +6,8 @@ ghost use Rattle.tcl_chars.specs.Arith.{ranged};
 ghost use Rattle.tcl_chars.specs.Messages.{too_large, number, truth_or, truth_value};
 ghost use Rattle.tcl_chars.specs.Texts.{text_of};
 ghost use Rattle.tcl_chars.specs.Truth.{truth_of};
-ghost use Rattle.tcl_pages.specs.Operators.{non_numeric, operand_number, in_decimal, truth_text};
+ghost use Rattle.tcl_meaning.specs.Operators.{non_numeric, operand_number};
+ghost use Rattle.tcl_pages.specs.Results.{in_decimal, truth_text};
 
 use std::alloc::{AllocError, Global};
 use std::rc::RcStr;

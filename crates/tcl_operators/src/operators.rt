@@ -3,7 +3,7 @@ ghost use Rattle.std.specs.Prelude.{◌≡◌};
 ghost use Rattle.tcl_chars.specs.Answers.{Answers};
 ghost use Rattle.tcl_expr.specs.Texts.{unary_text};
 ghost use Rattle.tcl_operators.specs.Eager.{IsEager, IsAnswered};
-ghost use Rattle.tcl_pages.specs.Operators.{operator, unary_answer, power_answer, truth_answer, final_answer, arithmetic, arithmetic_unary};
+ghost use Rattle.tcl_meaning.specs.Operators.{operator, unary_answer, power_answer, truth_answer, final_answer, arithmetic, arithmetic_unary};
 ghost use Rattle.std.specs.Str.{chars};
 
 use crate::comparisons::test;

@@ -10,7 +10,7 @@ use Rattle.tcl_pages.specs.Arguments.{one_argument, one_or_two}
 use Rattle.tcl_pages.specs.Dictionaries.{Pairs, put_key, put_keys, in_pairs, pairs_of, keys_of, values_of}
 use Rattle.tcl_pages.specs.Glob.{glob}
 use Rattle.tcl_pages.specs.Lists.{lappend}
-use Rattle.tcl_pages.specs.Operators.{truth_text}
+use Rattle.tcl_pages.specs.Results.{truth_text}
 use Rattle.tcl_pages.specs.Texts.{Text, same_text, count_text}
 use Rattle.tcl_pages.specs.Usage.{usage}
 use Rattle.tcl_pages.specs.declared.pages.DictPage.{DictPage}

@@ -6,8 +6,8 @@ pub mod Formats
 pub mod Glob
 pub mod ListPages
 pub mod Lists
-pub mod Operators
 pub mod Pure
+pub mod Results
 pub mod Searching
 pub mod Sorting
 pub mod StringClasses

@@ -6,7 +6,7 @@ use Rattle.tcl_words.specs.Complete.{is_complete}
 use Rattle.tcl_pages.specs.Answers.{Answer}
 use Rattle.tcl_pages.specs.DictPages.{dict_page}
 use Rattle.tcl_pages.specs.ListPages.{list_page}
-use Rattle.tcl_pages.specs.Operators.{truth_text}
+use Rattle.tcl_pages.specs.Results.{truth_text}
 use Rattle.tcl_pages.specs.StringPages.{string_page}
 use Rattle.tcl_pages.specs.Texts.{Text}
 use Rattle.tcl_pages.specs.Usage.{usage}

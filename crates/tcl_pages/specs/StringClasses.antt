@@ -13,7 +13,7 @@ use Rattle.tcl_chars.specs.declared.truths.Truth.TheVariants as truth
 use Rattle.tcl_list.specs.Elements.{elements_of}
 use Rattle.tcl_pages.specs.Answers.{Answer, ◌>>=◌}
 use Rattle.tcl_pages.specs.Arguments.{two_or_three}
-use Rattle.tcl_pages.specs.Operators.{truth_text}
+use Rattle.tcl_pages.specs.Results.{truth_text}
 use Rattle.tcl_pages.specs.Texts.{Text, same_text}
 use Rattle.tcl_pages.specs.declared.classes.CharacterClass.{CharacterClass}
 use Rattle.tcl_pages.specs.declared.classes.CharacterClass.TheVariants as character

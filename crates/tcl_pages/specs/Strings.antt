@@ -12,7 +12,7 @@ use Rattle.tcl_pages.specs.Answers.{Answer, ◌>>=◌}
 use Rattle.tcl_pages.specs.Arguments.{one_argument, two_arguments, three_arguments, one_or_two, two_or_three, three_or_four}
 use Rattle.tcl_pages.specs.Glob.{glob}
 use Rattle.tcl_pages.specs.Lists.{index, clamped}
-use Rattle.tcl_pages.specs.Operators.{truth_text}
+use Rattle.tcl_pages.specs.Results.{truth_text}
 use Rattle.tcl_pages.specs.Texts.{Text, same_text, count_text}
 
 -- ---- string compare, equal, length, match, reverse

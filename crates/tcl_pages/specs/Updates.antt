@@ -9,7 +9,7 @@ use Rattle.tcl_pages.specs.Answers.{Answer, ◌>>=◌}
 use Rattle.tcl_pages.specs.DictPages.{dict_set, dict_unset, dict_lappend, under_key}
 use Rattle.tcl_pages.specs.Lists.{lappend, lset}
 use Rattle.tcl_chars.specs.Messages.{number}
-use Rattle.tcl_pages.specs.Operators.{in_decimal}
+use Rattle.tcl_pages.specs.Results.{in_decimal}
 use Rattle.tcl_pages.specs.Texts.{Text}
 use Rattle.tcl_pages.specs.Usage.{usage}
 use Rattle.tcl_pages.specs.declared.pages.UpdatePage.{UpdatePage}

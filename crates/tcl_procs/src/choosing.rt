@@ -13,7 +13,7 @@ use std::alloc::{AllocError, Global};
 use std::rc::RcStr;
 use tcl_arguments::{text_at, usage};
 use tcl_chars::Fault;
-use tcl_strings::glob_match;
+use tcl_glob::glob_match;
 use tcl_table::{Command, Meaning, Table};
 use tcl_values::Value;
 

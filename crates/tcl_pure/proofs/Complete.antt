@@ -4,7 +4,7 @@ use Rattle.tcl_chars.specs.Texts.{literal}
 use Rattle.tcl_words.specs.Complete.{is_complete}
 use Rattle.tcl_pages.specs.Answers.{◌>>=◌}
 use Rattle.tcl_pages.specs.Arguments.{one_argument}
-use Rattle.tcl_pages.specs.Operators.{truth_text}
+use Rattle.tcl_pages.specs.Results.{truth_text}
 use Rattle.tcl_pages.specs.Pure.{info_complete}
 use Rattle.tcl_pages.specs.Texts.{Text}
 

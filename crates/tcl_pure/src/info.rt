@@ -2,7 +2,7 @@
 
 ghost use Rattle.std.specs.Prelude.{◌≡◌, IfOk};
 ghost use Rattle.tcl_chars.specs.Answers.{Answers};
-ghost use Rattle.tcl_pages.specs.Operators.{truth_text};
+ghost use Rattle.tcl_pages.specs.Results.{truth_text};
 ghost use Rattle.tcl_pages.specs.Pure as spec;
 
 use std::alloc::{AllocError, Global};

@@ -7,13 +7,9 @@ pub mod FieldStages
 pub mod FieldSteps
 pub mod Figures
 pub mod Finder
-pub mod FirstFit
-pub mod FirstPlace
 pub mod FormatReading
 pub mod Grouped
 pub mod Pairs
 pub mod Parts
-pub mod Sets
 pub mod Showing
-pub mod Sought
 pub mod Times

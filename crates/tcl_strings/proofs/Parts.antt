@@ -5,11 +5,8 @@ use Rattle.tcl_chars.specs.Place.{EndsWith, before}
 use Rattle.tcl_chars.proofs.Ends.{ends_self, ends_more, ends_le}
 use Rattle.tcl_pages.specs.Strings.{onto_first, parts_between}
 use Rattle.tcl_pages.specs.Texts.{Text}
-use Rattle.tcl_strings.specs.Taken.{to_separator}
-
-pub ends_there : (splits : ℕ → Bool) (t : Text) → EndsWith t (to_separator splits t)
-ends_there splits [] = ends_self []
-ends_there splits (c ∷ cs) = cond_both (splits c) _ _ (EndsWith (c ∷ cs)) (λ _. ends_self (c ∷ cs)) (λ _. ends_more c cs (to_separator splits cs) (ends_there splits cs))
+use Rattle.tcl_glob.specs.Seek.{to_separator}
+use Rattle.tcl_glob.proofs.SeekLemmas.{ends_there}
 
 -- the parts behind a separator
 abbrev pub parts_behind : (ℕ → Bool) → Text → List Text

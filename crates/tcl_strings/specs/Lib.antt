@@ -2,7 +2,6 @@ pub mod FieldArguments
 pub mod FieldGrammar
 pub mod FieldLaws
 pub mod FormatText
-pub mod Glob
 pub mod Grouped
 pub mod Shown
 pub mod Singles

@@ -6,7 +6,7 @@ ghost use Rattle.std.specs.String.{string_bytes};
 ghost use Rattle.tcl_chars.specs.Answers.{Answers};
 ghost use Rattle.tcl_chars.specs.Texts.{text_of};
 ghost use Rattle.tcl_pages.specs.Strings as spec;
-ghost use Rattle.tcl_strings.specs.Taken.{to_separator};
+ghost use Rattle.tcl_glob.specs.Seek.{to_separator};
 ghost use Rattle.tcl_values.specs.Kept.{texts};
 
 use crate::characters::characters;

@@ -4,17 +4,17 @@ ghost use Rattle.std.specs.Prelude.{◌≡◌, true, false, length, drop, option
 ghost use Rattle.std.specs.Str.{chars};
 ghost use Rattle.tcl_chars.specs.Answers.{Answers};
 ghost use Rattle.tcl_chars.specs.Texts.{text_of};
-ghost use Rattle.tcl_pages.specs.Operators as truths;
+ghost use Rattle.tcl_pages.specs.Results as truths;
 ghost use Rattle.tcl_pages.specs.Strings as spec;
 
 use crate::ascii::{first_in_bytes, last_in_bytes};
-use crate::glob::glob_match;
 use crate::places::{count, count_value, text_if, value_of};
 use std::alloc::{AllocError, Global};
 use std::cmp::Ordering;
 use std::rc::RcStr;
 use tcl_arguments::{index_of, two_or_three_texts, two_texts};
 use tcl_chars::{Dialect, Fault, compare, is_text, split_first};
+use tcl_glob::glob_match;
 use tcl_values::Value;
 
 /// What an order is called.

@@ -10,7 +10,7 @@ use Rattle.tcl_expr.specs.declared.token.BinaryOp.TheVariants as binary
 use Rattle.tcl_chars.specs.Messages.{truth_value}
 use Rattle.tcl_list.specs.Elements.{elements_of}
 use Rattle.tcl_pages.specs.Answers.{Answer}
-use Rattle.tcl_pages.specs.Operators.{Operator, lazy, eager, operator, truth_answer, unary_answer, power_answer, function_answer, final_answer}
+use Rattle.tcl_meaning.specs.Operators.{Operator, lazy, eager, operator, truth_answer, unary_answer, power_answer, function_answer, final_answer}
 use Rattle.tcl_pages.specs.Texts.{Text}
 use Rattle.tcl_meaning.specs.declared.refusal.Refusal.{Refusal}
 use Rattle.tcl_meaning.specs.Completions.{Completion, nothing, normal, too_deep}

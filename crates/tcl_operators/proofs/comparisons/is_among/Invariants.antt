@@ -1,7 +1,7 @@
 use Rattle.std.proofs.Common.{◌≡◌}
 use Rattle.std.specs.Prelude.{drop}
 use Rattle.std.specs.Str.{chars}
-use Rattle.tcl_pages.specs.Operators.{is_in}
+use Rattle.tcl_meaning.specs.Operators.{is_in}
 use Rattle.tcl_values.specs.Kept.{texts}
 use Rattle.tcl_operators.proofs.comparisons.is_among.Given as goal
 

@@ -1,6 +1,6 @@
 use Rattle.std.proofs.Common.{◌≡◌}
 use Rattle.std.specs.Prelude.{drop}
-use Rattle.tcl_pages.specs.Operators.{best, smaller}
+use Rattle.tcl_meaning.specs.Operators.{best, smaller}
 use Rattle.tcl_operators.proofs.functions.least.Given as goal
 
 abbrev pub invariant-loop-other : goal.invariant-loop-other

@@ -1,6 +1,6 @@
 use Rattle.std.proofs.Common.{◌≡◌}
 use Rattle.std.specs.Prelude.{drop}
-use Rattle.tcl_pages.specs.Operators.{numbers}
+use Rattle.tcl_meaning.specs.Operators.{numbers}
 use Rattle.tcl_operators.proofs.NumbersLemmas.{led}
 use Rattle.tcl_operators.proofs.functions.numbers.Given as goal
 

@@ -2,7 +2,8 @@ use Rattle.std.proofs.Common.{sym, ◌∙◌, subst, rules}
 use Rattle.std.specs.Str.{chars}
 use Rattle.tcl_chars.specs.Place.{EndsWith}
 use Rattle.tcl_pages.specs.Strings.{is_among, parts_between}
-use Rattle.tcl_strings.proofs.Parts.{ends_there, behind_shorter, next_part, last_part}
+use Rattle.tcl_glob.proofs.SeekLemmas.{ends_there}
+use Rattle.tcl_strings.proofs.Parts.{behind_shorter, next_part, last_part}
 use Rattle.tcl_strings.proofs.lists.parts_between.Goals as goal
 
 pub before-requires : goal.before-requires

@@ -3,7 +3,7 @@ use denote.Text.{Utf8}
 use denote.Shadow.{shadow}
 use Rattle.std.specs.Str.{chars}
 use Rattle.tcl_pages.specs.Strings.{is_among}
-use Rattle.tcl_strings.specs.Taken.{to_separator}
+use Rattle.tcl_glob.specs.Seek.{to_separator}
 use Rattle.tcl_strings.proofs.lists.to_separator.Given as goal
 
 abbrev pub invariant-loop-c : goal.invariant-loop-c

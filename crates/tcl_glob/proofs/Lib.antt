@@ -1,0 +1,5 @@
+pub mod FirstFit
+pub mod FirstPlace
+pub mod SeekLemmas
+pub mod Sets
+pub mod Sought
