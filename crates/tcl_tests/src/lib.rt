@@ -15,8 +15,6 @@ mod ensembles;
 #[cfg(test)]
 mod expr;
 #[cfg(test)]
-mod interp;
-#[cfg(test)]
 mod list;
 #[cfg(test)]
 mod lists;
@@ -24,10 +22,6 @@ mod lists;
 mod names;
 #[cfg(test)]
 mod pure;
-#[cfg(test)]
-mod session;
-#[cfg(test)]
-mod shell;
 #[cfg(test)]
 mod strings;
 #[cfg(test)]
