@@ -20,19 +20,10 @@ item_before t ks i k x e g same =
     ap (λ r. r >>= λ es. Ok (slice_get es i)) e
     ∙ ap Ok (slice_get-map (λ (q : Kept). q.text) ks i ∙ ap (option_map (λ (q : Kept). q.text)) g ∙ ap Some (sym same))
 
-none_some : (o : Option Kept) (k : Kept) → o ≡ None → o ≡ Some k → ⊥
-none_some o k n s = cc
-
-in_range : (ks : List Kept) (i : ℕ) (k : Kept) → slice_get ks i ≡ Some k → i < length ks
-in_range ks i k g = elim (cases_lt i (length ks)) [
-  | inl l ↦ l
-  | inr l ↦ absurd (none_some _ k (slice_get_past ks i l) g)
-]
-
-pub item_replaced : (t : List ℕ) (ks more : List Kept) (i : ℕ) (k : Kept) (x new : List ℕ) → elements_of t ≡ Ok (texts ks) → {old : Kept} → slice_get ks i ≡ Some old → more ≡ slice_set ks i k → k.text ≡ x → new ≡ written (texts more) → with_item t i x ≡ Ok new
-item_replaced t ks more i k x new e {old} g m same is =
+pub item_replaced : (t : List ℕ) (ks more : List Kept) (i : ℕ) (k : Kept) (x new : List ℕ) → elements_of t ≡ Ok (texts ks) → i < length ks → more ≡ slice_set ks i k → k.text ≡ x → new ≡ written (texts more) → with_item t i x ≡ Ok new
+item_replaced t ks more i k x new e l m same is =
     let size : length (texts ks) ≡ length ks = length-map ks (λ (q : Kept). q.text) in
-    let inside : i < length (texts ks) = rw size (in_range ks i old g) in
+    let inside : i < length (texts ks) = rw size l in
     let set : texts more ≡ slice_set (texts ks) i x = ap texts m ∙ map-set (λ (q : Kept). q.text) ks i k ∙ ap (slice_set (texts ks) i) same in
     ap (λ r. r >>= λ es. Ok (if nat_lt i (length es) then written (slice_set es i x) else t)) e
     ∙ ap Ok (cond-true _ _ _ (lt-ltb i (length (texts ks)) inside) ∙ ap written (sym set) ∙ sym is)

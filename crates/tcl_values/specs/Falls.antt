@@ -18,7 +18,7 @@ deep_le (Text s) h = omega arith
 deep_le (Row r) h = omega (arith, most_le (elements r.value), h.1.exact)
 deep_le (Dict r) h = omega (arith, most_le r.value.values.items, h.1.deeper)
 deep_le (Grown s) h = omega arith
-deep_le (Longer r s) h = omega (arith, most_le (elements r.value), h.kept.exact)
+deep_le (Longer l) h = omega (arith, most_le (elements l.value.row.value), h.kept.exact)
 
 pub child_le : (a : Inside) → IsElement a → deep-Element a ≤ entry_depth a.entry
 child_le a h = omega (arith, deep_le a.entry h)

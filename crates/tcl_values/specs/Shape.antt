@@ -19,6 +19,7 @@ use Rattle.tcl_pages.specs.Dictionaries.{pairs_of}
 use Rattle.tcl_pages.specs.Dictionaries as dictionaries
 use Rattle.tcl_pages.specs.DictPages.{dictionary}
 use Rattle.tcl_values.specs.declared.element.Items.{Items}
+use Rattle.tcl_values.specs.declared.element.Lengthening.{Lengthening}
 use Rattle.tcl_values.specs.declared.element.Pairs.{Pairs}
 use Rattle.tcl_values.specs.declared.element.Entry.{Entry}
 use Rattle.tcl_values.specs.declared.element.Entry.TheVariants as entry
@@ -97,26 +98,31 @@ pub record IsWritten (r : Items) (t : String Global) : Type 0 where
   pub bare : r.text ≡ None
   pub written : chars (string_bytes t) ≡ written (texts (elements r))
 
+-- the same elements and the same text
+pub record AreSameLengthening (l m : Lengthening) : Type 0 where
+  pub row : l.row.value ≡ m.row.value
+  pub text : string_bytes l.text ≡ string_bytes m.text
+
 abbrev pub entry_text : Entry → List ℕ
 entry_text (entry.Text s) = text_of s
 entry_text (entry.Row r) = items_text r.value
 entry_text (entry.Dict r) = pairs_text r.value
 entry_text (entry.Grown s) = chars (string_bytes s.value.text)
-entry_text (entry.Longer r s) = chars (string_bytes s.value)
+entry_text (entry.Longer l) = chars (string_bytes l.value.text)
 
 abbrev pub entry_depth : Entry → ℕ
 entry_depth (entry.Text s) = 0
 entry_depth (entry.Row r) = r.value.depth
 entry_depth (entry.Dict r) = r.value.depth
 entry_depth (entry.Grown s) = 0
-entry_depth (entry.Longer r s) = r.value.depth
+entry_depth (entry.Longer l) = l.value.row.value.depth
 
 abbrev pub IsEntry : Entry → Type 0
 IsEntry (entry.Text s) = ⊤
 IsEntry (entry.Row r) = IsSome r.value.text × AreKept r.value
 IsEntry (entry.Dict r) = IsSome r.value.text × ArePaired r.value
 IsEntry (entry.Grown s) = IsGrown s.value
-IsEntry (entry.Longer r s) = IsWritten r.value s.value
+IsEntry (entry.Longer l) = IsWritten l.value.row.value l.value.text
 
 abbrev pub kept : element.Inside → Kept
 kept a = record { text = entry_text a.entry; depth = entry_depth a.entry }

@@ -14,7 +14,7 @@ ghost use Rattle.tcl_values.specs.Lists.{pushed, Leaves};
 ghost use Rattle.tcl_values.specs.Shape.{elements, pairs_in, pairs_text, ArePaired, IsWritten};
 
 use crate::dict::read_dict;
-use crate::element::{Element, Entry, Items, Pairs};
+use crate::element::{Element, Entry, Items, Lengthening, Pairs};
 use crate::items::{copy_elements, deepest, write_text};
 use crate::list::plain_elements;
 use crate::pairs::add_pair;
@@ -56,24 +56,34 @@ fn lengthen(row: &mut Items, text: &mut String, element: Element) -> Result<(), 
     Ok(())
 }
 
-/// Adds an element at the end of a list and of its text, in place where nobody else holds them.
-fn lengthen_shared(
-    row: &mut Rc<Items>,
-    text: &mut Rc<String>,
-    element: Element,
-) -> Result<(), AllocError>
+/// Adds an element at the end of a list that grows, in place where nobody else holds its elements.
+fn lengthen_own(own: &mut Lengthening, element: Element) -> Result<(), AllocError>
     requires element { element.depth < 63 }
-    requires limit { row.old.value.depth < 64 }
-    requires written { IsWritten row.old.value text.old.value }
-    ensures added { OnOk result (elements row.new.value ≡ elements row.old.value ++ element ∷ []) }
-    ensures same { OnErr result (string_bytes text.new.value ≡ string_bytes text.old.value) }
-    ensures depth { OnErr result (row.new.value.depth ≡ row.old.value.depth) }
-    ensures limit { row.new.value.depth < 64 }
-    ensures written { IsWritten row.new.value text.new.value }
+    requires limit { own.old.row.value.depth < 64 }
+    requires written { IsWritten own.old.row.value own.old.text }
+    ensures added { OnOk result (elements own.new.row.value ≡ elements own.old.row.value ++ element ∷ []) }
+    ensures same { OnErr result (string_bytes own.new.text ≡ string_bytes own.old.text) }
+    ensures depth { OnErr result (own.new.row.value.depth ≡ own.old.row.value.depth) }
+    ensures limit { own.new.row.value.depth < 64 }
+    ensures written { IsWritten own.new.row.value own.new.text }
 {
-    let own_text = Rc::make_mut(text)?;
-    let own = Rc::make_mut(row)?;
-    lengthen(own, own_text, element)
+    let row = Rc::make_mut(&mut own.row)?;
+    lengthen(row, &mut own.text, element)
+}
+
+/// Adds an element at the end of a list that grows, in place where nobody else holds the list.
+fn lengthen_shared(longer: &mut Rc<Lengthening>, element: Element) -> Result<(), AllocError>
+    requires element { element.depth < 63 }
+    requires limit { longer.old.value.row.value.depth < 64 }
+    requires written { IsWritten longer.old.value.row.value longer.old.value.text }
+    ensures added { OnOk result (elements longer.new.value.row.value ≡ elements longer.old.value.row.value ++ element ∷ []) }
+    ensures same { OnErr result (string_bytes longer.new.value.text ≡ string_bytes longer.old.value.text) }
+    ensures depth { OnErr result (longer.new.value.row.value.depth ≡ longer.old.value.row.value.depth) }
+    ensures limit { longer.new.value.row.value.depth < 64 }
+    ensures written { IsWritten longer.new.value.row.value longer.new.value.text }
+{
+    let own = Rc::make_mut(longer)?;
+    lengthen_own(own, element)
 }
 
 /// Elements as a list that grows, with an element more, and how it is written.
@@ -91,8 +101,12 @@ fn longer(alloc: Global, items: Vec<Element>, element: Element) -> Result<Elemen
         items,
     };
     lengthen(&mut row, &mut text, element)?;
+    let longer = Lengthening {
+        row: Rc::new(alloc, row)?,
+        text,
+    };
     Ok(Element {
-        entry: Entry::Longer(Rc::new(alloc, row)?, Rc::new(alloc, text)?),
+        entry: Entry::Longer(Rc::new(alloc, longer)?),
     })
 }
 
@@ -116,7 +130,7 @@ impl Element {
     {
         match &self.entry {
             Entry::Row(row) => Ok(copy_elements(alloc, &row.items)?),
-            Entry::Longer(row, _) => Ok(copy_elements(alloc, &row.items)?),
+            Entry::Longer(longer) => Ok(copy_elements(alloc, &longer.row.items)?),
             _ => {
                 let words = split(alloc, self.text())?;
                 Ok(plain_elements(alloc, words)?)
@@ -132,8 +146,8 @@ impl Element {
         ensures same { OnErr result (self.new ≡ self.old) }
         ensures limit { self.new.depth < 64 }
     {
-        if let Entry::Longer(row, text) = &mut self.entry {
-            lengthen_shared(row, text, item)?;
+        if let Entry::Longer(longer) = &mut self.entry {
+            lengthen_shared(longer, item)?;
             return Ok(());
         }
         let items = self.read(alloc)?;

@@ -29,8 +29,30 @@ pub(crate) enum Entry {
     Dict(Rc<Pairs>),
     /// A text that grows at its end.
     Grown(Rc<Growing>),
-    /// A list that grows at its end, beside its text, which is how it is written and grows with it.
-    Longer(Rc<Items>, Rc<String>),
+    /// A list that grows at its end.
+    Longer(Rc<Lengthening>),
+}
+
+/// A list that grows at its end, beside its text, which is how it is written and grows with it.
+#[cycle(element)]
+#[derive(Drop)]
+pub(crate) struct Lengthening {
+    pub(crate) row: Rc<Items>,
+    pub(crate) text: String,
+}
+
+impl Clone for Lengthening {
+    ghost use Rattle.tcl_values.specs.Shape.{AreSameLengthening};
+
+    ghost is_clone = { AreSameLengthening };
+
+    /// The elements are shared, the text is copied.
+    fn clone(&self) -> Result<Lengthening, AllocError> {
+        Ok(Lengthening {
+            row: self.row.clone()?,
+            text: self.text.clone()?,
+        })
+    }
 }
 
 /// The elements of a list, beside its text where that has been written or read.
@@ -89,7 +111,7 @@ impl Element {
                 None => unreachable!(),
             },
             Entry::Grown(grown) => grown.text.as_str(),
-            Entry::Longer(_, text) => text.as_str(),
+            Entry::Longer(longer) => longer.text.as_str(),
         }
     }
 
@@ -102,7 +124,7 @@ impl Element {
             Entry::Row(row) => Held::Row(row.clone()?),
             Entry::Dict(pairs) => Held::Dict(pairs.clone()?),
             Entry::Grown(grown) => Held::Grown(grown.clone()?),
-            Entry::Longer(row, _) => Held::Row(row.clone()?),
+            Entry::Longer(longer) => Held::Row(longer.row.clone()?),
         };
         Ok(Value { held })
     }
@@ -116,7 +138,7 @@ impl Element {
             Entry::Row(row) => Entry::Row(row.clone()?),
             Entry::Dict(pairs) => Entry::Dict(pairs.clone()?),
             Entry::Grown(grown) => Entry::Grown(grown.clone()?),
-            Entry::Longer(row, text) => Entry::Longer(row.clone()?, text.clone()?),
+            Entry::Longer(longer) => Entry::Longer(longer.clone()?),
         };
         Ok(Element { entry })
     }
@@ -130,22 +152,8 @@ impl Element {
             Entry::Row(row) => row.depth,
             Entry::Dict(pairs) => pairs.depth,
             Entry::Grown(_) => 0,
-            Entry::Longer(row, _) => row.depth,
+            Entry::Longer(longer) => longer.row.depth,
         }
-    }
-
-    /// The element as a value.
-    pub(crate) fn into_value(self) -> Value
-        ensures { result ≡ self.text }
-    {
-        let held = match self.entry {
-            Entry::Text(text) => Held::Text(text),
-            Entry::Row(row) => Held::Row(row),
-            Entry::Dict(pairs) => Held::Dict(pairs),
-            Entry::Grown(grown) => Held::Grown(grown),
-            Entry::Longer(row, _text) => Held::Row(row),
-        };
-        Value { held }
     }
 
     /// Its text, shared, or copied where it grows.
@@ -163,7 +171,7 @@ impl Element {
                 None => unreachable!(),
             },
             Entry::Grown(grown) => RcStr::from_str(alloc, grown.text.as_str()),
-            Entry::Longer(_, text) => RcStr::from_str(alloc, text.as_str()),
+            Entry::Longer(longer) => RcStr::from_str(alloc, longer.text.as_str()),
         }
     }
 

@@ -183,12 +183,11 @@ fn put(elements: &mut Vec<Element>, index: usize, element: Element) -> Element
     replace(&mut elements[index], element)
 }
 
-/// Puts another element at a place of a list, and answers the one before.
-fn set(own: &mut Items, index: usize, element: Element) -> Element
+/// Puts another element at a place of a list.
+fn set(own: &mut Items, index: usize, element: Element)
     requires place { index < length (elements own.old) }
     requires element { element.depth < 64 }
     requires kept { AreKept own.old }
-    ensures before { slice_get (elements own.old) index ≡ Some result }
     ensures set { elements own.new ≡ slice_set (elements own.old) index element }
     ensures text { items_text own.new ≡ written (texts (elements own.new)) }
     ensures kept { AreKept own.new }
@@ -198,26 +197,25 @@ fn set(own: &mut Items, index: usize, element: Element) -> Element
     let alone = before.depth() + 1;
     own.depth = depth_after(&own.items, own.depth, alone, new);
     own.text = None;
-    before
 }
 
-/// Puts another element at a place of a list, in place where nobody else holds the list, and answers the one before.
+/// Puts another element at a place of a list, in place where nobody else holds the list.
 pub(crate) fn set_element(
     row: &mut Rc<Items>,
     index: usize,
     element: Element,
-) -> Result<Element, AllocError>
+) -> Result<(), AllocError>
     requires place { index < length (elements row.old.value) }
     requires element { element.depth < 64 }
     requires kept { AreKept row.old.value }
-    ensures before { IfOk result (λ e. slice_get (elements row.old.value) index ≡ Some e) }
     ensures set { OnOk result (elements row.new.value ≡ slice_set (elements row.old.value) index element) }
     ensures text { OnOk result (items_text row.new.value ≡ written (texts (elements row.new.value))) }
     ensures same { OnErr result (items_text row.new.value ≡ items_text row.old.value) }
     ensures kept { AreKept row.new.value }
 {
     let own = Rc::make_mut(row)?;
-    Ok(set(own, index, element))
+    set(own, index, element);
+    Ok(())
 }
 
 /// Elements as a list without a text.

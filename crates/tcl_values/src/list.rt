@@ -277,8 +277,9 @@ impl Value {
                 if row.items.len() <= index {
                     return Ok(None);
                 }
-                let before = set_element(row, index, element)?;
-                Ok(Some(before.into_value()))
+                let before = row.items[index].copy()?;
+                set_element(row, index, element)?;
+                Ok(Some(before))
             }
             _ => unreachable!(),
         }
@@ -301,7 +302,7 @@ impl Value {
                     return Ok(None);
                 }
                 let element = take_element(row, index)?;
-                Ok(Some(element.into_value()))
+                Ok(Some(element.copy()?))
             }
             _ => unreachable!(),
         }
