@@ -24,6 +24,7 @@ use Rattle.tcl_values.specs.declared.element.Pairs.{Pairs}
 use Rattle.tcl_values.specs.declared.element.Entry.{Entry}
 use Rattle.tcl_values.specs.declared.element.Entry.TheVariants as entry
 use Rattle.tcl_values.specs.declared.element.Element.TheInside as element
+use Rattle.tcl_values.specs.declared.literal.Literal.{Literal}
 use Rattle.tcl_values.specs.declared.value.Growing.{Growing}
 use Rattle.tcl_values.specs.declared.value.Held.{Held}
 use Rattle.tcl_values.specs.declared.value.Held.TheVariants as held
@@ -52,6 +53,11 @@ pub record AreKept (r : Items) : Type 0 where
   pub exact : r.depth ≡ depth_over (elements r)
   pub reading : elements_of (items_text r) ≡ Ok (texts (elements r))
 
+-- elements that a text was read as
+pub record AreRead (r : Items) (t : List ℕ) : Type 0 where
+  pub kept : AreKept r
+  pub same : items_text r ≡ t
+
 -- the same text and the same elements
 pub record AreSame (r s : Items) : Type 0 where
   pub text : shared_text r.text ≡ shared_text s.text
@@ -79,6 +85,11 @@ pub record ArePaired (p : Pairs) : Type 0 where
   pub even : length p.keys.keys ≡ length p.values.items
   pub reading : pairs_of (pairs_text p) ≡ Ok (pairs_in p)
 
+-- pairs that a text was read as
+pub record ArePairsRead (p : Pairs) (t : List ℕ) : Type 0 where
+  pub kept : ArePaired p
+  pub same : pairs_text p ≡ t
+
 -- the same text, keys and values
 pub record AreSamePairs (p q : Pairs) : Type 0 where
   pub text : shared_text p.text ≡ shared_text q.text
@@ -91,6 +102,9 @@ pub record AreSamePairs (p q : Pairs) : Type 0 where
 -- what is said to be ASCII is it
 abbrev pub IsGrown : Growing → Type 0
 IsGrown g = OnTrue g.ascii (IsAscii (string_bytes g.text))
+
+abbrev pub IsLiteral : Literal → Type 0
+IsLiteral l = OnTrue l.ascii (IsAscii (rc_str_bytes l.text))
 
 -- a list without a text of its own, and how it is written
 pub record IsWritten (r : Items) (t : String Global) : Type 0 where
@@ -141,6 +155,7 @@ held_text (held.Number n) = signed_decimal n
 held_text (held.Text s) = text_of s
 held_text (held.Ascii s) = text_of s
 held_text (held.Grown s) = chars (string_bytes s.value.text)
+held_text (held.Literal l) = text_of l.value.text
 held_text (held.Row r) = items_text r.value
 held_text (held.Dict r) = pairs_text r.value
 
@@ -149,6 +164,7 @@ IsHeld (held.Number n) = FitsSigned w64 n
 IsHeld (held.Text s) = ⊤
 IsHeld (held.Ascii s) = IsAscii (rc_str_bytes s)
 IsHeld (held.Grown s) = IsGrown s.value
+IsHeld (held.Literal l) = IsLiteral l.value
 IsHeld (held.Row r) = AreKept r.value
 IsHeld (held.Dict r) = ArePaired r.value
 
@@ -157,6 +173,7 @@ is_row (held.Number n) = false
 is_row (held.Text s) = false
 is_row (held.Ascii s) = false
 is_row (held.Grown s) = false
+is_row (held.Literal l) = false
 is_row (held.Row r) = true
 is_row (held.Dict r) = false
 
@@ -165,6 +182,7 @@ is_dict (held.Number n) = false
 is_dict (held.Text s) = false
 is_dict (held.Ascii s) = false
 is_dict (held.Grown s) = false
+is_dict (held.Literal l) = false
 is_dict (held.Row r) = false
 is_dict (held.Dict r) = true
 
@@ -174,6 +192,7 @@ elements_held (held.Number n) = []
 elements_held (held.Text s) = []
 elements_held (held.Ascii s) = []
 elements_held (held.Grown s) = []
+elements_held (held.Literal l) = []
 elements_held (held.Row r) = elements r.value
 elements_held (held.Dict r) = []
 
@@ -183,6 +202,7 @@ pairs_held (held.Number n) = []
 pairs_held (held.Text s) = []
 pairs_held (held.Ascii s) = []
 pairs_held (held.Grown s) = []
+pairs_held (held.Literal l) = []
 pairs_held (held.Row r) = []
 pairs_held (held.Dict r) = pairs_in r.value
 

@@ -31,6 +31,11 @@ pub(crate) fn read_dict(held: &mut Held, alloc: Global) -> Result<(), Fault>
     if held.is_dict() {
         return Ok(());
     }
+    if let Held::Literal(literal) = held {
+        let pairs = literal.pairs(alloc)?;
+        *held = Held::Dict(pairs);
+        return Ok(());
+    }
     read_row(held, alloc)?;
     match held {
         Held::Row(row) => {

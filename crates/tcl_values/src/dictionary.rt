@@ -1,6 +1,6 @@
 //! A dictionary that is shared with the value that it was read from.
 
-ghost use Rattle.std.specs.Prelude.{◌≡◌, [], length, map, option_map, IfOk};
+ghost use Rattle.std.specs.Prelude.{◌≡◌, [], length, map, option_map, IfOk, IfSome};
 ghost use Rattle.std.specs.Str.{chars};
 ghost use Rattle.tcl_chars.specs.Texts.{text_of};
 ghost use Rattle.tcl_pages.specs.Dictionaries.{keys_of, put_key, values_of};
@@ -8,6 +8,7 @@ ghost use Rattle.tcl_pages.specs.DictPages.{dictionary, value_at, without_key};
 ghost use Rattle.tcl_values.specs.Kept.{texts};
 
 use crate::element::{Element, Pairs};
+use crate::literal::is_text;
 use crate::pairs::{count_pairs, find_pair, forget_pairs_text, no_pairs, put_pair, remove_pair};
 use crate::value::{Held, Value};
 use std::alloc::{AllocError, Global};
@@ -33,6 +34,19 @@ impl Model for Dictionary {
 }
 
 impl Dictionary {
+    ghost use Rattle.tcl_values.specs.Shape.{ArePairsRead};
+
+    /// The pairs, if this text stands beside them.
+    pub(crate) fn read_from(&self, text: &str) -> Option<&Rc<Pairs>>
+        ensures { IfSome result (λ p. ArePairsRead p.now.value (chars text.now)) }
+    {
+        if is_text(&self.pairs.text, text) {
+            Some(&self.pairs)
+        } else {
+            None
+        }
+    }
+
     /// The dictionary without pairs.
     pub fn new(alloc: Global) -> Result<Dictionary, AllocError>
         ensures { IfOk result (λ d. d ≡ []) }

@@ -35,7 +35,7 @@ pub(crate) fn plain_elements(alloc: Global, words: Vec<RcStr>) -> Result<Vec<Ele
 }
 
 /// The list that a text is read as, with the text beside it.
-fn read_text(alloc: Global, text: RcStr) -> Result<Rc<Items>, Fault>
+pub(crate) fn read_text(alloc: Global, text: RcStr) -> Result<Rc<Items>, Fault>
     ensures read { Answers (λ r. texts (elements r.value)) result (elements_of (text_of text)) }
     ensures same { IfOk result (λ r. items_text r.value ≡ text_of text) }
     ensures kept { IfOk result (λ r. AreKept r.value) }
@@ -50,6 +50,22 @@ fn read_text(alloc: Global, text: RcStr) -> Result<Rc<Items>, Fault>
     Ok(Rc::new(alloc, row)?)
 }
 
+/// The list that the text of what is kept is read as, with the text beside it. That of a literal is shared.
+fn read_held(held: &Held, alloc: Global) -> Result<Rc<Items>, Fault>
+    requires { IsHeld held.now }
+    ensures read { Answers (λ r. texts (elements r.value)) result (elements_of (held_text held.now)) }
+    ensures same { IfOk result (λ r. items_text r.value ≡ held_text held.now) }
+    ensures kept { IfOk result (λ r. AreKept r.value) }
+{
+    match held {
+        Held::Literal(literal) => literal.items(alloc),
+        _ => {
+            let text = held.text(alloc)?;
+            read_text(alloc, text)
+        }
+    }
+}
+
 /// Reads what is kept as a list, which is kept from now on.
 pub(crate) fn read_row(held: &mut Held, alloc: Global) -> Result<(), Fault>
     requires { IsHeld held.old }
@@ -61,8 +77,7 @@ pub(crate) fn read_row(held: &mut Held, alloc: Global) -> Result<(), Fault>
     if held.is_row() {
         return Ok(());
     }
-    let text = held.text(alloc)?;
-    let row = read_text(alloc, text)?;
+    let row = read_held(held, alloc)?;
     *held = Held::Row(row);
     Ok(())
 }

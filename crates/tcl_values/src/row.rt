@@ -1,11 +1,13 @@
 //! A list that is shared with the value that it was read from.
 
-ghost use Rattle.std.specs.Prelude.{◌≡◌, length, IfOk};
+ghost use Rattle.std.specs.Prelude.{◌≡◌, length, IfOk, IfSome};
+ghost use Rattle.std.specs.Str.{chars};
 ghost use Rattle.tcl_list.specs.Written.{written};
 ghost use Rattle.tcl_values.specs.Kept.{texts};
 
 use crate::element::{Element, Items};
 use crate::items::forget_text;
+use crate::literal::is_text;
 use crate::value::{Held, Value};
 use std::alloc::AllocError;
 use std::marker::Model;
@@ -30,6 +32,19 @@ impl Model for Row {
 }
 
 impl Row {
+    ghost use Rattle.tcl_values.specs.Shape.{AreRead};
+
+    /// The list, if this text stands beside it.
+    pub(crate) fn read_from(&self, text: &str) -> Option<&Rc<Items>>
+        ensures { IfSome result (λ r. AreRead r.now.value (chars text.now)) }
+    {
+        if is_text(&self.items.text, text) {
+            Some(&self.items)
+        } else {
+            None
+        }
+    }
+
     /// The elements.
     pub fn items(&self) -> &[Element]
         ensures { texts result.now ≡ self.now }

@@ -10,6 +10,7 @@ ghost use Rattle.tcl_values.specs.Shape.{held_text, is_dict, is_row, IsGrown, Is
 
 use crate::element::{Items, Pairs};
 use crate::items::{row_text, show};
+use crate::literal::Literal;
 use crate::pairs::{dict_text, show_pairs};
 use itoa::Buffer;
 use std::alloc::{AllocError, Global};
@@ -34,6 +35,8 @@ pub(crate) enum Held {
     Ascii(RcStr),
     /// A text that grows at its end.
     Grown(Rc<Growing>),
+    /// A text of a script, which is read as a list or as a dictionary once for all copies.
+    Literal(Rc<Literal>),
     /// A list.
     Row(Rc<Items>),
     /// A dictionary.
@@ -163,6 +166,7 @@ impl Held {
             Held::Text(text) => text.clone(),
             Held::Ascii(text) => text.clone(),
             Held::Grown(grown) => RcStr::from_str(alloc, grown.text.as_str()),
+            Held::Literal(literal) => literal.text.clone(),
             Held::Row(row) => row_text(row, alloc),
             Held::Dict(pairs) => dict_text(pairs, alloc),
         }
@@ -180,6 +184,15 @@ impl Value {
             Held::Text(text)
         };
         Value { held }
+    }
+
+    /// The value that is a text of a script, whose reading as a list or as a dictionary all copies share.
+    pub fn of_literal(alloc: Global, text: RcStr) -> Result<Value, AllocError>
+        ensures { IfOk result (λ v. v ≡ text_of text) }
+    {
+        Ok(Value {
+            held: Held::Literal(Rc::new(alloc, Literal::new(text))?),
+        })
     }
 
     /// The value that is this text, which can grow in place.
@@ -237,6 +250,7 @@ impl Value {
             Held::Text(text) => Held::Text(text.clone()?),
             Held::Ascii(text) => Held::Ascii(text.clone()?),
             Held::Grown(grown) => Held::Grown(grown.clone()?),
+            Held::Literal(literal) => Held::Literal(literal.clone()?),
             Held::Row(row) => Held::Row(row.clone()?),
             Held::Dict(pairs) => Held::Dict(pairs.clone()?),
         };
@@ -252,6 +266,7 @@ impl Value {
             Held::Text(text) => Some(text.as_str()),
             Held::Ascii(text) => Some(text.as_str()),
             Held::Grown(grown) => Some(grown.text.as_str()),
+            Held::Literal(literal) => Some(literal.text.as_str()),
             Held::Row(row) => match &row.text {
                 Some(text) => Some(text.as_str()),
                 None => None,
@@ -276,6 +291,7 @@ impl Value {
             } else {
                 None
             },
+            Held::Literal(literal) => literal.known_ascii(),
             _ => None,
         }
     }
