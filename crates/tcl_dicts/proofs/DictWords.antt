@@ -24,6 +24,11 @@ drop_end [] (suc i) l = refl
 drop_end (w ∷ ws) zero l = absurd (omega (arith, l))
 drop_end (w ∷ ws) (suc i) l = drop_end ws i (omega (arith, l))
 
+-- words that were copied, before those that are left
+pub words_more : (cs more ws full : List Text) (i : ℕ) (x : Text) → i < length ws → x ≡ word ws i → more ≡ cs ++ x ∷ [] → cs ++ drop i ws ≡ full → more ++ drop (i + 1) ws ≡ full
+words_more cs more ws full i x l e m so_far =
+    ap (λ us. us ++ drop (i + 1) ws) m ∙ append_assoc cs (x ∷ []) (drop (i + 1) ws) ∙ ap (λ us. cs ++ us) (ap (λ u. u ∷ drop (i + 1) ws) e ∙ sym (drop_word ws i l)) ∙ so_far
+
 -- ---- keys, each in the dictionary under the one before
 
 pub value_more : (t : Text) (ws : List Text) (i : ℕ) (k inner : Text) → i < length ws → k ≡ word ws i → inner_of t k ≡ Ok inner → value_under inner (drop (i + 1) ws) ≡ value_under t (drop i ws)

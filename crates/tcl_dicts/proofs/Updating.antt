@@ -1,5 +1,5 @@
 -- A value under a key, changed and put back.
-use Rattle.std.proofs.Common.{◌≡◌, ℕ, zero, suc, ◌+◌, ◌<◌, ◌≤◌, List, [], ◌∷◌, ◌++◌, length, drop, take, map, reverse, Result, Ok, Err, refl, sym, ap, ◌∙◌, append_assoc, arith}
+use Rattle.std.proofs.Common.{◌≡◌, Bool, true, false, ◌==◌, ℕ, zero, suc, ◌+◌, ◌<◌, ◌≤◌, List, [], ◌∷◌, ◌++◌, length, drop, take, map, reverse, Result, Ok, Err, refl, sym, ap, ◌∙◌, append_assoc, arith}
 use Rattle.std.proofs.lemmas.List.{append-nil}
 use Rattle.std.specs.declared.rc.RcStr.{RcStr}
 use Rattle.std.specs.declared.alloc.Global.{Global}
@@ -16,7 +16,7 @@ use Rattle.tcl_pages.specs.Updates.{by_key, dict_append, dict_set_words, text_ap
 use Rattle.tcl_values.specs.Changes.{after, after_under}
 use Rattle.tcl_values.specs.Dictionaries.{less_key, with_key}
 use Rattle.tcl_values.specs.declared.change.Change.TheVariants as change
-use Rattle.tcl_values.specs.Lists.{count_of, pushed}
+use Rattle.tcl_values.specs.Lists.{count_of, lengthened}
 use Rattle.tcl_values.proofs.Joined.{reads_written}
 use Rattle.tcl_dicts.specs.Levels.{changed, changed_known, level_text, rebuilt}
 use Rattle.tcl_dicts.proofs.DictWords.{drop_word}
@@ -138,22 +138,6 @@ unset_by_words t ws n l e =
 
 -- ---- lists at their end
 
-list_ends : (t : Text) (es : List Text) (x : Text) (ws : List Text) → with_more (written (es ++ x ∷ [])) (es ++ x ∷ []) ws ≡ with_more t es (x ∷ ws)
-list_ends t es x [] = refl
-list_ends t es x (w ∷ ws) = ap written (append_assoc es (x ∷ []) (w ∷ ws))
-
-list_in : (r : Answer (List Text)) (t x new : Text) (ws : List Text) → (r >>= λ es. Ok (written (es ++ x ∷ []))) ≡ Ok new → (lappend new ws) ≡ (r >>= λ es. Ok (with_more t es (x ∷ ws)))
-list_in (Err m) t x new ws e = absurd (no_err _ m new refl e)
-list_in (Ok es) t x new ws e =
-    let is : new ≡ written (es ++ x ∷ []) = ok_is _ new (written (es ++ x ∷ [])) e refl in
-    ap (λ s. elements_of s >>= λ fs. Ok (with_more s fs ws)) is ∙ ap (λ r. r >>= λ fs. Ok (with_more (written (es ++ x ∷ [])) fs ws)) (reads_written (es ++ x ∷ [])) ∙ ap Ok (list_ends t es x ws)
-
-pub list_more : (t x new : Text) (ws : List Text) → pushed t x ≡ Ok new → lappend new ws ≡ lappend t (x ∷ ws)
-list_more t x new ws e = list_in (elements_of t) t x new ws e
-
-pub list_readable : (t x new : Text) → pushed t x ≡ Ok new → lappend new [] ≡ Ok new
-list_readable t x new e = list_more t x new [] e ∙ e
-
 no_number : (r : Answer ℕ) (m : Text) (n : ℕ) → r ≡ Err m → r ≡ Ok n → ⊥
 no_number r m n e f = cc
 
@@ -207,14 +191,11 @@ text_behind t (w ∷ ws) = text_behind (t ++ w) ws ∙ append_assoc t w (text_ap
 pub append_one : (t key : Text) (s : RcStr Global) (ws : List Text) → text_of s ≡ text_appended [] ws → after_under (change.Text s) t key ≡ changed t key [] (λ old. Ok (text_appended old ws))
 append_one t key s ws e = under_is t key [] (after (change.Text s)) ∙ (λ i. changed t key [] (λ old. Ok ((ap (λ u. old ++ u) e ∙ sym (text_behind old ws)) i)))
 
-one_word : (ws : List Text) → length ws ≡ 2 → drop 1 ws ≡ word ws 1 ∷ []
-one_word [] l = absurd (omega (arith, l))
-one_word (w ∷ []) l = absurd (omega (arith, l))
-one_word (w ∷ u ∷ []) l = refl
-one_word (w ∷ u ∷ v ∷ ws) l = absurd (omega (arith, l))
+pub some_there : (n : ℕ) (b : Bool) → b ≡ (n == 0) → b ≡ false → 0 < n
+some_there zero b e f = let t : b ≡ true = e in cc
+some_there (suc n) b e f = omega arith
 
--- an element behind the others: dict lappend
-pub lappend_one : (t key x : Text) (ws : List Text) → length ws ≡ 2 → x ≡ word ws 1 → after_under (change.Item x) t key ≡ changed t key [] (λ old. lappend old (drop 1 ws))
-lappend_one t key x ws l e =
-    let is : x ∷ [] ≡ drop 1 ws = ap (λ v. v ∷ []) e ∙ sym (one_word ws l) in
-    under_is t key [] (after (change.Item x)) ∙ (λ i. changed t key [] (λ old. lappend old (is i)))
+-- elements behind the others: dict lappend
+pub lappend_all : (t key : Text) (xs ws : List Text) → xs ≡ ws → 0 < length ws → under_key t key [] (λ old. lengthened old xs) ≡ changed t key [] (λ old. lappend old ws)
+lappend_all t key xs [] e l = absurd (omega (arith, l))
+lappend_all t key xs (w ∷ ws) e l = under_is t key [] (λ old. lengthened old xs) ∙ (λ i. changed t key [] (λ old. lengthened old (e i)))

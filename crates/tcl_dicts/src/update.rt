@@ -57,23 +57,25 @@ fn with_words(
     Ok(text)
 }
 
-/// A list with the words from a place on as its last elements.
+/// The words from a place on. What is kept of them is shared.
+fn copies(alloc: Global, words: &[Value], first: usize) -> Result<Vec<Value>, AllocError>
+    requires { first ≤ length words.now }
+    ensures { IfOk result (λ v. v.items ≡ drop first words.now) }
+{
+    let mut copies = Vec::new(alloc);
+    for place in first..words.len() {
+        copies.push(word_at(words, place)?)?;
+    }
+    Ok(copies)
+}
+
+/// A list, as it is.
 #[tactic(auto, using(crate::proofs::Updating::list_start))]
-fn with_elements(
-    alloc: Global,
-    list: Value,
-    words: &mut [Value],
-    first: usize,
-) -> Result<Value, Fault>
-    requires { first ≤ length words.old }
-    ensures list { Answers (λ v. v) result (lists.lappend list (drop first words.old)) }
-    ensures same { words.new ≡ words.old }
+fn expect_list(alloc: Global, list: Value) -> Result<Value, Fault>
+    ensures { Answers (λ v. v) result (lists.lappend list []) }
 {
     let mut list = list;
     list.count(alloc)?;
-    for place in first..words.len() {
-        list.push(alloc, word_at(words, place)?)?;
-    }
     Ok(list)
 }
 
@@ -118,17 +120,18 @@ fn append_under(
     value.dict_change(alloc, key, Change::Text(more))
 }
 
-/// The second word, as the last element of the list that is the value of a key. It takes the time of that element, whatever the list.
-fn lappend_one(alloc: Global, value: &mut Value, key: RcStr, words: &[Value]) -> Result<(), Fault>
-    requires { length words.now ≡ 2 }
-    ensures done { Leaves value.new (changed value.old (text_of key) [] (λ old. lists.lappend old (drop 1 words.now))) result }
+/// The value of a key as it is, where it is a list.
+fn lappend_none(alloc: Global, value: &mut Value, key: RcStr) -> Result<(), Fault>
+    ensures done { Leaves value.new (changed value.old (text_of key) [] (λ old. lists.lappend old [])) result }
     ensures same { OnErr result (value.new ≡ value.old) }
 {
-    let item = word_at(words, 1)?;
-    value.dict_change(alloc, key, Change::Item(item))
+    let old = value_or_empty(alloc, value, key.as_str())?;
+    let list = expect_list(alloc, old)?;
+    value.dict_put(alloc, key, list)
 }
 
-/// The words behind the first one, as the last elements of the list that is the value of a key.
+/// The words behind the first one, as the last elements of the list that is the value of a key. It takes the time of those elements,
+/// whatever the list.
 fn lappend_under(
     alloc: Global,
     value: &mut Value,
@@ -140,12 +143,11 @@ fn lappend_under(
     ensures same { OnErr result (value.new ≡ value.old) }
     ensures words { words.new ≡ words.old }
 {
-    if words.len() == 2 {
-        return lappend_one(alloc, value, key, words);
+    let more = copies(alloc, words, 1)?;
+    if more.is_empty() {
+        return lappend_none(alloc, value, key);
     }
-    let old = value_or_empty(alloc, value, key.as_str())?;
-    let new = with_elements(alloc, old, words, 1)?;
-    value.dict_put(alloc, key, new)
+    value.dict_change(alloc, key, Change::Items(more))
 }
 
 /// `dict append dictVarName key ?value ...?`: the words behind the key are written behind the key's value.

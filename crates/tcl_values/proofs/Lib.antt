@@ -4,6 +4,7 @@ pub mod Decimals
 pub mod Depths
 pub mod Growth
 pub mod Joined
+pub mod Lengthened
 pub mod PairKept
 pub mod PairPlaces
 pub mod PairTexts

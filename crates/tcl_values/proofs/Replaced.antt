@@ -1,7 +1,7 @@
 -- A list one of whose elements is replaced.
-use Rattle.std.proofs.Common.{◌≡◌, ℕ, ◌<◌, ◌≤◌, List, length, Option, None, Some, inl, inr, option_map, Ok, sym, ap, ◌∙◌, slice_get, slice_set, nat_lt, take, drop, zero, suc, [], ◌∷◌, refl, get_or, ◌+◌, ◌++◌}
+use Rattle.std.proofs.Common.{◌≡◌, ℕ, ◌<◌, ◌≤◌, List, length, Option, None, Some, option_map, Ok, sym, ap, ◌∙◌, slice_get, slice_set, nat_lt, take, drop, zero, suc, [], ◌∷◌, refl, get_or, ◌+◌, ◌++◌}
 use Rattle.std.specs.Prelude.{if◌then◌else◌}
-use Rattle.std.proofs.lemmas.Bool.{cond-true, cond-false, lt-ltb, le-ltb, cases_lt}
+use Rattle.std.proofs.lemmas.Bool.{cond-true, cond-false, lt-ltb, le-ltb}
 use Rattle.std.proofs.lemmas.List.{map-set, length-map, take-map, drop-map, map-append}
 use Rattle.std.proofs.lemmas.Option.{slice_get-map, slice_get_past, get_or_from_slice_get}
 use Rattle.tcl_chars.specs.Reading.{◌>>=◌}

@@ -5,13 +5,13 @@ use Rattle.tcl_pages.specs.Answers.{Answer, ◌>>=◌}
 use Rattle.tcl_pages.specs.Dictionaries.{Pairs, put_key}
 use Rattle.tcl_pages.specs.DictPages.{or_text, under_key, value_at}
 use Rattle.tcl_pages.specs.Texts.{Text}
-use Rattle.tcl_values.specs.Lists.{pushed}
+use Rattle.tcl_values.specs.Lists.{lengthened}
 use Rattle.tcl_values.specs.declared.change.Change.{Change}
 use Rattle.tcl_values.specs.declared.change.Change.TheVariants as change
 
 -- what a text becomes
 abbrev pub after : Change → Text → Answer Text
-after (change.Item x) t = pushed t x
+after (change.Items xs) t = lengthened t xs.items
 after (change.Text s) t = Ok (t ++ text_of s)
 
 -- texts, of which the one at a place becomes another

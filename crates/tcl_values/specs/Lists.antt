@@ -18,6 +18,10 @@ item_of t i = elements_of t >>= λ es. Ok (slice_get es i)
 abbrev pub pushed : List ℕ → List ℕ → Result (List ℕ) (List ℕ)
 pushed t x = elements_of t >>= λ es. Ok (written (es ++ x ∷ []))
 
+-- the text of a list with elements more, one or several: lappend(n)
+abbrev pub lengthened : List ℕ → List (List ℕ) → Result (List ℕ) (List ℕ)
+lengthened t xs = elements_of t >>= λ es. Ok (written (es ++ xs))
+
 -- the text of a list of so many elements, from a place on: lrange(n)
 abbrev pub part_of : List ℕ → ℕ → ℕ → Result (List ℕ) (List ℕ)
 part_of t i n = elements_of t >>= λ es. Ok (written (take n (drop i es)))

@@ -1,16 +1,17 @@
-//! A value under a key of a dictionary that is changed in place: a list of which one element more is made, a text that goes on.
+//! A value under a key of a dictionary that is changed in place: a list to which elements come, a text that goes on.
 
-ghost use Rattle.std.specs.Prelude.{◌≡◌, ◌<◌, ◌≤◌, ◌++◌, ◌∷◌, [], None, length, IfOk, OnOk, OnErr};
+ghost use Rattle.std.specs.Prelude.{◌≡◌, ◌<◌, ◌≤◌, ◌++◌, ◌∷◌, [], None, length, take, IfOk, OnOk, OnErr};
 ghost use Rattle.std.specs.Str.{chars};
 ghost use Rattle.std.specs.String.{string_bytes};
 ghost use Rattle.tcl_chars.specs.Answers.{Answers};
 ghost use Rattle.tcl_chars.specs.Texts.{text_of};
 ghost use Rattle.tcl_list.specs.Elements.{elements_of};
+ghost use Rattle.tcl_list.specs.Texts.{Extends};
 ghost use Rattle.tcl_list.specs.Written.{written};
 ghost use Rattle.tcl_pages.specs.DictPages.{dictionary};
 ghost use Rattle.tcl_values.specs.Changes.{after, after_at, after_in, after_under};
 ghost use Rattle.tcl_values.specs.Kept.{texts, depth_over};
-ghost use Rattle.tcl_values.specs.Lists.{pushed, Leaves};
+ghost use Rattle.tcl_values.specs.Lists.{lengthened, Leaves};
 ghost use Rattle.tcl_values.specs.Shape.{elements, pairs_in, pairs_text, ArePaired, IsWritten};
 
 use crate::dict::read_dict;
@@ -27,8 +28,8 @@ use tcl_list::{append_element, split};
 /// What comes to the value under a key of a dictionary.
 #[derive(Drop)]
 pub enum Change {
-    /// One element more, at the end of the list that the value is.
-    Item(Value),
+    /// Elements more, at the end of the list that the value is.
+    Items(Vec<Value>),
     /// A text behind it.
     Text(RcStr),
 }
@@ -39,8 +40,8 @@ fn lengthen(row: &mut Items, text: &mut String, element: Element) -> Result<(), 
     requires limit { row.old.depth < 64 }
     requires written { IsWritten row.old text.old }
     ensures added { OnOk result (elements row.new ≡ elements row.old ++ element ∷ []) }
-    ensures same { OnErr result (string_bytes text.new ≡ string_bytes text.old) }
-    ensures depth { OnErr result (row.new.depth ≡ row.old.depth) }
+    ensures back { OnErr result (elements row.new ≡ elements row.old) }
+    ensures behind { Extends (chars (string_bytes text.old)) (chars (string_bytes text.new)) }
     ensures limit { row.new.depth < 64 }
     ensures written { IsWritten row.new text.new }
 {
@@ -56,41 +57,83 @@ fn lengthen(row: &mut Items, text: &mut String, element: Element) -> Result<(), 
     Ok(())
 }
 
-/// Adds an element at the end of a list that grows, in place where nobody else holds its elements.
-fn lengthen_own(own: &mut Lengthening, element: Element) -> Result<(), AllocError>
-    requires element { element.depth < 63 }
+/// Adds elements at the end of a list, one behind the other. Those that came before one that is refused stay.
+fn lengthen_by(row: &mut Items, text: &mut String, more: Vec<Element>) -> Result<(), AllocError>
+    requires more { depth_over more.items < 64 }
+    requires limit { row.old.depth < 64 }
+    requires written { IsWritten row.old text.old }
+    ensures added { OnOk result (elements row.new ≡ elements row.old ++ more.items) }
+    ensures front { take (length (elements row.old)) (elements row.new) ≡ elements row.old }
+    ensures behind { Extends (chars (string_bytes text.old)) (chars (string_bytes text.new)) }
+    ensures limit { row.new.depth < 64 }
+    ensures written { IsWritten row.new text.new }
+{
+    for element in more {
+        lengthen(row, text, element)?;
+    }
+    Ok(())
+}
+
+/// Adds elements at the end of a list, all or none.
+fn lengthen_all(row: &mut Items, text: &mut String, more: Vec<Element>) -> Result<(), AllocError>
+    requires more { depth_over more.items < 64 }
+    requires limit { row.old.depth < 64 }
+    requires written { IsWritten row.old text.old }
+    ensures added { OnOk result (elements row.new ≡ elements row.old ++ more.items) }
+    ensures same { OnErr result (string_bytes text.new ≡ string_bytes text.old) }
+    ensures depth { OnErr result (row.new.depth ≡ row.old.depth) }
+    ensures limit { row.new.depth < 64 }
+    ensures written { IsWritten row.new text.new }
+{
+    let count = row.items.len();
+    let depth = row.depth;
+    let size = text.len();
+    match lengthen_by(row, text, more) {
+        Ok(()) => Ok(()),
+        Err(refused) => {
+            row.items.truncate(count);
+            row.depth = depth;
+            text.truncate(size);
+            Err(refused)
+        }
+    }
+}
+
+/// Adds elements at the end of a list that grows, in place where nobody else holds its elements.
+fn lengthen_own(own: &mut Lengthening, more: Vec<Element>) -> Result<(), AllocError>
+    requires more { depth_over more.items < 64 }
     requires limit { own.old.row.value.depth < 64 }
     requires written { IsWritten own.old.row.value own.old.text }
-    ensures added { OnOk result (elements own.new.row.value ≡ elements own.old.row.value ++ element ∷ []) }
+    ensures added { OnOk result (elements own.new.row.value ≡ elements own.old.row.value ++ more.items) }
     ensures same { OnErr result (string_bytes own.new.text ≡ string_bytes own.old.text) }
     ensures depth { OnErr result (own.new.row.value.depth ≡ own.old.row.value.depth) }
     ensures limit { own.new.row.value.depth < 64 }
     ensures written { IsWritten own.new.row.value own.new.text }
 {
     let row = Rc::make_mut(&mut own.row)?;
-    lengthen(row, &mut own.text, element)
+    lengthen_all(row, &mut own.text, more)
 }
 
-/// Adds an element at the end of a list that grows, in place where nobody else holds the list.
-fn lengthen_shared(longer: &mut Rc<Lengthening>, element: Element) -> Result<(), AllocError>
-    requires element { element.depth < 63 }
+/// Adds elements at the end of a list that grows, in place where nobody else holds the list.
+fn lengthen_shared(longer: &mut Rc<Lengthening>, more: Vec<Element>) -> Result<(), AllocError>
+    requires more { depth_over more.items < 64 }
     requires limit { longer.old.value.row.value.depth < 64 }
     requires written { IsWritten longer.old.value.row.value longer.old.value.text }
-    ensures added { OnOk result (elements longer.new.value.row.value ≡ elements longer.old.value.row.value ++ element ∷ []) }
+    ensures added { OnOk result (elements longer.new.value.row.value ≡ elements longer.old.value.row.value ++ more.items) }
     ensures same { OnErr result (string_bytes longer.new.value.text ≡ string_bytes longer.old.value.text) }
     ensures depth { OnErr result (longer.new.value.row.value.depth ≡ longer.old.value.row.value.depth) }
     ensures limit { longer.new.value.row.value.depth < 64 }
     ensures written { IsWritten longer.new.value.row.value longer.new.value.text }
 {
     let own = Rc::make_mut(longer)?;
-    lengthen_own(own, element)
+    lengthen_own(own, more)
 }
 
-/// Elements as a list that grows, with an element more, and how it is written.
-fn longer(alloc: Global, items: Vec<Element>, element: Element) -> Result<Element, AllocError>
-    requires element { element.depth < 63 }
+/// Elements as a list that grows, with others behind them, and how it is written.
+fn longer(alloc: Global, items: Vec<Element>, more: Vec<Element>) -> Result<Element, AllocError>
+    requires more { depth_over more.items < 64 }
     requires limit { depth_over items.items < 64 }
-    ensures text { IfOk result (λ e. e.text ≡ written (texts (items.items ++ element ∷ []))) }
+    ensures text { IfOk result (λ e. e.text ≡ written (texts (items.items ++ more.items))) }
     ensures depth { IfOk result (λ e. e.depth < 64) }
 {
     let mut text = write_text(alloc, &items)?;
@@ -100,7 +143,7 @@ fn longer(alloc: Global, items: Vec<Element>, element: Element) -> Result<Elemen
         depth,
         items,
     };
-    lengthen(&mut row, &mut text, element)?;
+    lengthen_by(&mut row, &mut text, more)?;
     let longer = Lengthening {
         row: Rc::new(alloc, row)?,
         text,
@@ -138,20 +181,20 @@ impl Element {
         }
     }
 
-    /// Adds an element at the end of the list that its text is read as, in place where it has grown before and nobody else holds it.
-    fn push(&mut self, alloc: Global, item: Element) -> Result<(), Fault>
-        requires item { item.depth < 63 }
+    /// Adds elements at the end of the list that its text is read as, in place where it has grown before and nobody else holds it.
+    fn lengthen(&mut self, alloc: Global, more: Vec<Element>) -> Result<(), Fault>
+        requires more { depth_over more.items < 64 }
         requires limit { self.old.depth < 64 }
-        ensures done { Leaves self.new.text (pushed self.old.text item.text) result }
+        ensures done { Leaves self.new.text (lengthened self.old.text (texts more.items)) result }
         ensures same { OnErr result (self.new ≡ self.old) }
         ensures limit { self.new.depth < 64 }
     {
         if let Entry::Longer(longer) = &mut self.entry {
-            lengthen_shared(longer, item)?;
+            lengthen_shared(longer, more)?;
             return Ok(());
         }
         let items = self.read(alloc)?;
-        *self = longer(alloc, items, item)?;
+        *self = longer(alloc, items, more)?;
         Ok(())
     }
 
@@ -180,9 +223,9 @@ impl Element {
         ensures limit { self.new.depth < 64 }
     {
         match change {
-            Change::Item(item) => {
-                let element = item.into_element(alloc)?;
-                self.push(alloc, element.shallow(alloc)?)
+            Change::Items(items) => {
+                let more = shallow_elements(alloc, items)?;
+                self.lengthen(alloc, more)
             }
             Change::Text(text) => {
                 self.append(alloc, text.as_str())?;
@@ -190,6 +233,19 @@ impl Element {
             }
         }
     }
+}
+
+/// Values as elements of a list that is an element itself.
+fn shallow_elements(alloc: Global, values: Vec<Value>) -> Result<Vec<Element>, AllocError>
+    ensures texts { IfOk result (λ v. texts v.items ≡ values.items) }
+    ensures depth { IfOk result (λ v. depth_over v.items < 64) }
+{
+    let mut elements = Vec::with_capacity(alloc, values.len())?;
+    for value in values {
+        let element = value.into_element(alloc)?;
+        elements.push(element.shallow(alloc)?)?;
+    }
+    Ok(elements)
 }
 
 /// What a change makes of the empty text.
