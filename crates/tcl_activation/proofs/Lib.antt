@@ -1,7 +1,9 @@
 mod Acting
+mod Calling
 mod Ending
 mod Finding
 mod Joining
+mod Lending
 mod Lifting
 mod Operators
 mod Spelling

@@ -1,4 +1,7 @@
 pub mod Piles
+pub mod PileLent
+pub mod Called
+pub mod WordsLent
 pub mod Moves
 pub mod Reads
 pub mod Results

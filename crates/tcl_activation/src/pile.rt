@@ -1,6 +1,8 @@
 //! Values that are put on top of one another.
-ghost use Rattle.std.specs.Prelude.{◌≡◌, ◌≤◌, ◌∷◌, Some, [], length, option_map, OnOk, OnErr, IfOk};
+ghost use Rattle.std.specs.Prelude.{◌≡◌, ◌≤◌, ◌∷◌, ◌++◌, Some, [], length, take, drop, reverse, option_map, OnOk, OnErr, IfOk};
+ghost use Rattle.std.specs.Borrow.{sem};
 ghost use Rattle.tcl_activation.specs.Piles.{Lifts};
+ghost use Rattle.tcl_activation.specs.PileLent.{LendsTop};
 
 use std::alloc::{AllocError, Global};
 use std::marker::Model;
@@ -60,6 +62,32 @@ impl<T: Drop> Pile<T> {
             Some(item) => item,
             None => unreachable!(),
         }
+    }
+
+    /// More on top, the last of them uppermost.
+    pub fn append(&mut self, items: &mut Vec<T>) -> Result<(), AllocError>
+        ensures { OnOk result (self.new ≡ reverse items.old.items ++ self.old) }
+    {
+        self.items.append(items)
+    }
+
+    /// Lends so many on top, which stand in the order in which they came.
+    pub fn top(&mut self, count: usize) -> &mut [T]
+        requires { count ≤ length self.old }
+        ensures* writes_back { sem 𝓛 (LendsTop T.row self.entry count result) }
+        ensures value { result.now ≡ reverse (take count self.old) }
+    {
+        let left = self.items.len() - count;
+        self.items.slice_mut(left..)
+    }
+
+    /// So many on top are taken away.
+    pub fn truncate(&mut self, count: usize)
+        requires { count ≤ length self.old }
+        ensures { self.new ≡ drop count self.old }
+    {
+        let left = self.items.len() - count;
+        self.items.truncate(left)
     }
 
     #[tactic(auto, using(crate::proofs::Lifting::lifted))]

@@ -1,6 +1,5 @@
 //! What an instruction has done.
 use tcl_steps::Completion;
-use tcl_values::Value;
 
 /// What an instruction has done.
 #[derive(Drop)]
@@ -10,8 +9,8 @@ pub enum Progress {
     Spent,
     /// A unit has paid for a turn back.
     Turned,
-    /// The command of these words is called.
-    Calls(Vec<Value>),
+    /// The command of so many words is called, which lie on top of the texts and stay there.
+    Calls(usize),
     /// The code has ended so.
     Over(Completion),
     /// A unit was wanting.

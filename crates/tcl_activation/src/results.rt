@@ -81,14 +81,14 @@ impl Model for Results {
 }
 
 impl Results {
-    /// One.
-    pub fn of_one(alloc: Global, last: Last) -> Results
-        ensures { result ≡ last ∷ [] }
+    /// Of one script, which has run no command yet. There is room for so many scripts in brackets.
+    pub fn with_room(alloc: Global, brackets: u32) -> Result<Results, AllocError>
+        ensures { IfOk result (λ results. results ≡ nothing ∷ []) }
     {
-        Results {
-            newest: Some(last),
-            others: Vec::new(alloc),
-        }
+        Ok(Results {
+            newest: Some(Last::nothing()),
+            others: Vec::with_capacity(alloc, brackets as usize)?,
+        })
     }
 
     /// One more.

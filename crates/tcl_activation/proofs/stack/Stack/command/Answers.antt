@@ -5,13 +5,13 @@ use Rattle.tcl_activation.proofs.stack.Stack.command.Goals as goal
 use Rattle.tcl_activation.proofs.stack.Stack.command.Goals.{in-Leave+in_ok-leave-in-Leave, in-Gather+in_ok-gather-in-Gather, in-Add+in_ok-add-in-Add, in-Answer+in_ok-set_result-in-Answer}
 
 pub returns-in-Call : goal.returns-in-Call
-returns-in-Call c ts = acts_as c.args.dialect ts c.args.instr (instr.Call c.in-Call.count) c.args.self.now c.call.new.self c.call.result c.in-Call.is (c.call.ensures c.args.dialect)
+returns-in-Call c ts = acts_as c.args.dialect ts c.args.instr (instr.Call c.in-Call.count) c.args.self.now c.call.new.self (Ok c.call.result) c.in-Call.is (c.call.ensures c.args.dialect)
 
 pub returns-in-AddAll : goal.returns-in-AddAll
 returns-in-AddAll c ts = acts_as c.args.dialect ts c.args.instr instr.AddAll c.args.self.now c.add_all.new.self c.add_all.result c.in-AddAll.is (c.add_all.ensures c.args.dialect)
 
 pub returns-in-CallGathered : goal.returns-in-CallGathered
-returns-in-CallGathered c ts = acts_as c.args.dialect ts c.args.instr instr.CallGathered c.args.self.now c.call_gathered.new.self (Ok c.call_gathered.result) c.in-CallGathered.is (c.call_gathered.ensures c.args.dialect)
+returns-in-CallGathered c ts = acts_as c.args.dialect ts c.args.instr instr.CallGathered c.args.self.now c.call_gathered.new.self c.call_gathered.result c.in-CallGathered.is (c.call_gathered.ensures c.args.dialect)
 
 pub returns : goal.returns
 returns c ts at s = elim c.match-instr.branch [
