@@ -1,5 +1,5 @@
 //! How the last commands of open scripts have ended.
-ghost use Rattle.std.specs.Prelude.{◌≡◌, ◌≤◌, [], ◌∷◌, length, IfOk, OnOk};
+ghost use Rattle.std.specs.Prelude.{◌≡◌, ◌≤◌, [], ◌∷◌, drop, length, IfOk, OnOk};
 ghost use Rattle.tcl_meaning.specs.Completions.{nothing};
 
 use std::alloc::{AllocError, Global};
@@ -95,13 +95,36 @@ impl Results {
     pub fn push(&mut self, last: Last) -> Result<(), AllocError>
         ensures { OnOk result (self.new ≡ last ∷ self.old) }
     {
-        match mem::replace(&mut self.newest, Some(last)) {
-            None => Ok(()),
-            Some(before) => {
+        match &mut self.newest {
+            None => self.newest = Some(last),
+            Some(newest) => {
+                let before = mem::replace(newest, last);
                 self.others.push(before)?;
-                Ok(())
             }
         }
+        Ok(())
+    }
+
+    /// Another one in place of the newest.
+    pub fn replace(&mut self, last: Last)
+        requires { 1 ≤ length self.old }
+        ensures { self.new ≡ last ∷ drop 1 self.old }
+    {
+        if self.newest.is_none() {
+            drop(self.others.pop());
+        }
+        self.newest = Some(last);
+    }
+
+    /// The newest is let go.
+    pub fn drop_newest(&mut self)
+        requires { 1 ≤ length self.old }
+        ensures { self.new ≡ drop 1 self.old }
+    {
+        if self.newest.is_none() {
+            drop(self.others.pop());
+        }
+        self.newest = None;
     }
 
     /// The newest is taken away.
