@@ -1,6 +1,7 @@
 //! Commands that are called.
-ghost use Rattle.std.specs.Prelude.{◌∷◌, [], List, None};
+ghost use Rattle.std.specs.Prelude.{◌≡◌, ◌≤◌, ◌∷◌, [], List, None, length};
 ghost use Rattle.std.specs.Str.{chars};
+ghost use Rattle.tcl_activation.specs.Called.{words_of, without_words};
 ghost use Rattle.tcl_chars.specs.declared.numbers.Dialect.TheVariants as dialect;
 ghost use Rattle.tcl_control.specs.Asked.{IsAsked};
 ghost use Rattle.tcl_engine.specs.Answered.{Answered};
@@ -19,6 +20,7 @@ use crate::lifts::{asked, asked_over, done_in, exited};
 use crate::looking::seen;
 use crate::pages::over_commands;
 use std::alloc::{AllocError, Global};
+use tcl_activation::Activation;
 use tcl_arguments::text_at;
 use tcl_channels::Devices;
 use tcl_chars::Dialect;
@@ -153,8 +155,8 @@ impl<V: Devices> Host<'_, '_, '_, '_, V> {
         }
     }
 
-    /// Calls a command: the first of its words is looked up now.
-    pub(crate) fn invoke(&mut self, words: &mut [Value]) -> Result<Step<Scope, Owes, Loop>, Stop>
+    // Calls a command: the first of its words is looked up now.
+    fn invoke(&mut self, words: &mut [Value]) -> Result<Step<Scope, Owes, Loop>, Stop>
         ensures answered { Answered (invoked dialect.Tcl86 words.old) (shown V.channels self.old) result (shown V.channels self.new) }
         ensures leaves { HostLeaves V.leaves (is_io result) self.old self.new }
     {
@@ -163,5 +165,21 @@ impl<V: Devices> Host<'_, '_, '_, '_, V> {
         }
         let word = text_at(self.alloc, words, 0)?;
         self.command(word.as_str(), &mut words[1..])
+    }
+
+    /// Calls the command whose words lie on top of a code's texts, where they stay until it is done.
+    pub(crate) fn call(
+        &mut self,
+        activation: &mut Activation,
+        count: usize,
+    ) -> Result<Step<Scope, Owes, Loop>, Stop>
+        requires { count ≤ length activation.old.spot.stack.texts }
+        ensures taken { activation.new ≡ without_words count activation.old }
+        ensures answered { Answered (invoked dialect.Tcl86 (words_of count activation.old.spot)) (shown V.channels self.old) result (shown V.channels self.new) }
+        ensures leaves { HostLeaves V.leaves (is_io result) self.old self.new }
+    {
+        let step = self.invoke(activation.words(count));
+        activation.drop_words(count);
+        step
     }
 }

@@ -46,7 +46,7 @@ impl<V: Devices> Engine for Host<'_, '_, '_, '_, V> {
                 Instructed::Moved => {}
                 Instructed::Spent => *paid += 1,
                 Instructed::Turned => return Ok(Progress::Turned),
-                Instructed::Calls(mut words) => match self.invoke(&mut words)? {
+                Instructed::Calls(count) => match self.call(activation, count)? {
                     Step::Done(completion) => {
                         if completion.is_ok() {
                             activation.answer(completion)?;
