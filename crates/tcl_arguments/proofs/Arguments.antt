@@ -1,5 +1,6 @@
 -- Arguments by their places.
-use Rattle.std.proofs.Common.{◌≡◌, ◌≢◌, ◌≤◌, ◌<◌, List, [], ◌∷◌, length, slice_get, Ok, refl, arith}
+use Rattle.std.proofs.Common.{◌≡◌, ◌≢◌, ◌≤◌, ◌<◌, List, [], ◌∷◌, length, slice_get, Some, None, Ok, refl, arith}
+use Rattle.tcl_arguments.specs.UpToOne.{up_to_one}
 use Rattle.tcl_arguments.specs.WordAt.{word}
 use Rattle.tcl_pages.specs.Arguments.{one_argument, two_arguments, three_arguments, one_or_two, two_or_three, three_or_four}
 use Rattle.tcl_pages.specs.Texts.{Text}
@@ -99,3 +100,19 @@ too_many_for_four u (a ∷ b ∷ []) h = absurd (omega arith)
 too_many_for_four u (a ∷ b ∷ c ∷ []) h = absurd (omega arith)
 too_many_for_four u (a ∷ b ∷ c ∷ d ∷ []) h = absurd (omega arith)
 too_many_for_four u (a ∷ b ∷ c ∷ d ∷ e ∷ ws) h = refl
+
+-- ---- one or none
+
+pub none_given : (u : Text) (ws : List Text) → length ws ≡ 0 → up_to_one u ws ≡ Ok None
+none_given u [] h = refl
+none_given u (a ∷ ws) h = absurd (omega arith)
+
+pub one_given : (u : Text) (ws : List Text) → length ws ≢ 0 → length ws ≤ 1 → up_to_one u ws ≡ Ok (Some (word ws 0))
+one_given u [] h k = absurd (h refl)
+one_given u (a ∷ []) h k = refl
+one_given u (a ∷ b ∷ ws) h k = absurd (omega arith)
+
+pub more_given : (u : Text) (ws : List Text) → 1 < length ws → up_to_one u ws ≡ usage u
+more_given u [] h = absurd (omega arith)
+more_given u (a ∷ []) h = absurd (omega arith)
+more_given u (a ∷ b ∷ ws) h = refl

@@ -1,1 +1,2 @@
+pub mod UpToOne
 pub mod WordAt

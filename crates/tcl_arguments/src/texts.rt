@@ -2,6 +2,7 @@
 
 ghost use Rattle.std.specs.Prelude.{◌≡◌, ◌<◌, length, map, slice_get, IfOk, option_map};
 ghost use Rattle.std.specs.Str.{chars};
+ghost use Rattle.tcl_arguments.specs.UpToOne.{up_to_one};
 ghost use Rattle.tcl_arguments.specs.WordAt.{word};
 ghost use Rattle.tcl_chars.specs.Answers.{Answers};
 ghost use Rattle.tcl_chars.specs.Texts.{text_of};
@@ -48,6 +49,29 @@ pub fn one_text(alloc: Global, words: &mut [Value], form: &str) -> Result<RcStr,
         return Err(Fault::Error(usage(alloc, form)?));
     }
     Ok(text_at(alloc, words, 0)?)
+}
+
+/// The text of the one word, or none where there is none.
+///
+/// # Errors
+///
+/// `Fault::Error` with the usage of this form at another count of words, `Fault::Memory`.
+#[tactic(auto, using(crate::proofs::Arguments::none_given, crate::proofs::Arguments::one_given, crate::proofs::Arguments::more_given))]
+pub fn up_to_one_text(
+    alloc: Global,
+    words: &mut [Value],
+    form: &str,
+) -> Result<Option<RcStr>, Fault>
+    ensures text { Answers (λ t. option_map text_of t) result (up_to_one (chars form.now) words.old) }
+    ensures same { words.new ≡ words.old }
+{
+    if words.len() > 1 {
+        return Err(Fault::Error(usage(alloc, form)?));
+    }
+    if words.is_empty() {
+        return Ok(None);
+    }
+    Ok(Some(text_at(alloc, words, 0)?))
 }
 
 /// The texts of the two words.

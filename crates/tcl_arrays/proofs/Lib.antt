@@ -1,4 +1,3 @@
-pub mod Truth
 pub mod PageLemmas
 pub mod Endings
 pub mod SetLemmas

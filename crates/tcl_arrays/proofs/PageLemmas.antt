@@ -3,7 +3,7 @@ use Rattle.std.proofs.Common.{◌≡◌, ◌≢◌, ◌≤◌, ◌<◌, ℕ, Boo
 use Rattle.std.specs.Prelude.{is_some, ◌&&◌, if◌then◌else◌}
 use Rattle.std.specs.FinMap as map
 use Rattle.tcl_arguments.specs.WordAt.{word}
-use Rattle.tcl_arrays.specs.Patterns.{up_to_one}
+use Rattle.tcl_arguments.specs.UpToOne.{up_to_one}
 use Rattle.tcl_chars.specs.Texts.{literal}
 use Rattle.tcl_frames.specs.Standing.{Standing, store_of}
 use Rattle.tcl_list.specs.Written.{written}
@@ -55,22 +55,6 @@ pub vars_is : (s : Store) (ws : List Text) → info_vars s ws ≡ (up_to_one (li
 vars_is s [] = refl
 vars_is s (a ∷ []) = refl
 vars_is s (a ∷ b ∷ ws) = refl
-
--- ---- a pattern or none
-
-pub no_pattern : (u : Text) (ws : List Text) → length ws ≡ 0 → up_to_one u ws ≡ Ok None
-no_pattern u [] h = refl
-no_pattern u (a ∷ ws) h = absurd (omega arith)
-
-pub a_pattern : (u : Text) (ws : List Text) → length ws ≢ 0 → length ws ≤ 1 → up_to_one u ws ≡ Ok (Some (word ws 0))
-a_pattern u [] h k = absurd (h refl)
-a_pattern u (a ∷ []) h k = refl
-a_pattern u (a ∷ b ∷ ws) h k = absurd (omega arith)
-
-pub many_patterns : (u : Text) (ws : List Text) → 1 < length ws → up_to_one u ws ≡ usage u
-many_patterns u [] h = absurd (omega arith)
-many_patterns u (a ∷ []) h = absurd (omega arith)
-many_patterns u (a ∷ b ∷ ws) h = refl
 
 -- ---- what is answered once the words are read, and a name is seen as it was read
 

@@ -11,7 +11,6 @@ ghost use Rattle.tcl_meaning.specs.SeenPages as pages;
 ghost use Rattle.tcl_meaning.specs.State.{Commands};
 
 use crate::choosing::{list_of, names_among, pairs_among};
-use crate::counts::{count_value, truth};
 use std::alloc::{AllocError, Global};
 use std::rc::RcStr;
 use tcl_arguments::{one_or_two_texts, one_text};
@@ -100,7 +99,7 @@ pub fn array_exists(alloc: Global, frames: &Frames, words: &mut [Value]) -> Resu
     ensures same { words.new ≡ words.old }
 {
     let name = one_text(alloc, words, "array exists arrayName")?;
-    Ok(truth(frames.array(name.as_str()).is_some()))
+    Ok(Value::of_truth(frames.array(name.as_str()).is_some()))
 }
 
 /// `array size arrayName`: how many elements the array has.
@@ -114,5 +113,5 @@ pub fn array_size(alloc: Global, frames: &Frames, words: &mut [Value]) -> Result
     ensures same { words.new ≡ words.old }
 {
     let name = one_text(alloc, words, "array size arrayName")?;
-    Ok(count_value(alloc, count_in(frames, name.as_str()))?)
+    Ok(Value::of_count(alloc, count_in(frames, name.as_str()) as u64)?)
 }

@@ -5,17 +5,15 @@ ghost use Rattle.tcl_chars.specs.Answers.{Answers};
 ghost use Rattle.tcl_chars.specs.Texts.{text_of};
 ghost use Rattle.tcl_frames.specs.Standing.{store_of};
 ghost use Rattle.std.specs.Str.{chars};
-ghost use Rattle.tcl_arrays.specs.Patterns.{up_to_one};
 ghost use Rattle.tcl_list.specs.Written.{written};
 ghost use Rattle.tcl_meaning.specs.Arrays as arrays;
 ghost use Rattle.tcl_meaning.specs.SeenPages as pages;
 ghost use Rattle.tcl_meaning.specs.State.{Commands, active_frame};
 
 use crate::choosing::{list_of, name_fits};
-use crate::counts::{count_value, truth};
 use std::alloc::{AllocError, Global};
 use std::rc::RcStr;
-use tcl_arguments::{one_text, text_at, usage};
+use tcl_arguments::{one_text, up_to_one_text, usage};
 use tcl_chars::Fault;
 use tcl_frames::Frames;
 use tcl_names::NameMap;
@@ -32,7 +30,7 @@ pub fn info_exists(alloc: Global, frames: &Frames, words: &mut [Value]) -> Resul
     ensures same { words.new ≡ words.old }
 {
     let name = one_text(alloc, words, "info exists varName")?;
-    Ok(truth(frames.exists(name.as_str())))
+    Ok(Value::of_truth(frames.exists(name.as_str())))
 }
 
 /// `info level`: the level of the active frame.
@@ -48,7 +46,7 @@ pub fn info_level(alloc: Global, frames: &Frames, words: &mut [Value]) -> Result
     if words.len() != 0 {
         return Err(Fault::Error(usage(alloc, "info level")?));
     }
-    Ok(count_value(alloc, frames.level())?)
+    Ok(Value::of_count(alloc, frames.level() as u64)?)
 }
 
 // Does a name stand for a variable of the active frame, and match?
@@ -89,21 +87,6 @@ fn variables_of(
     list_of(alloc, &found)
 }
 
-// The pattern, if there is one.
-#[tactic(auto, using(crate::proofs::PageLemmas::no_pattern, crate::proofs::PageLemmas::a_pattern, crate::proofs::PageLemmas::many_patterns))]
-fn pattern_of(alloc: Global, words: &mut [Value], form: &str) -> Result<Option<RcStr>, Fault>
-    ensures pattern { Answers (λ p. option_map text_of p) result (up_to_one (chars form.now) words.old) }
-    ensures same { words.new ≡ words.old }
-{
-    if words.len() > 1 {
-        return Err(Fault::Error(usage(alloc, form)?));
-    }
-    if words.len() == 0 {
-        return Ok(None);
-    }
-    Ok(Some(text_at(alloc, words, 0)?))
-}
-
 /// `info vars ?pattern?`: the names of the variables that the active frame sees, in the order of code points, or those that match.
 ///
 /// # Errors
@@ -114,6 +97,6 @@ pub fn info_vars(alloc: Global, frames: &Frames, words: &mut [Value]) -> Result<
     ensures answer { (cs : Commands) → Answers (λ v. v) result (pages.info_vars (store_of cs frames.now) words.old) }
     ensures same { words.new ≡ words.old }
 {
-    let pattern = pattern_of(alloc, words, "info vars ?pattern?")?;
+    let pattern = up_to_one_text(alloc, words, "info vars ?pattern?")?;
     Ok(variables_of(alloc, frames, &pattern)?)
 }

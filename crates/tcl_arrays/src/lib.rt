@@ -5,7 +5,6 @@
 mod arrays;
 mod changes;
 mod choosing;
-mod counts;
 mod frames;
 mod looking;
 

@@ -8,14 +8,7 @@ use Rattle.tcl_meaning.specs.Channels.{without_newline, line_count}
 use Rattle.tcl_meaning.specs.Input.{a_line, line_length, has_line, input_taken, left, meets_end}
 use Rattle.tcl_pages.specs.Texts.{Text, count_text}
 use Rattle.tcl_channels.specs.Orders.{line_said}
-
-pub or_true : (b : Bool) → (b || true) ≡ true
-or_true true = refl
-or_true false = refl
-
-or_false : (b : Bool) → (b || false) ≡ b
-or_false true = refl
-or_false false = refl
+use Rattle.std.proofs.Math.Bool.{or-true, or-false}
 
 -- ---- a line: what is left
 
@@ -27,12 +20,12 @@ left_by b c cs met = record { chars = drop (if b then 1 else suc (line_length cs
 
 left_cons : (b : Bool) (c : ℕ) (cs : Text) (met : Bool) → (line_taken cs met).left ≡ record { chars = left a_line cs; met_end = met || meets_end a_line cs }
     → (took_by b c cs met).left ≡ left_by b c cs met
-left_cons true c cs met h = λ i. record { chars = cs; met_end = sym (or_false met) i }
+left_cons true c cs met h = λ i. record { chars = cs; met_end = sym (or-false met) i }
 left_cons false c cs met h = h
 
 pub line_left : (cs : Text) (met : Bool) → (line_taken cs met).left ≡ record { chars = left a_line cs; met_end = met || meets_end a_line cs }
 unfolding line_taken
-line_left [] met = λ i. record { chars = []; met_end = sym (or_true met) i }
+line_left [] met = λ i. record { chars = []; met_end = sym (or-true met) i }
 line_left (c ∷ cs) met = left_cons (c == newline) c cs met (line_left cs met)
 
 -- ---- a line: its text

@@ -26,9 +26,10 @@ use Rattle.tcl_chan.specs.declared.fault.ChanFault.TheVariants as chan_fault
 use Rattle.tcl_steps.specs.Faults.{fault_by}
 use Rattle.tcl_channels.specs.Works.{Works}
 use Rattle.tcl_channels.proofs.ChannelLemmas.{outputs_stay, outputs_stayed, nothing_out}
-use Rattle.tcl_channels.proofs.InputLemmas.{or_true, line_left, line_text, line_says}
+use Rattle.tcl_channels.proofs.InputLemmas.{line_left, line_text, line_says}
 use Rattle.tcl_channels.specs.Orders.{line_said, want_of, text_read, read_from}
 use Rattle.tcl_channels.specs.Shown.{channels_of, over}
+use Rattle.std.proofs.Math.Bool.{or-true}
 
 -- where input is told, what is done with it; else only outputs count
 pub told_or_not : {A : Type 0} (want : Want) (u : Option (List ℕ)) (s : State) (f : Text → State → Got A) (real : Got A)
@@ -39,7 +40,7 @@ told_or_not want (Some bytes) s f real h o = h bytes refl
 
 pub taken_is : (count : Option ℕ) (cs : Text) (met : Bool)
     → taken_by count cs met ≡ record { text = input_taken (want_of count) cs; left = record { chars = left (want_of count) cs; met_end = met || meets_end (want_of count) cs } }
-taken_is None cs met = λ i. record { text = sym (take-length cs) i; left = record { chars = sym (drop-length cs) i; met_end = sym (or_true met) i } }
+taken_is None cs met = λ i. record { text = sym (take-length cs) i; left = record { chars = sym (drop-length cs) i; met_end = sym (or-true met) i } }
 taken_is (Some n) cs met = refl
 
 module _ {R W E : Type 0} (to_come : R → Option (List ℕ)) (outs : W → Option (List ℕ)) (errs : E → Option (List ℕ)) (old new : World R W E Reader) (same : SameOutputs old new) where

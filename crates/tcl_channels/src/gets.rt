@@ -10,12 +10,10 @@ ghost use Rattle.tcl_channels.specs.Works.{WorksIn};
 ghost use Rattle.tcl_chars.specs.Texts.{text_of};
 ghost use Rattle.tcl_meaning.specs.Beginnings.{OutputsBegin};
 ghost use Rattle.tcl_meaning.specs.Channels as spec;
-ghost use Rattle.tcl_pages.specs.Texts.{count_text};
 ghost use Rattle.tcl_vars.specs.Ends.{EndsDone};
 
 use crate::ends::{closed, halted};
 use crate::names::input_named;
-use itoa::Buffer;
 use std::alloc::{AllocError, Global};
 use std::rc::RcStr;
 use tcl_arguments::text_at;
@@ -58,22 +56,12 @@ fn length(text: &str) -> usize
     text.chars().count()
 }
 
-// The value that is a count in decimal.
-fn count_value(alloc: Global, count: usize) -> Result<Value, AllocError>
-    ensures { IfOk result (λ v. v ≡ count_text count) }
-{
-    match i64::try_from(count) {
-        Ok(number) => Ok(Value::of_int(number)),
-        Err(_) => Ok(Value::of_text(message(alloc, Buffer::new().format(count))?)),
-    }
-}
-
 // How long a line is said to be.
 fn line_said(alloc: Global, line: &Option<RcStr>) -> Result<Value, AllocError>
     ensures { IfOk result (λ v. v ≡ line_said (option_map text_of line.now)) }
 {
     match line {
-        Some(text) => count_value(alloc, length(text.as_str())),
+        Some(text) => Value::of_count(alloc, length(text.as_str()) as u64),
         None => Ok(Value::of_text(message(alloc, "-1")?)),
     }
 }

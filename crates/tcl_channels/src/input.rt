@@ -12,7 +12,6 @@ ghost use Rattle.tcl_meaning.specs.Beginnings.{OutputsBegin};
 ghost use Rattle.tcl_meaning.specs.Channels as spec;
 ghost use Rattle.tcl_meaning.specs.Value.{judged};
 ghost use Rattle.tcl_meaning.specs.Completions.{normal};
-ghost use Rattle.tcl_pages.specs.Results.{truth_text};
 
 use crate::ends::halted;
 use crate::names::{Channel, channel_named, input_named};
@@ -199,21 +198,6 @@ fn eof_told(alloc: Global, words: &mut [Value]) -> Result<Channel, Stop>
     channel_named(alloc, name.as_str())
 }
 
-// A truth value as a text.
-fn digit(truth: bool) -> &'static str
-    ensures { chars result.now ≡ truth_text truth }
-{
-    if truth { "1" } else { "0" }
-}
-
-// A truth value as a completion.
-fn said(alloc: Global, truth: bool) -> Result<Completion, AllocError>
-    ensures { IfOk result (λ c. c ≡ normal (truth_text truth)) }
-{
-    let text = message(alloc, digit(truth))?;
-    Ok(Completion::normal(alloc, Value::of_text(text)))
-}
-
 // Whether a call has met a channel's end.
 fn ended<R: Input, W: Output, E: Output>(
     alloc: Global,
@@ -224,8 +208,8 @@ fn ended<R: Input, W: Output, E: Output>(
     ensures quiet { is_io result ≡ false }
 {
     match channel {
-        Channel::Input => Ok(said(alloc, world.eof())?),
-        Channel::Output(_) => Ok(said(alloc, false)?),
+        Channel::Input => Ok(Completion::normal(alloc, Value::of_truth(world.eof()))),
+        Channel::Output(_) => Ok(Completion::normal(alloc, Value::of_truth(false))),
     }
 }
 

@@ -10,6 +10,7 @@ use Rattle.tcl_compile.specs.Emitted.{PieceCode, WordCode, BracketCode, CommandC
 use Rattle.tcl_compile.specs.Fragments.{adding, Plain, Grown, Leads}
 use Rattle.tcl_compile.proofs.Pieces.{push_does, read_does, element_does, index_does, bracket_does, joins_end, joins_next, word_does}
 use Rattle.tcl_compile.proofs.Commands.{calls_end, calls_next, command_does, gathers_end, gathers_next, gathered_does, follows_end, follows_bad, follows_command}
+use Rattle.tcl_meaning.proofs.ScriptRules.{drop_here}
 
 abbrev Code : Type 0
 Code = List Instruction
@@ -52,10 +53,7 @@ grown_deeper c0 c1 c2 c3 t e1 g e3 = (
   λ dialect. bracket_does dialect t g.0 (g.2 dialect),
 )
 
--- a list from a place on, by its first element
-pub drop_here : {A : Type 0} (xs : List A) (i : ℕ) (x : A) → i < length xs → x ≡ get_or xs i x → drop i xs ≡ x ∷ drop (i + 1) xs
-drop_here xs i x h e = rw (add-one, drop-cons xs i x h) (ap (λ y. y ∷ drop (suc i) xs) (sym e))
-
+-- nothing of a list from its end on
 pub drop_end : {A : Type 0} (xs : List A) (i : ℕ) → length xs ≤ i → drop i xs ≡ []
 drop_end [] zero h = refl
 drop_end [] (suc i) h = refl

@@ -18,9 +18,10 @@ use Rattle.tcl_compile.specs.Emitted.{WordCode}
 use Rattle.tcl_compile.specs.Fragments.{Grown, Leads}
 use Rattle.tcl_compile.specs.Trees.{decided_by, Applies, TreeCode, StepCode, RestCode, ArgsLeft, TreeIsRead, RestIsRead, ArgsAreRead}
 use Rattle.tcl_compile.proofs.Changing.{does_change, change_change, change_none, change_choice, chosen, lazy_code, choice_code}
-use Rattle.tcl_compile.proofs.Emits.{ext, join, drop_here, drop_end, leads_on, leads_end}
+use Rattle.tcl_compile.proofs.Emits.{ext, join, drop_end, leads_on, leads_end}
 use Rattle.tcl_compile.proofs.Operators.{unary_does, power_does, eager_step, lazy_step, applies_end, applies_next, call_does}
 use Rattle.tcl_compile.proofs.Pieces.{push_does}
+use Rattle.tcl_meaning.proofs.ScriptRules.{drop_here}
 
 abbrev Code : Type 0
 Code = List Instruction

@@ -2,6 +2,7 @@
 use Rattle.std.proofs.Common.{◌≡◌, ◌≢◌, ℕ, zero, suc, ◌+◌, ◌-◌, ◌*◌, ◌/◌, ◌<◌, ◌≤◌, Bool, true, false, List, [], ◌∷◌, ◌++◌, length, drop, get_or, map, Some, None, Ok, Err, sym, ap, ◌∙◌, refl, add-one, append_assoc, arith}
 use Rattle.std.specs.Prelude.{Option, ◌||◌, if◌then◌else◌}
 use Rattle.std.proofs.lemmas.List.{append-nil, length-map}
+use Rattle.tcl_arguments.proofs.Items.{text_at}
 use Rattle.tcl_chars.specs.Texts.{literal}
 use Rattle.tcl_chars.specs.Messages.{whole_or}
 use Rattle.tcl_chars.specs.Whole.{whole_of}
@@ -61,16 +62,6 @@ pair_by : (ps : Pairs) (i : ℕ) (k v : Text) → i < length ps → k ≡ get_or
 pair_by [] i k v l ke ve = absurd (omega arith)
 pair_by (p ∷ ps) zero k v l ke ve = λ n. (ke n, ve n)
 pair_by (p ∷ ps) (suc i) k v l ke ve = pair_by ps i k v (omega (arith, l)) ke ve
-
-item_at : {A : Type 0} (f : A → Text) (xs : List A) (i : ℕ) (x : A) → i < length xs → x ≡ get_or xs i x → f x ≡ get_or (map f xs) i (f x)
-item_at f [] i x l e = absurd (omega arith)
-item_at f (y ∷ xs) zero x l e = ap f e
-item_at f (y ∷ xs) (suc i) x l e = item_at f xs i x (omega (arith, l)) e
-
-text_at : {A : Type 0} (f : A → Text) (xs : List A) (ts : List Text) (i : ℕ) (x : A) → i < length ts → map f xs ≡ ts → x ≡ get_or xs i x → f x ≡ get_or ts i (f x)
-text_at f xs ts i x l all is =
-    let within : i < length xs = omega (arith, l, ap length all, length-map xs f) in
-    item_at f xs i x within is ∙ ap (λ us. get_or us i (f x)) all
 
 pub pair_is : {A B : Type 0} (f : A → Text) (g : B → Text) (ps : Pairs) (xs : List A) (ys : List B) (i : ℕ) (x : A) (y : B) → i < length ps → map f xs ≡ keys_of ps → map g ys ≡ values_of ps
     → x ≡ get_or xs i x → y ≡ get_or ys i y → (f x, g y) ≡ pair_at ps i

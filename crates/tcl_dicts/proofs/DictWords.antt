@@ -66,23 +66,6 @@ drop_pair : (ps : Pairs) (i : ℕ) (k v : Text) → i < length ps → k ≡ get_
 drop_pair ps i k v l ke ve =
     drop-cons ps i (k, v) l ∙ (λ n. pair_at ps i k v l ke ve n ∷ drop (suc i) ps) ∙ ap (λ n. (k, v) ∷ drop n ps) (sym (add-one i))
 
-item_at : {A : Type 0} (f : A → Text) (xs : List A) (i : ℕ) (x : A) → i < length xs → x ≡ get_or xs i x → f x ≡ get_or (map f xs) i (f x)
-item_at f [] i x l e = absurd (omega arith)
-item_at f (y ∷ xs) zero x l e = ap f e
-item_at f (y ∷ xs) (suc i) x l e = item_at f xs i x (omega (arith, l)) e
-
--- the text of an item, among the texts of all
-pub text_at : {A : Type 0} (f : A → Text) (xs : List A) (ts : List Text) (i : ℕ) (x : A) → i < length ts → map f xs ≡ ts → x ≡ get_or xs i x → f x ≡ get_or ts i (f x)
-text_at f xs ts i x l all is =
-    let within : i < length xs = omega (arith, l, ap length all, length-map xs f) in
-    item_at f xs i x within is ∙ ap (λ us. get_or us i (f x)) all
-
-pub keys_length : (ps : Pairs) → length (keys_of ps) ≡ length ps
-keys_length ps = length-map ps (λ (p : Text × Text). p.0)
-
-pub values_length : (ps : Pairs) → length (values_of ps) ≡ length ps
-values_length ps = length-map ps (λ (p : Text × Text). p.1)
-
 pub put_more : (found next ps : Pairs) (i : ℕ) (k v : Text) → i < length ps → k ≡ get_or (keys_of ps) i k → v ≡ get_or (values_of ps) i v → next ≡ put_key found k v → put_keys next (drop (i + 1) ps) ≡ put_keys found (drop i ps)
 put_more found next ps i k v l ke ve is = ap (λ qs. put_keys qs (drop (i + 1) ps)) is ∙ sym (ap (put_keys found) (drop_pair ps i k v l ke ve))
 

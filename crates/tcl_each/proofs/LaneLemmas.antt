@@ -124,20 +124,3 @@ pub pair_pushed : (ts mid new : List Text) (ps : Pairs) (i : ℕ) (k v key value
 pair_pushed ts mid new ps i k v key value h e f a b m n so_far =
     ap (λ (us : List Text). us ++ flat (drop (i + 1) ps)) (n ∙ ap (λ (us : List Text). us ++ value ∷ []) m ∙ ap (λ (t : Text). (ts ++ t ∷ []) ++ value ∷ []) a ∙ ap (λ (t : Text). (ts ++ k ∷ []) ++ t ∷ []) b)
     ∙ flat_more ts ps i k v h e f ∙ so_far
-
-item_at : {A : Type 0} (f : A → Text) (xs : List A) (i : ℕ) (x : A) → i < length xs → x ≡ get_or xs i x → f x ≡ get_or (map f xs) i (f x)
-item_at f [] i x h e = absurd (omega arith)
-item_at f (y ∷ xs) zero x h e = ap f e
-item_at f (y ∷ xs) (suc i) x h e = item_at f xs i x (omega (arith, h)) e
-
--- the text of an item, among the texts of all
-pub text_at : {A : Type 0} (f : A → Text) (xs : List A) (ts : List Text) (i : ℕ) (x : A) → i < length ts → map f xs ≡ ts → x ≡ get_or xs i x → f x ≡ get_or ts i (f x)
-text_at f xs ts i x h all is =
-    let within : i < length xs = omega (arith, h, ap length all, length-map xs f) in
-    item_at f xs i x within is ∙ ap (λ (us : List Text). get_or us i (f x)) all
-
-pub keys_length : (ps : Pairs) → length (keys_of ps) ≡ length ps
-keys_length ps = length-map ps (λ (p : Text × Text). p.0)
-
-pub values_length : (ps : Pairs) → length (values_of ps) ≡ length ps
-values_length ps = length-map ps (λ (p : Text × Text). p.1)

@@ -17,7 +17,7 @@ use tcl_values::{Element, Row, Value};
 use tcl_vars::{Stop, assign};
 
 // The element at a place behind those that have gone, or the empty text.
-#[tactic(auto, using(crate::proofs::ElementLemmas::text_there, crate::proofs::ElementLemmas::all_gone, crate::proofs::ElementLemmas::past_rest))]
+#[tactic(auto, using(tcl_values::proofs::ElementPlaces::text_there, crate::proofs::ElementLemmas::all_gone, crate::proofs::ElementLemmas::past_rest))]
 fn element_behind(
     alloc: Global,
     elements: &[Element],

@@ -15,7 +15,7 @@ use Rattle.tcl_meaning.specs.Links.{links_of, link_at, destination, through, is_
 use Rattle.tcl_meaning.specs.State.{Commands, with_link}
 use Rattle.tcl_meaning.proofs.LinksSet.{links_changed}
 use Rattle.tcl_meaning.proofs.OneLinkMore.{linked_tower}
-use Rattle.tcl_meaning.proofs.Soundness.{first_sound, not_own}
+use Rattle.tcl_meaning.proofs.Soundness.{first_sound, not_own, length_links}
 use Rattle.tcl_meaning.proofs.Towers.{take_tower, more_tower}
 use Rattle.tcl_frames.specs.Places.{spot}
 use Rattle.tcl_frames.specs.Standing.{Standing, store_of, IsStanding, called, left}
@@ -155,17 +155,13 @@ length-set_frame [] i g = refl
 length-set_frame (f ∷ fs) zero g = refl
 length-set_frame (f ∷ fs) (suc i) g = ap suc (length-set_frame fs i g)
 
-length-links : (fs : List Frame) → length (links_of fs) ≡ length fs
-length-links [] = refl
-length-links (f ∷ fs) = ap suc (length-links fs)
-
 pub link_standing : (f : Standing) (name : Text) (t : Spot) → IsStanding f → t.frame ≤ f.active → link_at (links_of f.frames) t.frame t.name ≡ None → is_own (store_of map.empty f) name t ≡ false
     → IsStanding (record { frames = set_frame f.frames f.active (linked_at name t (frame_at f.frames f.active)); active = f.active })
 link_standing f name t h near free own =
     let fs = f.frames in
     let i = f.active in
     let g = linked_at name t (frame_at fs i) in
-    let lt : i < length (links_of fs) = (let e = length-links fs in let a = h.sound.active in omega (arith, e, a)) in
+    let lt : i < length (links_of fs) = (let e = length_links fs in let a = h.sound.active in omega (arith, e, a)) in
     record {
       sound = record {
         active = let e = length-set_frame fs i g in let a = h.sound.active in omega (arith, e, a);

@@ -7,6 +7,7 @@ use Rattle.tcl_pages.specs.Glob.{One, takes, first_part, some_rest, glob}
 use Rattle.tcl_pages.proofs.Glob.{part_shorter, no_pattern, at_star, no_text, text_left, at_part, found_rest, same_truth}
 use Rattle.tcl_glob.specs.Glob.{Taken, AtEnd, Fit, FirstFit}
 use Rattle.tcl_glob.specs.Glob as parts
+use Rattle.std.proofs.Math.Bool.{or-true}
 
 pub kept : (ps t qs u : List ℕ) → Taken ps t qs u → glob ps t ≡ glob qs u
 kept _ _ _ _ (parts.none qs u) = refl
@@ -39,13 +40,9 @@ taken_on ps t qs u behind after next p c part n h k =
 
 -- ---- a `*` takes more as well
 
-or_true : (b : Bool) → (b || true) ≡ true
-or_true true = refl
-or_true false = refl
-
 some_further : (test : List ℕ → Bool) (front rest : List ℕ) → some_rest test rest ≡ true → some_rest test (front ++ rest) ≡ true
 some_further test [] rest h = h
-some_further test (c ∷ front) rest h = ap (λ b. test (c ∷ (front ++ rest)) || b) (some_further test front rest h) ∙ or_true (test (c ∷ (front ++ rest)))
+some_further test (c ∷ front) rest h = ap (λ b. test (c ∷ (front ++ rest)) || b) (some_further test front rest h) ∙ or-true (test (c ∷ (front ++ rest)))
 
 some_here : (test : List ℕ → Bool) (t : List ℕ) → test t ≡ true → some_rest test t ≡ true
 some_here test [] h = h

@@ -3,9 +3,7 @@ ghost use Rattle.std.specs.Prelude.{◌≡◌, IfOk, map as each};
 ghost use Rattle.std.specs.Str.{chars};
 ghost use Rattle.tcl_list.specs.Written.{written};
 ghost use Rattle.tcl_meaning.specs.Run.{args_put, argument_variables};
-ghost use Rattle.tcl_pages.specs.Texts.{count_text};
 
-use itoa::Buffer;
 use std::alloc::{AllocError, Global};
 use std::rc::RcStr;
 use tcl_frames::Variable;
@@ -17,16 +15,6 @@ pub(crate) fn value_of(alloc: Global, text: &str) -> Result<Value, AllocError>
     ensures { IfOk result (λ value. value ≡ chars text.now) }
 {
     Ok(Value::of_text(RcStr::from_str(alloc, text)?))
-}
-
-// A count, in decimal.
-fn count_value(alloc: Global, count: usize) -> Result<Value, AllocError>
-    ensures { IfOk result (λ value. value ≡ count_text count) }
-{
-    match i64::try_from(count) {
-        Ok(number) => Ok(Value::of_int(number)),
-        Err(_) => value_of(alloc, Buffer::new().format(count)),
-    }
 }
 
 // The list of some texts.
@@ -46,7 +34,7 @@ fn args_put(alloc: Global, name: &str, others: &[&str]) -> Result<NameMap<Variab
 {
     let name = value_of(alloc, name)?;
     let list = list_of(alloc, others)?;
-    let count = count_value(alloc, others.len())?;
+    let count = Value::of_count(alloc, others.len() as u64)?;
     let mut variables = NameMap::new(alloc);
     variables.insert(alloc, "argv0", Variable::of_text(name))?;
     variables.insert(alloc, "argv", Variable::of_text(list))?;

@@ -54,16 +54,6 @@ module _ {A B : Type 0} (f : A → B) where
 pub texts_at : (ks : List Kept) (i : ℕ) (k : Kept) → i < length ks → k ≡ get_or ks i k → drop i (texts ks) ≡ k.text ∷ drop (i + 1) (texts ks)
 texts_at ks i k h e = seen_at (λ (k : Kept). k.text) ks i k h e
 
-pub text_there : (ks : List Kept) (i : ℕ) (k : Kept) → i < length ks → k ≡ get_or ks i k → get_or (texts ks) i [] ≡ k.text
-text_there [] i k h e = absurd (omega arith)
-text_there (x ∷ ks) zero k h e = ap (λ (y : Kept). y.text) (sym e)
-text_there (x ∷ ks) (suc i) k h e = text_there ks i k (omega arith) e
-
-pub text_beyond : (ks : List Kept) (i : ℕ) → length ks ≤ i → get_or (texts ks) i [] ≡ []
-text_beyond [] i h = refl
-text_beyond (x ∷ ks) zero h = absurd (omega arith)
-text_beyond (x ∷ ks) (suc i) h = text_beyond ks i (omega arith)
-
 -- ---- one index
 
 at_one_index : (d : Dialect) (list i : Text) (is : List Text) → element_at d list (i ∷ is) ≡ (item_by d list i >>= λ item. element_at d item is)

@@ -4,17 +4,13 @@ use Rattle.std.specs.Prelude.{cond}
 use Rattle.std.proofs.lemmas.Bool.{and_parts, false≢true}
 use Rattle.tcl_chars.specs.Characters.{backslash}
 use Rattle.tcl_chars.specs.Classes.{is_list_space}
-use Rattle.std.proofs.lemmas.List.{take_more}
+use Rattle.std.proofs.lemmas.List.{take_more, append-nil}
 use Rattle.tcl_chars.specs.Whole.{skip_space}
 use Rattle.tcl_lists.proofs.IndexLemmas.{one_more}
 use Rattle.tcl_lists.specs.WordAt.{word}
 use Rattle.tcl_lists.specs.Joined.{is_empty, with_word}
 use Rattle.tcl_pages.specs.Lists.{trimmed_end, end_kept, behind_kept, trimmed, unless_empty, all_trimmed, concat, times}
 use Rattle.tcl_pages.specs.Texts.{Text, spaced, spaced_more}
-
-pub right_nil : {A : Type 0} (xs : List A) → xs ++ [] ≡ xs
-right_nil [] = refl
-right_nil (x ∷ xs) = ap (λ ys. x ∷ ys) (right_nil xs)
 
 abbrev all_space : Text → Bool
 all_space [] = true
@@ -28,7 +24,7 @@ pub record IsTrimmed (all end longer : Text) : Type 0 where
   one_more : longer ≡ end ++ take 1 space
 
 pub trim_begins : (t : Text) → IsTrimmed t t t
-trim_begins t = record { space = []; blank = refl; joined = sym (right_nil t); one_more = sym (right_nil t) }
+trim_begins t = record { space = []; blank = refl; joined = sym (append-nil t); one_more = sym (append-nil t) }
 
 pub trim_goes_on : (all end longer front : Text) (c : ℕ) → end ≡ front ++ c ∷ [] → is_list_space c ≡ true → IsTrimmed all end longer → IsTrimmed all front end
 trim_goes_on all end longer front c e b t = record {
@@ -105,13 +101,13 @@ trimmed_append [] w = refl
 trimmed_append (x ∷ ws) w = ap (unless_empty (trimmed x)) (trimmed_append ws w) ∙ unless_append (trimmed x) (all_trimmed ws) (unless_empty (trimmed w) [])
 
 spaced_append : (us : List Text) (t : Text) → spaced_more (us ++ t ∷ []) ≡ spaced_more us ++ 32 ∷ t
-spaced_append [] t = ap (λ v. 32 ∷ v) (right_nil t)
+spaced_append [] t = ap (λ v. 32 ∷ v) (append-nil t)
 spaced_append (u ∷ us) t = ap (λ v. 32 ∷ (u ++ v)) (spaced_append us t) ∙ ap (λ v. 32 ∷ v) (sym (append_assoc u (spaced_more us) (32 ∷ t)))
 
 spaced_behind : (us : List Text) (t : Text) → FirstFull us → spaced (us ++ unless_empty t []) ≡ with_word (spaced us) t
 unfolding FirstFull
-spaced_behind us [] h = ap spaced (right_nil us)
-spaced_behind [] (c ∷ cs) h = right_nil (c ∷ cs)
+spaced_behind us [] h = ap spaced (append-nil us)
+spaced_behind [] (c ∷ cs) h = append-nil (c ∷ cs)
 spaced_behind ([] ∷ us) (c ∷ cs) h = absurd h
 spaced_behind ((a ∷ u) ∷ us) (c ∷ cs) h = ap (λ v. a ∷ (u ++ v)) (spaced_append us (c ∷ cs)) ∙ ap (λ v. a ∷ v) (sym (append_assoc u (spaced_more us) (32 ∷ c ∷ cs)))
 
@@ -137,7 +133,7 @@ stands_behind (a ∷ t) (c ∷ cs) h k = ap (λ u. a ∷ u) (append_assoc t (32 
 -- ---- elements many times
 
 times_back : (n : ℕ) (es : List Text) → times n es ++ es ≡ times (suc n) es
-times_back zero es = sym (right_nil es)
+times_back zero es = sym (append-nil es)
 times_back (suc n) es = append_assoc es (times n es) es ∙ ap (λ us. es ++ us) (times_back n es)
 
 pub times_more : (n : ℕ) (es : List Text) → times n es ++ es ≡ times (n + 1) es

@@ -3,7 +3,7 @@ use Rattle.std.proofs.Common.{◌≡◌, ℕ, zero, suc, ◌+◌, ◌-◌, ◌<�
 use Rattle.std.specs.Fmt.{signed_decimal}
 use Rattle.std.specs.Prelude.{codes, cond, negsuc}
 use Rattle.std.proofs.lemmas.Fmt.{decimal_digit}
-use Rattle.std.proofs.lemmas.List.{drop_all}
+use Rattle.std.proofs.lemmas.List.{drop_all, append-nil}
 use Rattle.tcl_chars.proofs.Literals.{literal_chars}
 use Rattle.tcl_chars.specs.Answers.{Stops}
 use Rattle.tcl_chars.specs.declared.fault.Fault.{Fault}
@@ -12,12 +12,12 @@ use Rattle.tcl_list.specs.Elements.{elements_of}
 use Rattle.tcl_lists.specs.Options.{with_options}
 use Rattle.tcl_lists.specs.WordAt.{word}
 use Rattle.tcl_lists.proofs.IndexLemmas.{one_more, texts_at, stops_same, stops_first, in_steps}
-use Rattle.tcl_lists.proofs.Joining.{right_nil}
 use Rattle.tcl_pages.specs.Answers.{Answer, ◌>>=◌}
 use Rattle.tcl_pages.specs.Searching.{is_wanted, wanted, hit_text, first_found, found, with_search_option, plain_search, search_with, lsearch}
 use Rattle.tcl_pages.specs.Texts.{Text}
 use Rattle.tcl_pages.specs.Usage.{usage}
 use Rattle.tcl_pages.specs.declared.lists.SearchOptions.{SearchOptions}
+use Rattle.tcl_values.proofs.ElementPlaces.{length_texts}
 use Rattle.tcl_values.specs.Kept.{Kept, texts}
 
 one_later : (o : SearchOptions) (p : Text) (i : ℕ) (es : List Text) → wanted o p (suc i) es ≡ wanted o p (i + 1) es
@@ -34,10 +34,6 @@ pub misses_at : (o : SearchOptions) (p : Text) (ks : List Kept) (i : ℕ) (k : K
 misses_at o p ks i k h e w =
     let R : List Text = drop (i + 1) (texts ks) in
     ap (wanted o p i) (texts_at ks i k h e) ∙ ap (λ b. cond b ((i, k.text) ∷ wanted o p (suc i) R) (wanted o p (suc i) R)) w ∙ one_later o p i R
-
-length_texts : (ks : List Kept) → length (texts ks) ≡ length ks
-length_texts [] = refl
-length_texts (k ∷ ks) = ap suc (length_texts ks)
 
 pub none_left : (o : SearchOptions) (p : Text) (ks : List Kept) (i : ℕ) → length ks ≤ i → wanted o p i (drop i (texts ks)) ≡ []
 none_left o p ks i h = ap (wanted o p i) (drop_all i (texts ks) (let e = length_texts ks in omega (arith, e)))
@@ -57,7 +53,7 @@ pub no_hit : (o : SearchOptions) (p : Text) (ks : List Kept) (i : ℕ) (k : Kept
 no_hit o p ks i k vs all more em h e w so_far = ap (λ us. us ++ hits o (wanted o p (i + 1) (drop (i + 1) (texts ks)))) em ∙ sym (ap (λ fs. vs ++ hits o fs) (misses_at o p ks i k h e w)) ∙ so_far
 
 pub hits_end : (o : SearchOptions) (p : Text) (ks : List Kept) (i : ℕ) (vs all : List Text) → length ks ≤ i → vs ++ hits o (wanted o p i (drop i (texts ks))) ≡ all → vs ≡ all
-hits_end o p ks i vs all h so_far = sym (right_nil vs) ∙ sym (ap (λ fs. vs ++ hits o fs) (none_left o p ks i h)) ∙ so_far
+hits_end o p ks i vs all h so_far = sym (append-nil vs) ∙ sym (ap (λ fs. vs ++ hits o fs) (none_left o p ks i h)) ∙ so_far
 
 pub first_is : (o : SearchOptions) (p : Text) (ks : List Kept) (i : ℕ) (k : Kept) (all : Text) (b : Bool) → i < length ks → k ≡ get_or ks i k → is_wanted o p k.text ≡ true
     → first_found b (wanted o p i (drop i (texts ks))) ≡ all → hit_text b (i, k.text) ≡ all

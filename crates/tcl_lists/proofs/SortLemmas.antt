@@ -7,7 +7,7 @@ use Rattle.std.specs.List.Sorted.{IsSortedBy, IsStableBy, ties}
 use Rattle.std.specs.Ordering.{is_lt, int_cmp, nat_cmp}
 use Rattle.std.proofs.lemmas.Cmp.{nat_list_cmp_total}
 use Rattle.std.specs.Cmp.{int_cmp_total}
-use Rattle.std.proofs.lemmas.List.{drop_all}
+use Rattle.std.proofs.lemmas.List.{drop_all, append-nil}
 use Rattle.std.proofs.lemmas.List.Sorted.{ranks_by, IsStrictWeakOrder-flip}
 use Rattle.tcl_chars.specs.Answers.{Stops}
 use Rattle.tcl_chars.specs.declared.fault.Fault.{Fault}
@@ -16,12 +16,12 @@ use Rattle.tcl_chars.specs.Texts.{text_of}
 use Rattle.tcl_lists.specs.Sorted.{seen, all_seen, is_less, is_before, number_of, items_of, ties_with_next, is_kept, kept_of}
 use Rattle.tcl_lists.specs.declared.sort.Item.{Item}
 use Rattle.tcl_lists.proofs.IndexLemmas.{texts_at, seen_at, stops_same, stops_first}
-use Rattle.tcl_lists.proofs.Joining.{right_nil}
 use Rattle.tcl_pages.proofs.Sorting.{one_stable}
 use Rattle.tcl_pages.specs.Answers.{Answer, ◌>>=◌}
 use Rattle.tcl_pages.specs.Sorting.{inserted, sorted, last_of_ties, in_order, directed}
 use Rattle.tcl_pages.specs.Texts.{Text}
 use Rattle.tcl_pages.specs.declared.lists.SortOptions.{SortOptions}
+use Rattle.tcl_values.proofs.ElementPlaces.{length_texts}
 use Rattle.tcl_values.specs.Kept.{Kept, texts}
 
 -- ---- the order
@@ -128,13 +128,9 @@ numbers_stop f d o ks i k done all h e s so_far =
     stops_same f _ _ (sym (ap (λ es. items_of d o es >>= λ rest. Ok (done ++ rest)) (texts_at ks i k h e)) ∙ so_far)
     (stops_first f _ (λ rest. Ok (done ++ rest)) (stops_first f (number_of d o k.text) (λ m. items_of d o (drop (i + 1) (texts ks)) >>= λ rest. Ok ((m, k.text) ∷ rest)) s))
 
-length_texts : (ks : List Kept) → length (texts ks) ≡ length ks
-length_texts [] = refl
-length_texts (k ∷ ks) = ap suc (length_texts ks)
-
 pub numbers_end : (d : Dialect) (o : SortOptions) (ks : List Kept) (i : ℕ) (done : List (ℤ × Text)) (all : Answer (List (ℤ × Text))) → length ks ≤ i → (items_of d o (drop i (texts ks)) >>= λ rest. Ok (done ++ rest)) ≡ all → all ≡ Ok done
 numbers_end d o ks i done all h so_far =
-    sym so_far ∙ ap (λ es. items_of d o es >>= λ rest. Ok (done ++ rest)) (drop_all i (texts ks) (let e = length_texts ks in omega (arith, e))) ∙ ap Ok (right_nil done)
+    sym so_far ∙ ap (λ es. items_of d o es >>= λ rest. Ok (done ++ rest)) (drop_all i (texts ks) (let e = length_texts ks in omega (arith, e))) ∙ ap Ok (append-nil done)
 
 pub numbers_begin : (d : Dialect) (o : SortOptions) (es : List Text) → (items_of d o es >>= λ rest. Ok ([] ++ rest)) ≡ items_of d o es
 numbers_begin d o es = whole (items_of d o es)
@@ -203,7 +199,7 @@ drops_at o xs i x done all more em h e k so_far =
 
 pub kept_end : (o : SortOptions) (xs : List Item) (i : ℕ) (done all : List Text) → length xs ≤ i → done ++ kept_texts o (drop i (all_seen xs)) ≡ all → done ≡ all
 kept_end o xs i done all h so_far =
-    sym (right_nil done) ∙ sym (ap (λ zs. done ++ kept_texts o zs) (drop_all i (all_seen xs) (let l = length_seen xs in omega (arith, l))) ∙ none o.unique) ∙ so_far
+    sym (append-nil done) ∙ sym (ap (λ zs. done ++ kept_texts o zs) (drop_all i (all_seen xs) (let l = length_seen xs in omega (arith, l))) ∙ none o.unique) ∙ so_far
   where
     none : (b : Bool) → done ++ map (λ (x : ℤ × Text). x.1) (cond b (last_of_ties (is_before o) []) []) ≡ done ++ []
     none true = refl

@@ -22,7 +22,7 @@ use Rattle.tcl_meaning.proofs.Reaching.{on_got_give, Reaches, reach_bind, bind_b
 use Rattle.tcl_meaning.proofs.Runs.{IsOnward, exec_bind, outcome_goes, outcome_law}
 
 -- a list from a place on, by its first element
-drop_here : {A : Type 0} (xs : List A) (i : ℕ) (x : A) → i < length xs → x ≡ get_or xs i x → drop i xs ≡ x ∷ drop (i + 1) xs
+pub drop_here : {A : Type 0} (xs : List A) (i : ℕ) (x : A) → i < length xs → x ≡ get_or xs i x → drop i xs ≡ x ∷ drop (i + 1) xs
 drop_here xs i x h e = rw (add-one, drop-cons xs i x h) (ap (λ y. y ∷ drop (suc i) xs) (sym e))
 
 -- a state with a unit less

@@ -35,11 +35,11 @@ called_same [] i = refl
 called_same (f ∷ fs) zero = refl
 called_same (f ∷ fs) (suc i) = called_same fs i
 
-length_calls : (fs : List Frame) → length (calls fs) ≡ length fs
+pub length_calls : (fs : List Frame) → length (calls fs) ≡ length fs
 length_calls [] = refl
 length_calls (f ∷ fs) = ap suc (length_calls fs)
 
-length_links : (fs : List Frame) → length (links_of fs) ≡ length fs
+pub length_links : (fs : List Frame) → length (links_of fs) ≡ length fs
 length_links [] = refl
 length_links (f ∷ fs) = ap suc (length_links fs)
 

@@ -11,7 +11,7 @@ ghost use Rattle.tcl_operators.specs.Members as spec;
 ghost use Rattle.tcl_values.specs.Kept.{texts};
 ghost use Rattle.std.specs.Str.{chars};
 
-use crate::numbers::{too_large, truth_text};
+use crate::numbers::too_large;
 use std::alloc::{AllocError, Global};
 use std::cmp::Ordering;
 use tcl_chars::{Dialect, Fault, Whole, compare, is_text};
@@ -113,5 +113,5 @@ pub(crate) fn test(
         BinaryOp::NotEqual => compared(alloc, dialect, left, right)?.is_ne(),
         _ => unreachable!(),
     };
-    Ok(truth_text(holds))
+    Ok(Value::of_truth(holds))
 }

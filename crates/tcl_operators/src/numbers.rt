@@ -7,7 +7,7 @@ ghost use Rattle.tcl_chars.specs.Messages.{too_large, number, truth_or, truth_va
 ghost use Rattle.tcl_chars.specs.Texts.{text_of};
 ghost use Rattle.tcl_chars.specs.Truth.{truth_of};
 ghost use Rattle.tcl_meaning.specs.Operators.{non_numeric, operand_number};
-ghost use Rattle.tcl_pages.specs.Results.{in_decimal, truth_text};
+ghost use Rattle.tcl_pages.specs.Results.{in_decimal};
 
 use std::alloc::{AllocError, Global};
 use std::rc::RcStr;
@@ -91,17 +91,5 @@ pub(crate) fn in_decimal(alloc: Global, found: Result<i64, Arith>) -> Result<Val
     match found {
         Ok(number) => Ok(Value::of_int(number)),
         Err(refusal) => Err(Fault::Error(message(alloc, refusal.text())?)),
-    }
-}
-
-/// 1 or 0.
-#[tactic(auto, using(crate::proofs::Texts::one, crate::proofs::Texts::nought))]
-pub(crate) fn truth_text(holds: bool) -> Value
-    ensures { result ≡ truth_text holds }
-{
-    if holds {
-        Value::of_int(1)
-    } else {
-        Value::of_int(0)
     }
 }

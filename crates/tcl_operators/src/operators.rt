@@ -7,7 +7,7 @@ ghost use Rattle.tcl_meaning.specs.Operators.{operator, unary_answer, power_answ
 ghost use Rattle.std.specs.Str.{chars};
 
 use crate::comparisons::test;
-use crate::numbers::{in_decimal, operand, too_large, truth_operand, truth_text, truth_value};
+use crate::numbers::{in_decimal, operand, too_large, truth_operand, truth_value};
 use std::alloc::Global;
 use tcl_chars::{Dialect, Fault, Op, UnOp, Whole};
 use tcl_expr::{BinaryOp, UnaryOp};
@@ -48,7 +48,7 @@ pub fn unary(
         UnaryOp::Flip => arithmetic_unary(alloc, dialect, UnOp::BitNot, op.text(), value),
         UnaryOp::Not => {
             let holds = truth_operand(alloc, value, dialect, op.text())?;
-            Ok(truth_text(!holds))
+            Ok(Value::of_truth(!holds))
         }
     }
 }
@@ -99,7 +99,7 @@ pub fn truth(alloc: Global, dialect: Dialect, value: &mut Value) -> Result<Value
     ensures same { value.new ≡ value.old }
 {
     let holds = truth_value(alloc, value, dialect)?;
-    Ok(truth_text(holds))
+    Ok(Value::of_truth(holds))
 }
 
 /// The value of a whole expression whose last operator gave this one: a number in decimal, and any other text unchanged.

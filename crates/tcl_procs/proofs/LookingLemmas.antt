@@ -21,25 +21,10 @@ use Rattle.tcl_pages.specs.Answers.{Answer, ◌>>=◌ as andthen}
 use Rattle.tcl_pages.specs.Arguments.{one_argument}
 use Rattle.tcl_pages.specs.Texts.{Text}
 use Rattle.tcl_pages.specs.Usage.{usage}
-use Rattle.tcl_procs.specs.Looking.{of_kind, up_to_one}
+use Rattle.tcl_arguments.specs.UpToOne.{up_to_one}
+use Rattle.tcl_procs.specs.Looking.{of_kind}
 use Rattle.tcl_vars.specs.Comes.{BecomesIn}
 use Rattle.tcl_vars.specs.Ends.{first_step}
-
--- ---- a pattern or none
-
-pub no_pattern : (u : Text) (ws : List Text) → length ws ≡ 0 → up_to_one u ws ≡ Ok None
-no_pattern u [] h = refl
-no_pattern u (a ∷ ws) h = absurd (omega arith)
-
-pub a_pattern : (u : Text) (ws : List Text) → length ws ≢ 0 → length ws ≤ 1 → up_to_one u ws ≡ Ok (Some (word ws 0))
-a_pattern u [] h k = absurd (h refl)
-a_pattern u (a ∷ []) h k = refl
-a_pattern u (a ∷ b ∷ ws) h k = absurd (omega arith)
-
-pub many_patterns : (u : Text) (ws : List Text) → 1 < length ws → up_to_one u ws ≡ usage u
-many_patterns u [] h = absurd (omega arith)
-many_patterns u (a ∷ []) h = absurd (omega arith)
-many_patterns u (a ∷ b ∷ ws) h = refl
 
 -- ---- the names that are listed, one after another
 

@@ -1,8 +1,5 @@
 -- Commands that look at the command table: info(n).
-use Rattle.std.specs.Prelude.{Bool, true, false, List, [], ◌∷◌, Option, Some, None, Ok}
-use Rattle.tcl_pages.specs.Answers.{Answer}
-use Rattle.tcl_pages.specs.Texts.{Text}
-use Rattle.tcl_pages.specs.Usage.{usage}
+use Rattle.std.specs.Prelude.{Bool, true, false}
 use Rattle.tcl_meaning.specs.SeenPages.{any_command, is_procedure}
 use Rattle.tcl_meaning.specs.State.{Command}
 use Rattle.tcl_meaning.specs.declared.page.SeenPage.{SeenPage}
@@ -26,9 +23,3 @@ LooksAtCommands page.InfoVars = ⊥
 abbrev pub of_kind : Bool → Command → Bool
 of_kind true = is_procedure
 of_kind false = any_command
-
--- a pattern or none, as the words say
-abbrev pub up_to_one : Text → List Text → Answer (Option Text)
-up_to_one u [] = Ok None
-up_to_one u (pattern ∷ []) = Ok (Some pattern)
-up_to_one u _ = usage u

@@ -2,39 +2,17 @@
 ghost use Rattle.std.specs.Prelude.{◌≡◌, ◌&&◌, map as each, option_map, IfOk};
 ghost use Rattle.std.specs.FinMap as map;
 ghost use Rattle.std.specs.Str.{chars};
-ghost use Rattle.tcl_chars.specs.Answers.{Answers};
 ghost use Rattle.tcl_chars.specs.Texts.{text_of};
 ghost use Rattle.tcl_list.specs.Written.{written};
 ghost use Rattle.tcl_meaning.specs.Arrays.{name_fits};
 ghost use Rattle.tcl_meaning.specs.SeenPages as pages;
-ghost use Rattle.tcl_procs.specs.Looking.{of_kind, up_to_one};
+ghost use Rattle.tcl_procs.specs.Looking.{of_kind};
 
 use std::alloc::{AllocError, Global};
 use std::rc::RcStr;
-use tcl_arguments::{text_at, usage};
-use tcl_chars::Fault;
 use tcl_glob::glob_match;
 use tcl_table::{Command, Meaning, Table};
 use tcl_values::Value;
-
-/// The pattern, if there is one.
-#[tactic(auto, using(crate::proofs::LookingLemmas::no_pattern, crate::proofs::LookingLemmas::a_pattern, crate::proofs::LookingLemmas::many_patterns))]
-pub(crate) fn pattern_of(
-    alloc: Global,
-    words: &mut [Value],
-    form: &str,
-) -> Result<Option<RcStr>, Fault>
-    ensures pattern { Answers (λ p. option_map text_of p) result (up_to_one (chars form.now) words.old) }
-    ensures same { words.new ≡ words.old }
-{
-    if words.len() > 1 {
-        return Err(Fault::Error(usage(alloc, form)?));
-    }
-    if words.len() == 0 {
-        return Ok(None);
-    }
-    Ok(Some(text_at(alloc, words, 0)?))
-}
 
 // Does a name match the pattern, if there is one?
 fn name_fits(pattern: &Option<RcStr>, name: &str) -> bool

@@ -13,10 +13,10 @@ ghost use Rattle.tcl_procs.specs.Looking.{LooksAtCommands};
 ghost use Rattle.tcl_table.specs.Procedures.{formal_of, procedure_of};
 ghost use Rattle.tcl_vars.specs.Ends.{DoesIn};
 
-use crate::choosing::{command_names, pattern_of};
+use crate::choosing::command_names;
 use std::alloc::{AllocError, Global};
 use std::rc::{Rc, RcStr};
-use tcl_arguments::one_text;
+use tcl_arguments::{one_text, up_to_one_text};
 use tcl_chars::{Fault, push_text};
 use tcl_frames::without_colons;
 use tcl_meaning::SeenPage;
@@ -102,7 +102,7 @@ fn info_commands(alloc: Global, table: &Table, words: &mut [Value]) -> Result<Va
     ensures answer { (f : Standing) → Answers (λ v. v) result (pages.info_commands (store_of table.now f) words.old) }
     ensures same { words.new ≡ words.old }
 {
-    let pattern = pattern_of(alloc, words, "info commands ?pattern?")?;
+    let pattern = up_to_one_text(alloc, words, "info commands ?pattern?")?;
     Ok(command_names(alloc, table, false, &pattern)?)
 }
 
@@ -112,7 +112,7 @@ fn info_procs(alloc: Global, table: &Table, words: &mut [Value]) -> Result<Value
     ensures answer { (f : Standing) → Answers (λ v. v) result (pages.info_procs (store_of table.now f) words.old) }
     ensures same { words.new ≡ words.old }
 {
-    let pattern = pattern_of(alloc, words, "info procs ?pattern?")?;
+    let pattern = up_to_one_text(alloc, words, "info procs ?pattern?")?;
     Ok(command_names(alloc, table, true, &pattern)?)
 }
 

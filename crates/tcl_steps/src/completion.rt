@@ -3,10 +3,9 @@ ghost use Rattle.std.specs.Prelude.{◌≡◌, ◌≢◌, ◌++◌, true, false,
 ghost use Rattle.tcl_chars.specs.Texts.{text_of};
 ghost use Rattle.tcl_meaning.specs.Completions.{ended, normal, failure, nothing, code_now, code_number, options_text};
 ghost use Rattle.tcl_pages.specs.DictPages.{flat};
-ghost use Rattle.tcl_pages.specs.Texts.{count_text, number_text};
+ghost use Rattle.tcl_pages.specs.Texts.{number_text};
 ghost use Rattle.tcl_meaning.specs.declared.code.Code.TheVariants as code;
 
-use itoa::Buffer;
 use std::alloc::{AllocError, Global};
 use std::marker::Model;
 use std::rc::RcStr;
@@ -54,16 +53,6 @@ pub fn code_value(code: Code) -> Value
     ensures { result ≡ number_text (code_number code) }
 {
     Value::of_int(code_number(code))
-}
-
-// The decimal text of a count.
-fn count_value(alloc: Global, count: u64) -> Result<Value, AllocError>
-    ensures { IfOk result (λ value. value ≡ count_text count) }
-{
-    match i64::try_from(count) {
-        Ok(number) => Ok(Value::of_int(number)),
-        Err(_) => Ok(Value::of_text(message(alloc, Buffer::new().format(count))?)),
-    }
 }
 
 // Adds options, a name and a value in turn.
@@ -143,7 +132,7 @@ impl Completion {
         items.push(Value::of_text(message(alloc, "-code")?))?;
         items.push(code_value(self.code))?;
         items.push(Value::of_text(message(alloc, "-level")?))?;
-        items.push(count_value(alloc, self.level)?)?;
+        items.push(Value::of_count(alloc, self.level)?)?;
         push_options(&mut items, &self.options)?;
         Value::of_list(alloc, items)
     }

@@ -15,6 +15,7 @@ use Rattle.tcl_pages.specs.declared.formats.Size.TheVariants as size
 use Rattle.tcl_strings.specs.FieldGrammar.{minus, plus, zero_digit, dot, letter_l, IsFlags, IsHead, IsField}
 use Rattle.tcl_strings.specs.FieldLaws.{directive}
 use Rattle.tcl_strings.proofs.FieldSteps.{Goes, goes_then, flagged, flags_go, width_go, precision_go, InField, modifier_go, no_digit_is, step_read}
+use Rattle.std.proofs.Math.Bool.{or-false}
 
 -- ---- a head
 
@@ -22,13 +23,9 @@ use Rattle.tcl_strings.proofs.FieldSteps.{Goes, goes_then, flagged, flags_go, wi
 abbrev bare : Field → Field
 bare g = record g { width = size.Given 0; precision = None; conversion = conversion.Percent }
 
-or_false : (b : Bool) → (b || false) ≡ b
-or_false true = refl
-or_false false = refl
-
 same_flags : (t : Text) (g : Field) → IsFlags t g → flagged no_field t ≡ bare g
 same_flags t g h =
-    rw (h.1, h.2, h.3, h.4, h.5, or_false (is_of t minus), or_false (is_of t plus), or_false (is_of t space), or_false (is_of t zero_digit), or_false (is_of t number_sign)) refl
+    rw (h.1, h.2, h.3, h.4, h.5, or-false (is_of t minus), or-false (is_of t plus), or-false (is_of t space), or-false (is_of t zero_digit), or-false (is_of t number_sign)) refl
 
 flags_read : (t : Text) (g : Field) → IsFlags t g → Goes stage.Flags no_field t stage.Flags (bare g)
 flags_read t g h = subst (λ f. Goes stage.Flags no_field t stage.Flags f) (same_flags t g h) (flags_go no_field t h.0)

@@ -8,8 +8,6 @@ ghost use Rattle.tcl_chars.specs.Whole.{whole_of};
 ghost use Rattle.tcl_list.specs.Elements.{elements_of};
 ghost use Rattle.tcl_pages.specs.StringClasses as spec;
 
-use crate::places::value_of;
-use crate::search::truth_text;
 use std::alloc::Global;
 use std::rc::RcStr;
 use tcl_arguments::two_or_three_texts;
@@ -208,5 +206,5 @@ pub fn string_is(alloc: Global, words: &mut [Value], dialect: Dialect) -> Result
     let strict = is_strict(alloc, first.as_str(), &second)?;
     let text = text_or(&second, first.as_str());
     let truth = belongs(alloc, strict, class, text, dialect)?;
-    Ok(value_of(alloc, truth_text(truth))?)
+    Ok(Value::of_truth(truth))
 }

@@ -6,10 +6,8 @@ ghost use Rattle.std.specs.String.{string_bytes};
 ghost use Rattle.tcl_chars.specs.Answers.{Answers};
 ghost use Rattle.tcl_chars.specs.Texts.{text_of};
 ghost use Rattle.tcl_pages.specs.Strings as spec;
-ghost use Rattle.tcl_pages.specs.Texts.{count_text};
 
 use crate::ascii::{character_at, characters_between};
-use itoa::Buffer;
 use std::alloc::{AllocError, Global};
 use std::rc::RcStr;
 use tcl_arguments::{
@@ -115,16 +113,6 @@ pub(crate) fn value_of(alloc: Global, text: &str) -> Result<Value, AllocError>
     Ok(Value::of_text(RcStr::from_str(alloc, text)?))
 }
 
-/// The value that is a count in decimal.
-pub(crate) fn count_value(alloc: Global, count: usize) -> Result<Value, AllocError>
-    ensures { IfOk result (λ v. v ≡ count_text count) }
-{
-    match i64::try_from(count) {
-        Ok(number) => Ok(Value::of_int(number)),
-        Err(_) => value_of(alloc, Buffer::new().format(count)),
-    }
-}
-
 /// `string length string`: how many characters the text has.
 ///
 /// # Errors
@@ -137,11 +125,11 @@ pub fn string_length(alloc: Global, words: &mut [Value]) -> Result<Value, Fault>
 {
     if words.len() == 1 {
         if let Some(text) = words[0].ascii() {
-            return Ok(count_value(alloc, text.len())?);
+            return Ok(Value::of_count(alloc, text.len() as u64)?);
         }
     }
     let text = one_text(alloc, words, "string length string")?;
-    Ok(count_value(alloc, count(text.as_str()))?)
+    Ok(Value::of_count(alloc, count(text.as_str()) as u64)?)
 }
 
 /// `string index string charIndex`: the character at the place, or nothing.

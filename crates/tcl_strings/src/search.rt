@@ -4,11 +4,10 @@ ghost use Rattle.std.specs.Prelude.{◌≡◌, true, false, length, drop, option
 ghost use Rattle.std.specs.Str.{chars};
 ghost use Rattle.tcl_chars.specs.Answers.{Answers};
 ghost use Rattle.tcl_chars.specs.Texts.{text_of};
-ghost use Rattle.tcl_pages.specs.Results as truths;
 ghost use Rattle.tcl_pages.specs.Strings as spec;
 
 use crate::ascii::{first_in_bytes, last_in_bytes};
-use crate::places::{count, count_value, text_if, value_of};
+use crate::places::{count, text_if, value_of};
 use std::alloc::{AllocError, Global};
 use std::cmp::Ordering;
 use std::rc::RcStr;
@@ -26,13 +25,6 @@ fn order_text(order: Ordering) -> &'static str
         Ordering::Equal => "0",
         Ordering::Greater => "1",
     }
-}
-
-/// What a truth value is called.
-pub(crate) fn truth_text(truth: bool) -> &'static str
-    ensures { chars result.now ≡ truths.truth_text truth }
-{
-    if truth { "1" } else { "0" }
 }
 
 /// What the text has left behind a front, if it begins with it.
@@ -112,7 +104,7 @@ fn place_value(alloc: Global, place: Option<usize>) -> Result<Value, AllocError>
     ensures { IfOk result (λ v. v ≡ spec.place_text place) }
 {
     match place {
-        Some(place) => count_value(alloc, place),
+        Some(place) => Value::of_count(alloc, place as u64),
         None => value_of(alloc, "-1"),
     }
 }
@@ -170,7 +162,7 @@ pub fn string_equal(alloc: Global, words: &mut [Value]) -> Result<Value, Fault>
     ensures same { words.new ≡ words.old }
 {
     let (a, b) = two_texts(alloc, words, "string equal string1 string2")?;
-    Ok(value_of(alloc, truth_text(is_text(a.as_str(), b.as_str())))?)
+    Ok(Value::of_truth(is_text(a.as_str(), b.as_str())))
 }
 
 /// `string match pattern string`: 1 where the text matches the pattern, else 0.
@@ -183,10 +175,7 @@ pub fn string_match(alloc: Global, words: &mut [Value]) -> Result<Value, Fault>
     ensures same { words.new ≡ words.old }
 {
     let (pattern, text) = two_texts(alloc, words, "string match pattern string")?;
-    Ok(value_of(
-        alloc,
-        truth_text(glob_match(pattern.as_str(), text.as_str())),
-    )?)
+    Ok(Value::of_truth(glob_match(pattern.as_str(), text.as_str())))
 }
 
 /// `string first needleString haystackString ?startIndex?`: the first place of the needle that isn't before the start, or -1.

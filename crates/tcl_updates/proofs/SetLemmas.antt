@@ -1,9 +1,8 @@
 -- lset(n): the words but the last are indices.
 use Rattle.std.proofs.Common.{◌≡◌, ◌≢◌, ℕ, zero, suc, ◌+◌, ◌-◌, ◌≤◌, List, [], ◌∷◌, ◌++◌, take, drop, length, get_or, append_assoc, refl, sym, ap, ◌∙◌, arith, Ok, Err}
-use Rattle.std.proofs.lemmas.List.{take_all}
+use Rattle.std.proofs.lemmas.List.{take_all, append-nil}
 use Rattle.tcl_chars.specs.declared.numbers.Dialect.{Dialect}
 use Rattle.tcl_list.specs.Elements.{elements_of}
-use Rattle.tcl_lists.proofs.Joining.{right_nil}
 use Rattle.tcl_lists.specs.WordAt.{fault_in_front}
 use Rattle.tcl_pages.specs.Lists.{indices_of, element_set, set_by, lset}
 use Rattle.tcl_pages.specs.Texts.{Text}
@@ -33,7 +32,7 @@ more_indices ws is h k e = front_is (length ws - 1) ws (not_one ws h k) (shorter
 
 last_word : (d : Dialect) (t : Text) (front : List Text) (n : ℕ) (ws : List Text) → n + 1 ≡ length ws → lset_words d t front ws ≡ lset d t (front ++ take n ws) (get_or ws n [])
 last_word d t front zero [] h = absurd (omega arith)
-last_word d t front zero (v ∷ []) h = ap (λ is. lset d t is v) (sym (right_nil front))
+last_word d t front zero (v ∷ []) h = ap (λ is. lset d t is v) (sym (append-nil front))
 last_word d t front zero (v ∷ w ∷ ws) h = absurd (omega arith)
 last_word d t front (suc n) [] h = absurd (omega arith)
 last_word d t front (suc n) (i ∷ []) h = absurd (omega arith)

@@ -15,6 +15,7 @@ use Rattle.tcl_list.specs.Written.{appended, written}
 use Rattle.tcl_list.proofs.Joining.{appended_is_longer}
 use Rattle.tcl_pages.specs.Answers.{Answer, ◌>>=◌}
 use Rattle.tcl_pages.specs.Texts.{Text}
+use Rattle.tcl_values.proofs.ElementPlaces.{text_there}
 use Rattle.tcl_values.specs.Changes.{after, after_at}
 use Rattle.tcl_values.specs.Kept.{Kept, texts, depth_over}
 use Rattle.tcl_values.specs.declared.change.Change.{Change}
@@ -74,11 +75,6 @@ begun_stops c t f e done = subst (λ u. Stops f (after c u)) e done
 
 pub low_enough : (ks : List Kept) (i : ℕ) (k : Kept) (d : ℕ) → i < length ks → k ≡ get_or ks i k → depth_over ks ≤ d → d ≤ 64 → k.depth < 64
 low_enough ks i k d l is below limit = omega (arith, depth_below ks i k l is, below, limit)
-
-text_there : (ks : List Kept) (i : ℕ) (k : Kept) → i < length ks → k ≡ get_or ks i k → get_or (texts ks) i [] ≡ k.text
-text_there [] i k l is = absurd (omega arith)
-text_there (x ∷ ks) zero k l is = ap (λ (q : Kept). q.text) (sym is)
-text_there (x ∷ ks) (suc i) k l is = text_there ks i k (omega (arith, l)) is
 
 abbrev put_at : List Text → ℕ → Answer Text → Answer (List Text)
 put_at ts i r = r >>= λ new. Ok (slice_set ts i new)

@@ -2,6 +2,7 @@ pub mod Changed
 pub mod ChangedPairs
 pub mod Decimals
 pub mod Depths
+pub mod ElementPlaces
 pub mod Growth
 pub mod Joined
 pub mod Lengthened
@@ -10,3 +11,4 @@ pub mod PairPlaces
 pub mod PairTexts
 pub mod PairWriting
 pub mod Replaced
+pub mod Truths

@@ -25,9 +25,11 @@ mod element;
 mod items;
 mod list;
 mod literal;
+mod numerals;
 mod pairs;
 mod row;
 mod value;
+mod writing;
 
 pub use change::Change;
 pub use dictionary::Dictionary;

@@ -8,19 +8,16 @@ use Rattle.tcl_meaning.specs.Frames.{Frame}
 use Rattle.tcl_meaning.specs.State.{Channels, State}
 use Rattle.tcl_meaning.proofs.Frames.{exec_stays}
 use Rattle.tcl_vars.specs.Comes.{state_of, Comes}
+use Rattle.tcl_meaning.proofs.Soundness.{length_calls}
 
 nothing_leaves : (task : ⊥) (s : State) → FramesStay s.store (nothing_runs task s)
 nothing_leaves task s = absurd task
-
-counted : (fs : List Frame) → length (calls fs) ≡ length fs
-counted [] = refl
-counted (f ∷ fs) = ap suc (counted fs)
 
 -- a program that gives a value leaves as many frames
 pub given_count : {A : Type 0} (p : Plain A) (s t : State) (a : A) → does p s ≡ Gives a t → length t.store.frames ≡ length s.store.frames
 given_count p s t a e =
     let k = subst (λ r. FramesStay s.store r) e (exec_stays nothing_runs nothing_leaves p s) in
-    sym (counted t.store.frames) ∙ ap (λ xs. length xs) k.stack ∙ counted s.store.frames
+    sym (length_calls t.store.frames) ∙ ap (λ xs. length xs) k.stack ∙ length_calls s.store.frames
 
 no_channels : Channels
 no_channels = record { input = None; met_end = false; out = None; err = None }

@@ -18,7 +18,7 @@ use Rattle.tcl_meaning.specs.Substitution.{inside}
 use Rattle.tcl_meaning.specs.Tasks.{Step, Done, Evaluate, Pay, Owes, Loop}
 use Rattle.tcl_meaning.specs.Tasks as tasks
 use Rattle.tcl_meaning.specs.Value.{Value, completed}
-use Rattle.tcl_meaning.proofs.Runs.{exec_bind}
+use Rattle.tcl_meaning.proofs.Runs.{exec_bind, entered_units}
 use Rattle.tcl_code.specs.Instructions.{Instruction}
 use Rattle.tcl_code.specs.Machine.{first_spot}
 use Rattle.tcl_code.specs.Means.{EndsAs, Means, MeansExpr}
@@ -60,11 +60,6 @@ left_push (v ∷ ws) w = let e = left_push ws w in omega arith
 -- a code at its beginning
 pub begun_fits : (code : List Instruction) (d : ℕ) → Valid code → d ≤ most_depth → FitsHere (record { code = code; spot = first_spot d }) 0
 begun_fits code d v le = record { shape = bare; valid = v; comes = record { steps = 0; comes = (refl, refl) }; texts = refl; lists = refl; results = refl; brackets = omega arith; deep = le; paid_for = refl }
-
-pub entered_units : (scope : Scope) (s : State) → (entered scope s).units ≡ s.units
-entered_units Here s = refl
-entered_units (At level) s = refl
-entered_units (Within vs) s = refl
 
 entered_grow : (scope : Scope) (s : State) → OutputsBegin s.channels (entered scope s).channels
 entered_grow Here s = outputs_same s.channels

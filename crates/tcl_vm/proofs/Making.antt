@@ -30,12 +30,8 @@ use Rattle.tcl_steps.specs.declared.step.Step.{Step as Asked}
 use Rattle.tcl_vm.specs.declared.machine.Machine.{Machine}
 use Rattle.tcl_vm.specs.declared.machine.Waiting.{Waiting}
 use Rattle.tcl_vm.proofs.Turning.{config, refused}
-use Rattle.tcl_vm.proofs.Answering.{entered_units, pushed, on_done, on_run, on_evaluate, on_deep, on_deep_exit, on_deep_broken, on_unpaid, on_paid, on_paid_exit, on_paid_broken, on_end, on_back, on_back_exit, on_back_broken}
-
-entered_channels : (scope : Scope) (s : State) → (entered scope s).channels ≡ s.channels
-entered_channels Here s = refl
-entered_channels (At level) s = refl
-entered_channels (Within vs) s = refl
+use Rattle.tcl_vm.proofs.Answering.{pushed, on_done, on_run, on_evaluate, on_deep, on_deep_exit, on_deep_broken, on_unpaid, on_paid, on_paid_exit, on_paid_broken, on_end, on_back, on_back_exit, on_back_broken}
+use Rattle.tcl_meaning.proofs.Runs.{entered_units, entered_channels}
 
 undo_channels : (u : Undone) (s : State) → (undo u s).channels ≡ s.channels
 undo_channels Nothing s = refl

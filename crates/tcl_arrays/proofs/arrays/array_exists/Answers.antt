@@ -9,4 +9,4 @@ use Rattle.tcl_arrays.proofs.arrays.array_exists.Goals as goal
 pub returns-clause-answer : goal.returns-clause-answer
 returns-clause-answer c cs =
     exists_answer (store_of cs c.args.frames.now) c.args.words.now _ (chars c.as_str.result.now) c.is_some.result _ c.in_ok-name.ensures.text (ap chars c.as_str.ensures.value)
-    (c.is_some.ensures ∙ copied_some c.array.result ∙ ap is_some (c.array.ensures cs)) c.truth.ensures
+    (c.is_some.ensures ∙ copied_some c.array.result ∙ ap is_some (c.array.ensures cs)) c.of_truth.ensures

@@ -11,5 +11,5 @@ returns c =
     let is =
     options_are (completion_of c.self.inside) _ _ _ _ _ _ _ _ _ _ c.new-items.ensures.items c.in_ok-push.ensures.items c.in_ok-push-2.ensures.items c.in_ok-push-3.ensures.items c.in_ok-push-4.ensures.items
     (c.in_ok-push_options.ensures ∙ ap (λ os. c.push-4.new.self.items ++ flat os) c.deref.ensures.value) (c.of_text.ensures ∙ c.in_ok-message.ensures) c.code_value.ensures (c.of_text-2.ensures ∙ c.in_ok-message-2.ensures)
-    c.in_ok-count_value.ensures in
+    c.in_ok-of_count.ensures in
     subst (λ (t : Text). IfOk c.of_list.result (λ v. v ≡ t)) (is ∙ ap options_text c.self.view_is) c.of_list.ensures
