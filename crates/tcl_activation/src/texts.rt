@@ -10,31 +10,32 @@ use crate::progress::Progress;
 use crate::stack::{Stack, lifted};
 use crate::variables::{Unread, Variables};
 use std::alloc::{AllocError, Global};
-use tcl_chars::message;
+use std::rc::RcStr;
+use tcl_chars::push_text;
 use tcl_steps::Completion;
 use tcl_values::Value;
 
 // The texts as one.
-fn joined(alloc: Global, words: &mut [Value]) -> Result<Value, AllocError>
-    ensures { IfOk result (λ v. v ≡ concat words.old) }
+fn joined(alloc: Global, words: &[Value]) -> Result<Value, AllocError>
+    ensures { IfOk result (λ v. v ≡ concat words.now) }
 {
-    let mut whole = Value::of_text(message(alloc, "")?);
-    for place in 0..words.len() {
-        let text = words[place].text(alloc)?;
-        whole.append(alloc, text.as_str())?;
+    let mut whole = String::new(alloc);
+    for word in words {
+        word.write_to(alloc, &mut whole)?;
     }
-    Ok(whole)
+    Value::of_string(alloc, whole)
 }
 
 // The name of an array's element, as a script writes it.
-fn spelled_element(alloc: Global, mut name: Value, index: &mut Value) -> Result<Value, AllocError>
-    ensures { IfOk result (λ v. v ≡ spelled_element name index.old) }
+fn spelled_element(alloc: Global, name: &Value, index: &Value) -> Result<Value, AllocError>
+    ensures { IfOk result (λ v. v ≡ spelled_element name.now index.now) }
 {
-    let index = index.text(alloc)?;
-    name.append(alloc, "(")?;
-    name.append(alloc, index.as_str())?;
-    name.append(alloc, ")")?;
-    Ok(name)
+    let mut whole = String::new(alloc);
+    name.write_to(alloc, &mut whole)?;
+    push_text(&mut whole, "(")?;
+    index.write_to(alloc, &mut whole)?;
+    push_text(&mut whole, ")")?;
+    Ok(Value::of_text(RcStr::from_string(whole)?))
 }
 
 impl Stack {
@@ -79,8 +80,8 @@ impl Stack {
         requires { 1 ≤ length self.old.texts }
         ensures { Reads (F.store frames.now) (ReadElement name) self.old self.new result }
     {
-        let mut index = self.texts.pop();
-        let full = spelled_element(alloc, name, &mut index)?;
+        let index = self.texts.pop();
+        let full = spelled_element(alloc, &name, &index)?;
         self.read(alloc, frames, full)
     }
 
@@ -93,8 +94,8 @@ impl Stack {
         if count == 1 {
             return Ok(());
         }
-        let mut words = lifted(&mut self.texts, count)?;
-        let text = joined(alloc, &mut words)?;
+        let words = lifted(&mut self.texts, count)?;
+        let text = joined(alloc, &words)?;
         self.texts.push(text)
     }
 }
