@@ -3,6 +3,7 @@
 //! value where a call is refused.
 
 ghost use Rattle.std.specs.Prelude.{◌≡◌, ◌≤◌, ◌∷◌, [], ◌++◌, drop, length, map, take, IfOk, OnErr};
+ghost use Rattle.std.specs.Str.{chars};
 ghost use Rattle.tcl_chars.specs.Answers.{Answers};
 ghost use Rattle.tcl_chars.specs.Texts.{text_of};
 ghost use Rattle.tcl_dicts.specs.Levels.{changed, changed_known, level_text, rebuilt};
@@ -10,7 +11,7 @@ ghost use Rattle.tcl_pages.specs.DictPages as spec;
 ghost use Rattle.tcl_pages.specs.Updates.{dict_set_words};
 ghost use Rattle.tcl_values.specs.Lists.{Leaves};
 
-use crate::look::inner_of;
+use crate::look::unknown_key;
 use crate::update::value_or_empty;
 use crate::words::word_at;
 use std::alloc::{AllocError, Global};
@@ -38,6 +39,28 @@ fn keys_between(
     Ok(keys)
 }
 
+/// The value of a key of a dictionary, taken out where nobody else holds the dictionary, or the empty text where the key isn't there.
+fn taken_or_empty(alloc: Global, value: &mut Value, key: &str) -> Result<Value, Fault>
+    ensures value { Answers (λ v. v) result (spec.value_or [] value.old (chars key.now)) }
+    ensures same { value.new ≡ value.old }
+{
+    match value.dict_take(alloc, key)? {
+        Some(inner) => Ok(inner),
+        None => value_or_empty(alloc, value, key),
+    }
+}
+
+/// The value of a key of a dictionary, which has it, taken out where nobody else holds the dictionary.
+fn taken(alloc: Global, value: &mut Value, key: &str) -> Result<Value, Fault>
+    ensures inner { Answers (λ v. v) result (spec.inner_of value.old (chars key.now)) }
+    ensures same { value.new ≡ value.old }
+{
+    match value.dict_take(alloc, key)? {
+        Some(inner) => Ok(inner),
+        None => Err(Fault::Error(unknown_key(alloc, key)?)),
+    }
+}
+
 /// A value put back under the key of the innermost dictionary, that under the key of the one before, and so on.
 fn put_back(alloc: Global, levels: Vec<(Value, RcStr)>, value: Value) -> Result<Value, Fault>
     ensures { Answers (λ v. v) result (rebuilt (map level_text levels.items) value) }
@@ -59,7 +82,7 @@ fn with_value(alloc: Global, start: Value, keys: Vec<RcStr>, value: Value) -> Re
     let mut levels = Vec::with_capacity(alloc, keys.len())?;
     let mut level = start;
     for key in keys {
-        let inner = value_or_empty(alloc, &mut level, key.as_str())?;
+        let inner = taken_or_empty(alloc, &mut level, key.as_str())?;
         levels.push((level, key))?;
         level = inner;
     }
@@ -78,7 +101,7 @@ fn set_under(
     ensures done { Leaves value.new (changed value.old (text_of key) [] (λ old. spec.dict_set old new (map text_of keys.items))) result }
     ensures same { OnErr result (value.new ≡ value.old) }
 {
-    let inner = value_or_empty(alloc, value, key.as_str())?;
+    let inner = taken_or_empty(alloc, value, key.as_str())?;
     let inner = with_value(alloc, inner, keys, new)?;
     value.dict_put(alloc, key, inner)
 }
@@ -109,7 +132,7 @@ fn without_key(alloc: Global, start: Value, keys: Vec<RcStr>, last: RcStr) -> Re
     let mut levels = Vec::with_capacity(alloc, keys.len())?;
     let mut level = start;
     for key in keys {
-        let inner = inner_of(alloc, &mut level, key.as_str())?;
+        let inner = taken(alloc, &mut level, key.as_str())?;
         levels.push((level, key))?;
         level = inner;
     }
@@ -129,7 +152,7 @@ fn unset_under(
     ensures done { Leaves value.new (changed_known value.old (text_of key) (λ old. spec.dict_unset old (map text_of keys.items ++ text_of last ∷ []))) result }
     ensures same { OnErr result (value.new ≡ value.old) }
 {
-    let inner = inner_of(alloc, value, key.as_str())?;
+    let inner = taken(alloc, value, key.as_str())?;
     let less = without_key(alloc, inner, keys, last)?;
     value.dict_put(alloc, key, less)
 }

@@ -106,4 +106,4 @@ some_kept (Ok x) c own new key kept done same keys bare text size limit deeper =
   even = ap length keys ∙ kept.even ∙ sym size;
   reading = bare_reads new bare (reads_after (pairs_text own) (pairs_in own) (pairs_in new) key (after c (or_text [] (value_at key (pairs_in own)))) kept.reading done);
 }
-some_kept (Err f) c own new key kept done same keys bare text size limit deeper = (same_kept own new kept limit deeper keys same text).1
+some_kept (Err f) c own new key kept done same keys bare text size limit deeper = (same_kept own new kept limit deeper keys (ap texts same) text).1

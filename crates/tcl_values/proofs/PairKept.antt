@@ -15,6 +15,7 @@ use Rattle.tcl_values.specs.Paired.{read_pairs, zipped}
 use Rattle.tcl_values.specs.Shape.{elements, items_text, shared_text, shown_pairs, pairs_in, pairs_text, AreKept, ArePaired}
 use Rattle.tcl_values.specs.declared.element.Items.{Items}
 use Rattle.tcl_values.specs.declared.element.Pairs.{Pairs}
+use Rattle.tcl_values.proofs.ElementPlaces.{length_texts}
 use Rattle.tcl_values.proofs.Depths.{depth_over-push, depth_set-bound}
 use Rattle.tcl_values.proofs.PairTexts.{reads_none, reads_put, reads_without, reads_again}
 
@@ -42,10 +43,10 @@ less_kept own new k kept limit deeper even none less = record {
   reading = bare_reads new none (reads_without (pairs_text own) (pairs_in own) (pairs_in new) k kept.reading less);
 }
 
-pub same_pairs : (own new : Pairs) → new.keys.keys ≡ own.keys.keys → new.values.items ≡ own.values.items → pairs_in new ≡ pairs_in own
-same_pairs own new keys values = λ n. zipped (map text_of (keys n)) (texts (values n))
+pub same_pairs : (own new : Pairs) → new.keys.keys ≡ own.keys.keys → texts new.values.items ≡ texts own.values.items → pairs_in new ≡ pairs_in own
+same_pairs own new keys values = λ n. zipped (map text_of (keys n)) (values n)
 
-pub same_kept : (own new : Pairs) → ArePaired own → new.depth ≤ 64 → depth_over new.values.items ≤ new.depth → new.keys.keys ≡ own.keys.keys → new.values.items ≡ own.values.items → new.text ≡ own.text
+pub same_kept : (own new : Pairs) → ArePaired own → new.depth ≤ 64 → depth_over new.values.items ≤ new.depth → new.keys.keys ≡ own.keys.keys → texts new.values.items ≡ texts own.values.items → new.text ≡ own.text
     → (pairs_text new ≡ pairs_text own) × ArePaired new
 same_kept own new kept limit deeper keys values text =
     let text_same : pairs_text new ≡ pairs_text own = λ n. shown_pairs (shared_text (text n)) (same_pairs own new keys values n) in (
@@ -53,7 +54,7 @@ same_kept own new kept limit deeper keys values text =
       record {
         limit = limit;
         deeper = deeper;
-        even = ap length keys ∙ kept.even ∙ sym (ap length values);
+        even = ap length keys ∙ kept.even ∙ sym (length_texts own.values.items) ∙ sym (ap length values) ∙ length_texts new.values.items;
         reading = ap pairs_of text_same ∙ kept.reading ∙ ap Ok (sym (same_pairs own new keys values));
       },
     )
@@ -86,7 +87,7 @@ none_kept p one none keys values =
 -- the pairs alone
 pub bare_kept : (own new : Pairs) → ArePaired own → new.text ≡ None → new.depth ≡ own.depth → new.keys.keys ≡ own.keys.keys → new.values.items ≡ own.values.items → ArePaired new
 bare_kept own new kept none depth keys values =
-    let same : pairs_in new ≡ pairs_in own = same_pairs own new keys values in
+    let same : pairs_in new ≡ pairs_in own = same_pairs own new keys (ap texts values) in
     record {
       limit = omega (arith, depth, kept.limit);
       deeper = omega (arith, depth, ap depth_over values, kept.deeper);

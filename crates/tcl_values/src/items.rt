@@ -175,7 +175,7 @@ fn depth_after(elements: &[Element], whole: u8, before: u8, new: u8) -> u8
 }
 
 /// Puts another element at a place, and answers the one before.
-fn put(elements: &mut Vec<Element>, index: usize, element: Element) -> Element
+pub(crate) fn put(elements: &mut Vec<Element>, index: usize, element: Element) -> Element
     requires { index < length elements.old.items }
     ensures before { slice_get elements.old.items index ≡ Some result }
     ensures put { elements.new.items ≡ slice_set elements.old.items index element }

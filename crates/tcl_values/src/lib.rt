@@ -28,6 +28,7 @@ mod literal;
 mod numerals;
 mod pairs;
 mod row;
+mod taking;
 mod value;
 mod writing;
 
