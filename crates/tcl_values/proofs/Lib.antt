@@ -3,6 +3,7 @@ pub mod ChangedPairs
 pub mod Decimals
 pub mod Depths
 pub mod ElementPlaces
+pub mod Gathered
 pub mod Growth
 pub mod Joined
 pub mod Lengthened

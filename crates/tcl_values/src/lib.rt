@@ -14,6 +14,7 @@
 //! - [`Row`]: the elements of a value, to be looked at as a slice of [`Element`]s. It is a share of the value's list: drop it
 //!   before the value is changed, or the change copies the list.
 //! - [`Element`]: an element of a list. Its text is always there.
+//! - [`Gathering`]: elements and values, gathered one behind the other to be a list.
 //!
 //! A call that only reads leaves the value as it was, and so does one that is refused.
 #![tactic(auto)]
@@ -22,6 +23,7 @@ mod change;
 mod dict;
 mod dictionary;
 mod element;
+mod gathering;
 mod items;
 mod list;
 mod literal;
@@ -35,5 +37,6 @@ mod writing;
 pub use change::Change;
 pub use dictionary::Dictionary;
 pub use element::Element;
+pub use gathering::Gathering;
 pub use row::Row;
 pub use value::Value;

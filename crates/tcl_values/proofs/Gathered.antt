@@ -1,0 +1,94 @@
+-- Elements that are gathered to be a list.
+use Rattle.std.proofs.Common.{◌≡◌, ℕ, zero, suc, ◌+◌, ◌≤◌, ◌<◌, List, [], ◌∷◌, ◌++◌, length, get_or, max, map, take, drop, reverse, append_assoc, ap, sym, ◌∙◌, refl, arith}
+use Rattle.std.proofs.lemmas.List.{append-nil, map-append, reverse-append, take_more}
+use Rattle.tcl_pages.specs.Lists.{times}
+use Rattle.tcl_values.proofs.Depths.{depth_over-push, depth_take, depth_drop}
+use Rattle.tcl_values.specs.Kept.{Kept, texts, depth_over}
+
+least : (ks : List Kept) → 1 ≤ depth_over ks
+least [] = omega arith
+least (k ∷ ks) = omega arith
+
+over_append : (ks ls : List Kept) → depth_over (ks ++ ls) ≡ max (depth_over ks) (depth_over ls)
+over_append [] ls = omega (arith, least ls)
+over_append (k ∷ ks) ls = omega (arith, over_append ks ls)
+
+over_reverse : (ks : List Kept) → depth_over (reverse ks) ≡ depth_over ks
+over_reverse [] = refl
+over_reverse (k ∷ ks) =
+    let e : reverse (k ∷ ks) ≡ reverse ks ++ k ∷ [] = reverse-append (k ∷ []) ks in
+    omega (arith, ap depth_over e, depth_over-push (reverse ks) k, over_reverse ks)
+
+texts_front : (n : ℕ) (ks : List Kept) → texts (take n ks) ≡ take n (texts ks)
+texts_front zero ks = refl
+texts_front (suc n) [] = refl
+texts_front (suc n) (k ∷ ks) = ap (λ ts. k.text ∷ ts) (texts_front n ks)
+
+texts_rest : (n : ℕ) (ks : List Kept) → texts (drop n ks) ≡ drop n (texts ks)
+texts_rest zero ks = refl
+texts_rest (suc n) [] = refl
+texts_rest (suc n) (k ∷ ks) = texts_rest n ks
+
+-- ---- no list among them
+
+pub at_most_one : (ks : List Kept) (m : ℕ) → depth_over ks ≤ m → m ≤ 1 → m ≡ depth_over ks
+at_most_one ks m d l = omega (arith, least ks, d, l)
+
+-- ---- some elements of a list behind them
+
+pub part_deeper : (old part now row : List Kept) (first last d r m : ℕ) → now ≡ old ++ part → part ≡ drop first (take last row) → depth_over old ≤ d → r ≡ depth_over row → m ≡ max d r → depth_over now ≤ m
+part_deeper old part now row first last d r m e p deep exact most =
+    omega (arith, ap depth_over e, over_append old part, ap depth_over p, depth_drop first (take last row), depth_take last row, deep, exact, most)
+
+pub part_texts : (old part now row : List Kept) (first last : ℕ) (s t : List (List ℕ)) → now ≡ old ++ part → part ≡ drop first (take last row) → texts old ≡ s → texts row ≡ t → texts now ≡ s ++ drop first (take last t)
+part_texts old part now row first last s t e p is_old is_row =
+    ap texts e ∙ map-append (λ (k : Kept). k.text) old part
+    ∙ ap (λ ts. texts old ++ ts) (ap texts p ∙ texts_rest first (take last row) ∙ ap (drop first) (texts_front last row) ∙ ap (λ ts. drop first (take last ts)) is_row)
+    ∙ ap (λ ts. ts ++ drop first (take last t)) is_old
+
+-- ---- one element behind them
+
+pub came_deeper : (ks more : List Kept) (k : Kept) (d e n : ℕ) → depth_over ks ≤ d → more ≡ ks ++ k ∷ [] → e ≡ k.depth → n ≡ max d (e + 1) → depth_over more ≤ n
+came_deeper ks more k d e n deep m same most = omega (arith, ap depth_over m, depth_over-push ks k, deep, same, most)
+
+pub came_texts : (old now new : List Kept) (k : Kept) (ts : List (List ℕ)) (i : ℕ) (t : List ℕ) → i < length ts → t ≡ get_or ts i t → new ≡ now ++ k ∷ [] → k.text ≡ t → texts now ≡ texts old ++ take i ts → texts new ≡ texts old ++ take (i + 1) ts
+came_texts old now new k ts i t l is e said same =
+    ap texts e ∙ map-append (λ (q : Kept). q.text) now (k ∷ []) ∙ ap (λ us. us ++ k.text ∷ []) same ∙ append_assoc (texts old) (take i ts) (k.text ∷ [])
+    ∙ ap (λ us. texts old ++ us) (ap (λ x. take i ts ++ x ∷ []) (said ∙ is) ∙ sym (take_more ts i t l))
+
+-- ---- turned round
+
+pub turned_deeper : (ks now : List Kept) (d : ℕ) → now ≡ reverse ks → depth_over ks ≤ d → depth_over now ≤ d
+turned_deeper ks now d e deep = omega (arith, ap depth_over e, over_reverse ks, deep)
+
+texts_reverse : (ks : List Kept) → texts (reverse ks) ≡ reverse (texts ks)
+texts_reverse [] = refl
+texts_reverse (k ∷ ks) =
+    ap texts (reverse-append (k ∷ []) ks) ∙ map-append (λ (q : Kept). q.text) (reverse ks) (k ∷ []) ∙ ap (λ ts. ts ++ k.text ∷ []) (texts_reverse ks) ∙ sym (reverse-append (k.text ∷ []) (texts ks))
+
+pub turned_texts : (ks now : List Kept) (s : List (List ℕ)) → now ≡ reverse ks → texts ks ≡ s → texts now ≡ reverse s
+turned_texts ks now s e is = ap texts e ∙ texts_reverse ks ∙ ap reverse is
+
+-- ---- many times
+
+times_back : (n : ℕ) (es : List (List ℕ)) → times n es ++ es ≡ times (suc n) es
+times_back zero es = sym (append-nil es)
+times_back (suc n) es = append_assoc es (times n es) es ∙ ap (λ us. es ++ us) (times_back n es)
+
+times_more : (n : ℕ) (es : List (List ℕ)) → times n es ++ es ≡ times (n + 1) es
+times_more n es =
+    let e : suc n ≡ n + 1 = omega arith in
+    times_back n es ∙ ap (λ (m : ℕ). times m es) e
+
+pub once_more : (old now new more : List Kept) (n : ℕ) → new ≡ now ++ more → texts now ≡ texts old ++ times n (texts more) → texts new ≡ texts old ++ times (n + 1) (texts more)
+once_more old now new more n e same =
+    ap texts e ∙ map-append (λ (k : Kept). k.text) now more ∙ ap (λ ts. ts ++ texts more) same ∙ append_assoc (texts old) (times n (texts more)) (texts more)
+    ∙ ap (λ ts. texts old ++ ts) (times_more n (texts more))
+
+pub no_deeper : (old now new more : List Kept) → new ≡ now ++ more → depth_over now ≤ max (depth_over old) (depth_over more) → depth_over new ≤ max (depth_over old) (depth_over more)
+no_deeper old now new more e deep = omega (arith, ap depth_over e, over_append now more, deep)
+
+pub many_deeper : (ks now start part : List Kept) (d : ℕ) → start ≡ [] → part ≡ ks → depth_over now ≤ max (depth_over start) (depth_over part) → depth_over ks ≤ d → depth_over now ≤ d
+many_deeper ks now start part d none same most deep =
+    let one : depth_over start ≡ 1 = ap depth_over none in
+    omega (arith, one, ap depth_over same, least ks, most, deep)

@@ -1,0 +1,193 @@
+//! Elements that are gathered one behind the other, to be a list.
+
+ghost use Rattle.std.specs.Prelude.{◌≡◌, ◌≤◌, ◌++◌, [], drop, max, take, reverse, IfOk, IfSome, OnOk};
+ghost use Rattle.tcl_list.specs.Written.{written};
+ghost use Rattle.tcl_pages.specs.Lists.{times};
+ghost use Rattle.tcl_values.specs.Kept.{texts, depth_over};
+ghost use Rattle.tcl_values.specs.Shape.{elements};
+
+use crate::element::{Element, Items};
+use crate::items::deepest;
+use crate::row::Row;
+use crate::value::{Held, Value};
+use std::alloc::{AllocError, Global};
+use std::marker::Model;
+use std::rc::Rc;
+
+/// Elements, and how deep a list of them is at most. Each stands there once, as it is kept in the list.
+#[derive(Drop)]
+pub struct Gathering {
+    depth: u8,
+    items: Vec<Element>,
+}
+
+impl Model for Gathering {
+    ghost use Rattle.std.specs.Prelude.{List, ℕ};
+
+    ghost Value = { List (List ℕ) };
+
+    ghost use Rattle.tcl_values.specs.Gathered.{gathered_texts, IsGathering};
+
+    ghost view = { gathered_texts };
+
+    ghost invariant = { IsGathering };
+}
+
+/// Some elements of a list: those from the place `first` on, in front of `last`.
+fn between(row: &Items, first: usize, last: usize) -> &[Element]
+    ensures { result.now ≡ drop first (take last (elements row.now)) }
+{
+    let front = match row.items.get(..last) {
+        Some(front) => front,
+        None => &row.items,
+    };
+    match front.get(first..) {
+        Some(part) => part,
+        None => &[],
+    }
+}
+
+/// Adds copies of elements at the end of others. What is kept of them is shared.
+fn add_copies(items: &mut Vec<Element>, more: &[Element]) -> Result<(), AllocError>
+    ensures { OnOk result (items.new.items ≡ items.old.items ++ more.now) }
+{
+    items.reserve(more.len())?;
+    for element in more {
+        items.push(element.duplicate()?)?;
+    }
+    Ok(())
+}
+
+/// Adds values at the end of elements, of which a list is no deeper than so much, and answers how deep a list of all is at most.
+fn add_values(
+    alloc: Global,
+    items: &mut Vec<Element>,
+    depth: u8,
+    more: &[Value],
+) -> Result<u8, AllocError>
+    requires deeper { depth_over items.old.items ≤ depth }
+    requires limit { depth ≤ 64 }
+    ensures texts { OnOk result (texts items.new.items ≡ texts items.old.items ++ more.now) }
+    ensures deeper { IfOk result (λ d. depth_over items.new.items ≤ d) }
+    ensures limit { IfOk result (λ d. d ≤ 64) }
+{
+    items.reserve(more.len())?;
+    let mut deepest = depth;
+    for value in more {
+        let element = value.copy()?.into_element(alloc)?;
+        deepest = deepest.max(element.depth() + 1);
+        items.push(element)?;
+    }
+    Ok(deepest)
+}
+
+/// Adds copies of elements so many times.
+fn add_times(items: &mut Vec<Element>, more: &[Element], count: u64) -> Result<(), AllocError>
+    ensures texts { OnOk result (texts items.new.items ≡ texts items.old.items ++ times count (texts more.now)) }
+    ensures depth { OnOk result (depth_over items.new.items ≤ max (depth_over items.old.items) (depth_over more.now)) }
+{
+    for done in 0..count {
+        add_copies(items, more)?;
+    }
+    Ok(())
+}
+
+/// How deep a list of these elements is, which is no deeper than so much. Where no element is a list, none is looked at.
+fn depth_within(elements: &[Element], most: u8) -> u8
+    requires deeper { depth_over elements.now ≤ most }
+    requires limit { most ≤ 64 }
+    ensures { result ≡ depth_over elements.now }
+{
+    if most <= 1 {
+        return most;
+    }
+    deepest(elements)
+}
+
+impl Gathering {
+    /// None yet, with room for so many.
+    pub fn with_capacity(alloc: Global, count: usize) -> Result<Gathering, AllocError>
+        ensures { IfOk result (λ g. g ≡ []) }
+    {
+        Ok(Gathering {
+            depth: 1,
+            items: Vec::with_capacity(alloc, count)?,
+        })
+    }
+
+    /// Behind them those of a row from the place `first` on, in front of `last`. What is kept of them is shared.
+    pub fn with_part(self, row: &Row, first: usize, last: usize) -> Result<Gathering, AllocError>
+        ensures { IfOk result (λ g. g ≡ self ++ drop first (take last row.now)) }
+    {
+        let mut items = self.items;
+        add_copies(&mut items, between(&row.items, first, last))?;
+        Ok(Gathering {
+            depth: self.depth.max(row.items.depth),
+            items,
+        })
+    }
+
+    /// Behind them values.
+    pub fn with_values(self, alloc: Global, values: &[Value]) -> Result<Gathering, AllocError>
+        ensures { IfOk result (λ g. g ≡ self ++ values.now) }
+    {
+        let mut items = self.items;
+        let depth = add_values(alloc, &mut items, self.depth, values)?;
+        Ok(Gathering { depth, items })
+    }
+
+    /// They the other way round.
+    pub fn reversed(self) -> Gathering
+        ensures { result ≡ reverse self }
+    {
+        let depth = self.depth;
+        let mut items = self.items;
+        items.reverse();
+        Gathering { depth, items }
+    }
+
+    /// They so many times.
+    pub fn repeated(self, alloc: Global, count: u64) -> Result<Gathering, AllocError>
+        ensures { IfOk result (λ g. g ≡ times count self) }
+    {
+        let size = (self.items.len() as u64).saturating_mul(count) as usize;
+        let mut items = Vec::with_capacity(alloc, size)?;
+        add_times(&mut items, &self.items, count)?;
+        Ok(Gathering {
+            depth: self.depth,
+            items,
+        })
+    }
+
+    /// The value that is a list of them: their written form (list(n)).
+    pub fn into_value(self, alloc: Global) -> Result<Value, AllocError>
+        ensures { IfOk result (λ v. v ≡ written self) }
+    {
+        let depth = depth_within(&self.items, self.depth);
+        let row = Items {
+            text: None,
+            depth,
+            items: self.items,
+        };
+        Ok(Value {
+            held: Held::Row(Rc::new(alloc, row)?),
+        })
+    }
+}
+
+impl Value {
+    /// The elements, where the value is kept as a list and nobody has asked for its text: the text is then how they are written.
+    pub fn unwritten(&self) -> Result<Option<Row>, AllocError>
+        ensures { IfOk result (λ o. IfSome o (λ r. self.now ≡ written r)) }
+    {
+        match &self.held {
+            Held::Row(row) => match &row.text {
+                Some(_) => Ok(None),
+                None => Ok(Some(Row {
+                    items: row.clone()?,
+                })),
+            },
+            _ => Ok(None),
+        }
+    }
+}
