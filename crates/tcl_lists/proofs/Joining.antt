@@ -144,6 +144,10 @@ times_none zero es h = refl
 times_none (suc n) [] h = times_none n [] h
 times_none (suc n) (e ∷ es) h = absurd (omega arith)
 
+pub times_same : (n : ℕ) (es : List Text) → length es ≡ 0 → es ≡ times n es
+times_same n [] h = sym (times_none n [] refl)
+times_same n (e ∷ es) h = absurd (omega arith)
+
 pub concat_step : (ws : List Text) (i : ℕ) (t e joined new : Text) → i < length ws → t ≡ word ws i → e ≡ trimmed_end (skip_space t) → joined ≡ concat (take i ws) → new ≡ with_word joined e → new ≡ concat (take (i + 1) ws)
 concat_step ws i t e joined new h et ee ej en =
     en ∙ ap (λ u. with_word u e) ej ∙ ap (with_word (concat (take i ws))) (ee ∙ ap trimmed et) ∙ sym (concat_more (take i ws) (word ws i)) ∙ ap concat (sym (take_more ws i [] h))

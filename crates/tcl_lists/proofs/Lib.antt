@@ -1,3 +1,4 @@
+pub mod Chained
 pub mod IndexLemmas
 pub mod Joining
 pub mod LsortLemmas

@@ -4,34 +4,12 @@ ghost use Rattle.std.specs.Prelude.{◌≡◌, take, drop, IfOk};
 ghost use Rattle.tcl_chars.specs.Answers.{Answers};
 ghost use Rattle.tcl_list.specs.Written.{written};
 ghost use Rattle.tcl_pages.specs.Lists as spec;
-ghost use Rattle.tcl_values.specs.Kept.{texts};
 
 use crate::message::usage;
-use crate::whole::{push_elements, push_values};
 use crate::words::{behind, clamped, index_at, row_at};
 use std::alloc::{AllocError, Global};
 use tcl_chars::{Dialect, Fault};
-use tcl_values::{Element, Value};
-
-/// The first elements, so many, or all where there are fewer.
-fn front(elements: &[Element], count: usize) -> &[Element]
-    ensures { result.now ≡ take count elements.now }
-{
-    match elements.get(..count) {
-        Some(some) => some,
-        None => elements,
-    }
-}
-
-/// The elements from a place on.
-fn rest(elements: &[Element], first: usize) -> &[Element]
-    ensures { result.now ≡ drop first elements.now }
-{
-    match elements.get(first..) {
-        Some(some) => some,
-        None => &[],
-    }
-}
+use tcl_values::{Gathering, Row, Value};
 
 /// The values from a place on.
 pub(crate) fn values_from(values: &[Value], first: usize) -> &[Value]
@@ -44,30 +22,34 @@ pub(crate) fn values_from(values: &[Value], first: usize) -> &[Value]
 }
 
 /// The list of the elements from `first` on, in front of `last`.
-fn part(alloc: Global, elements: &[Element], first: usize, last: usize) -> Result<Value, AllocError>
-    ensures { IfOk result (λ v. v ≡ written (drop first (take last (texts elements.now)))) }
+fn part(alloc: Global, row: &Row, first: usize, last: usize) -> Result<Value, AllocError>
+    ensures { IfOk result (λ v. v ≡ written (drop first (take last row.now))) }
 {
-    let mut values = Vec::new(alloc);
-    push_elements(&mut values, rest(front(elements, last), first))?;
-    Value::of_list(alloc, values)
+    let room = last.saturating_sub(first);
+    let some = Gathering::with_capacity(alloc, room)?.with_part(row, first, last)?;
+    some.into_value(alloc)
 }
 
 /// The list of elements where those of `new` from `begin` on stand in place of those from `first` on, in front of `last`.
 fn spliced(
     alloc: Global,
-    elements: &[Element],
+    row: &Row,
     first: usize,
     last: usize,
     new: &[Value],
     begin: usize,
 ) -> Result<Value, AllocError>
-    ensures { IfOk result (λ v. v ≡ written (spec.replaced (texts elements.now) first last (drop begin new.now))) }
+    ensures { IfOk result (λ v. v ≡ written (spec.replaced row.now first last (drop begin new.now))) }
 {
-    let mut values = Vec::new(alloc);
-    push_elements(&mut values, front(elements, first))?;
-    push_values(&mut values, values_from(new, begin))?;
-    push_elements(&mut values, rest(elements, first.max(last)))?;
-    Value::of_list(alloc, values)
+    let count = row.len();
+    let rest = first.max(last);
+    let inserted = values_from(new, begin);
+    let left = first.min(count).saturating_add(count.saturating_sub(rest));
+    let room = left.saturating_add(inserted.len());
+    let front = Gathering::with_capacity(alloc, room)?.with_part(row, 0, first)?;
+    let longer = front.with_values(alloc, inserted)?;
+    let all = longer.with_part(row, rest, count)?;
+    all.into_value(alloc)
 }
 
 /// `lrange list first last`: the list of the elements from the first place to the last one.
@@ -86,12 +68,7 @@ pub fn lrange(alloc: Global, words: &mut [Value], dialect: Dialect) -> Result<Va
     let count = row.items().len();
     let first = index_at(alloc, words, 1, count, dialect)?;
     let last = index_at(alloc, words, 2, count, dialect)?;
-    Ok(part(
-        alloc,
-        row.items(),
-        clamped(first, count),
-        behind(last, count),
-    )?)
+    Ok(part(alloc, &row, clamped(first, count), behind(last, count))?)
 }
 
 /// `linsert list index ?element ...?`: the list with elements in front of the place, where `end` is behind the last element.
@@ -110,7 +87,7 @@ pub fn linsert(alloc: Global, words: &mut [Value], dialect: Dialect) -> Result<V
     let count = row.items().len();
     let place = index_at(alloc, words, 1, count + 1, dialect)?;
     let place = clamped(place, count);
-    Ok(spliced(alloc, row.items(), place, place, &*words, 2)?)
+    Ok(spliced(alloc, &row, place, place, &*words, 2)?)
 }
 
 /// `lreplace list first last ?element ...?`: the list with elements in place of those from the first place to the last one.
@@ -129,12 +106,7 @@ pub fn lreplace(alloc: Global, words: &mut [Value], dialect: Dialect) -> Result<
     let count = row.items().len();
     let first = index_at(alloc, words, 1, count, dialect)?;
     let last = index_at(alloc, words, 2, count, dialect)?;
-    Ok(spliced(
-        alloc,
-        row.items(),
-        clamped(first, count),
-        behind(last, count),
-        &*words,
-        3,
-    )?)
+    let begin = clamped(first, count);
+    let end = behind(last, count);
+    Ok(spliced(alloc, &row, begin, end, &*words, 3)?)
 }

@@ -7,25 +7,20 @@ ghost use Rattle.tcl_pages.specs.Lists as spec;
 
 use crate::message::usage;
 use crate::range::values_from;
-use crate::whole::push_values;
 use crate::words::text_at;
 use std::alloc::{AllocError, Global};
 use tcl_chars::{Dialect, Fault, about, expect_number};
-use tcl_values::Value;
+use tcl_values::{Gathering, Value};
 
 /// The list of the values so many times.
 fn repeated(alloc: Global, values: &[Value], count: u64) -> Result<Value, AllocError>
     ensures { IfOk result (λ v. v ≡ written (spec.times count values.now)) }
 {
-    let mut all = Vec::new(alloc);
+    let once = Gathering::with_capacity(alloc, values.len())?.with_values(alloc, values)?;
     if values.len() == 0 {
-        return Value::of_list(alloc, all);
+        return once.into_value(alloc);
     }
-    all.reserve((values.len() as u64).saturating_mul(count) as usize)?;
-    for done in 0..count {
-        push_values(&mut all, values)?;
-    }
-    Value::of_list(alloc, all)
+    once.repeated(alloc, count)?.into_value(alloc)
 }
 
 /// `lrepeat count ?element ...?`: the list of the elements so many times.

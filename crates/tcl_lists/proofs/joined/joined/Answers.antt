@@ -4,7 +4,7 @@ use Rattle.std.specs.Str.{chars}
 use Rattle.tcl_pages.specs.Lists.{trimmed_end}
 use Rattle.tcl_lists.specs.WordAt.{word}
 use Rattle.tcl_lists.proofs.Joining.{concat_step}
-use Rattle.tcl_lists.proofs.joined.concat.Goals as goal
+use Rattle.tcl_lists.proofs.joined.joined.Goals as goal
 
 pub loop-place-init : goal.loop-place-init
 loop-place-init c = record { same = refl; joined = ap chars c.new-joined.ensures.bytes ∙ chars-nil }

@@ -2,7 +2,7 @@ use Rattle.std.proofs.Common.{◌≡◌, take}
 use Rattle.std.specs.Str.{chars}
 use Rattle.std.specs.String.{string_bytes}
 use Rattle.tcl_pages.specs.Lists.{concat}
-use Rattle.tcl_lists.proofs.joined.concat.Given as goal
+use Rattle.tcl_lists.proofs.joined.joined.Given as goal
 
 abbrev pub invariant-loop-place : goal.invariant-loop-place
 invariant-loop-place l = record {

@@ -1,6 +1,0 @@
-use Rattle.std.proofs.Common.{◌≡◌, ◌++◌, take}
-use Rattle.tcl_values.specs.Kept.{texts}
-use Rattle.tcl_lists.proofs.whole.push_elements.Given as goal
-
-abbrev pub invariant-loop-element : goal.invariant-loop-element
-invariant-loop-element l = l.values.items ≡ l.fn.values.items ++ texts (take l.element-index l.more)
