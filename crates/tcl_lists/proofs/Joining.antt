@@ -6,7 +6,6 @@ use Rattle.tcl_chars.specs.Characters.{backslash}
 use Rattle.tcl_chars.specs.Classes.{is_list_space}
 use Rattle.std.proofs.lemmas.List.{take_more, append-nil}
 use Rattle.tcl_chars.specs.Whole.{skip_space}
-use Rattle.tcl_lists.proofs.IndexLemmas.{one_more}
 use Rattle.tcl_lists.specs.WordAt.{word}
 use Rattle.tcl_lists.specs.Joined.{is_empty, with_word}
 use Rattle.tcl_pages.specs.Lists.{trimmed_end, end_kept, behind_kept, trimmed, unless_empty, all_trimmed, concat, times}
@@ -131,13 +130,6 @@ stands_behind [] (c ∷ cs) h k = absurd (false≢true (sym k))
 stands_behind (a ∷ t) (c ∷ cs) h k = ap (λ u. a ∷ u) (append_assoc t (32 ∷ []) (c ∷ cs))
 
 -- ---- elements many times
-
-times_back : (n : ℕ) (es : List Text) → times n es ++ es ≡ times (suc n) es
-times_back zero es = sym (append-nil es)
-times_back (suc n) es = append_assoc es (times n es) es ∙ ap (λ us. es ++ us) (times_back n es)
-
-pub times_more : (n : ℕ) (es : List Text) → times n es ++ es ≡ times (n + 1) es
-times_more n es = times_back n es ∙ ap (λ (m : ℕ). times m es) (one_more n)
 
 pub times_none : (n : ℕ) (es : List Text) → length es ≡ 0 → times n es ≡ []
 times_none zero es h = refl

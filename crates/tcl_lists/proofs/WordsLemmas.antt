@@ -1,5 +1,5 @@
 -- Words by their places.
-use Rattle.std.proofs.Common.{◌≡◌, ◌≢◌, ℕ, zero, suc, ◌+◌, ◌≤◌, ◌<◌, ℤ, pos, negsuc, true, ltb-true, List, [], ◌∷◌, length, drop, take, ◌++◌, append_assoc, Ok, Err, sym, ap, ◌∙◌, refl, arith}
+use Rattle.std.proofs.Common.{◌≡◌, ◌≢◌, ℕ, ◌+◌, ◌≤◌, ◌<◌, ℤ, pos, negsuc, true, ltb-true, List, [], ◌∷◌, length, drop, take, ◌++◌, append_assoc, Ok, Err, sym, ap, ◌∙◌, refl, arith}
 use Rattle.std.specs.Prelude.{◌+ℤ◌, int_lt}
 use Rattle.tcl_chars.specs.Messages.{about, number}
 use Rattle.std.proofs.lemmas.List.{length-map}
@@ -70,19 +70,6 @@ lrepeat_usage d (a ∷ ws) h = absurd (omega arith)
 
 pub count_is : (ks : List Kept) (es : List Text) → texts ks ≡ es → length ks ≡ length es
 count_is ks es e = sym (length-map ks (λ (k : Kept). k.text)) ∙ ap length e
-
-pub texts_front : (n : ℕ) (ks : List Kept) → texts (take n ks) ≡ take n (texts ks)
-texts_front zero ks = refl
-texts_front (suc n) [] = refl
-texts_front (suc n) (k ∷ ks) = ap (λ ts. k.text ∷ ts) (texts_front n ks)
-
-pub texts_rest : (n : ℕ) (ks : List Kept) → texts (drop n ks) ≡ drop n (texts ks)
-texts_rest zero ks = refl
-texts_rest (suc n) [] = refl
-texts_rest (suc n) (k ∷ ks) = texts_rest n ks
-
-pub texts_part : (first last : ℕ) (ks : List Kept) → texts (drop first (take last ks)) ≡ drop first (take last (texts ks))
-texts_part first last ks = texts_rest first (take last ks) ∙ ap (drop first) (texts_front last ks)
 
 pub in_three : (m0 m1 m2 m3 a b c : List Text) → m0 ≡ [] → m1 ≡ m0 ++ a → m2 ≡ m1 ++ b → m3 ≡ m2 ++ c → m3 ≡ a ++ (b ++ c)
 in_three m0 m1 m2 m3 a b c e0 e1 e2 e3 = e3 ∙ ap (λ t. t ++ c) (e2 ∙ ap (λ t. t ++ b) (e1 ∙ ap (λ t. t ++ a) e0)) ∙ append_assoc a b c
