@@ -4,11 +4,12 @@ use Rattle.std.proofs.Common.{inl, inr}
 use Rattle.std.specs.Coded.{Coded, code_by, coded_ℕ, coded_list, coded×, coded_option, coded⊎}
 use Rattle.tcl_names.specs.Named.{named_code}
 use Rattle.tcl_pages.specs.Texts.{Text}
+use Rattle.tcl_table.specs.Noted.{Noted}
 use Rattle.tcl_meaning.specs.State.{Formal, Procedure, Command, Commands, built_in, procedure}
 use Rattle.tcl_meaning.specs.declared.page.BuiltIn.{BuiltIn}
 use Rattle.tcl_meaning.specs.contracts.page.BuiltIn as built
 
-abbrev text_code : Coded Text
+abbrev pub text_code : Coded Text
 text_code = coded_list coded_ℕ
 
 abbrev formal_code : Coded Formal
@@ -34,3 +35,6 @@ command_code = code_by (BuiltIn ⊎ Procedure) (coded⊎ built.the_row.coded pro
 
 abbrev pub commands_code : Coded Commands
 commands_code = named_code command_code
+
+abbrev pub noted_code : Coded Noted
+noted_code = coded_list (coded× text_code (coded_option command_code))

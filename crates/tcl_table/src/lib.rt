@@ -3,7 +3,9 @@
 
 mod built_ins;
 mod command;
+mod places;
 mod table;
 
 pub use command::{Command, Formal, Meaning, Procedure};
+pub use places::CommandName;
 pub use table::{Table, TableFault};
