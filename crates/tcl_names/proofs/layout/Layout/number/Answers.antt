@@ -1,0 +1,33 @@
+use Rattle.std.proofs.Common.{◌≡◌, refl, sym, ap, ◌∙◌, Some, true, false, arith, get_or, map as each}
+use Rattle.std.specs.Str.{chars}
+use Rattle.tcl_chars.specs.Texts.{same_text}
+use Rattle.tcl_names.specs.Named.{text_of}
+use Rattle.tcl_names.specs.Placed.{number_of}
+use Rattle.tcl_names.proofs.Numbers.{found_at, not_at, nowhere, from_start}
+use Rattle.tcl_names.proofs.layout.Layout.number.Goals as goal
+
+pub loop-known-init : goal.loop-known-init
+loop-known-init c = (refl, from_start _)
+
+pub returns-then-is_text : goal.returns-then-is_text
+returns-then-is_text c =
+    let ks = c.deref-known-items.result.now in
+    let q = chars c.args.name.now in
+    let here : same_text q (text_of (get_or ks c.loop-known.known-index c.known-item.result)) ≡ true =
+    ap (λ k. same_text q (text_of k)) (sym c.known-item.is) ∙ ap (λ bs. same_text q (chars bs)) (sym c.as_str.ensures.value) ∙ sym c.is_text.ensures ∙ c.if-is_text.true in
+    ap Some c.loop-known.invariant.0 ∙ sym (found_at ks q _ _ c.loop-known-test.true here) ∙ c.loop-known.invariant.1
+    ∙ ap (λ l. number_of (each text_of l) q) c.deref-known-items.ensures.value ∙ ap (λ l. number_of l q) c.self.view_is
+
+pub loop-known-preserved : goal.loop-known-preserved
+loop-known-preserved c =
+    let ks = c.deref-known-items.result.now in
+    let q = chars c.args.name.now in
+    let other : same_text q (text_of (get_or ks c.loop-known.known-index c.known-item.result)) ≡ false =
+    ap (λ k. same_text q (text_of k)) (sym c.known-item.is) ∙ ap (λ bs. same_text q (chars bs)) (sym c.as_str.ensures.value) ∙ sym c.is_text.ensures ∙ c.if-is_text.false in
+    (omega arith, sym (not_at ks q _ _ c.loop-known-test.true other) ∙ c.loop-known.invariant.1)
+
+pub returns : goal.returns
+returns c =
+    let ks = c.deref-known-items.result.now in
+    let q = chars c.args.name.now in
+    sym (nowhere ks q _ c.loop-known-test.false) ∙ c.loop-known.invariant.1 ∙ ap (λ l. number_of (each text_of l) q) c.deref-known-items.ensures.value ∙ ap (λ l. number_of l q) c.self.view_is

@@ -1,0 +1,75 @@
+//! Names that have numbered places.
+ghost use Rattle.std.specs.Prelude.{◌≡◌, [], OnOk, OnErr, length, map as each};
+ghost use Rattle.std.specs.Str.{chars};
+ghost use Rattle.tcl_names.specs.Named.{text_of};
+ghost use Rattle.tcl_names.specs.Placed.{number_of, placed_name};
+
+use std::alloc::{AllocError, Global};
+use std::marker::Model;
+use std::rc::RcStr;
+use tcl_chars::is_text;
+
+/// Names that have numbered places, from 0 on.
+#[derive(Drop)]
+pub struct Layout {
+    names: Vec<RcStr>,
+}
+
+impl Model for Layout {
+    ghost use Rattle.std.specs.Prelude.{ℕ, List, map as each};
+    ghost use Rattle.tcl_names.specs.Named.{text_of};
+
+    ghost Value = { List (List ℕ) };
+
+    ghost view = { λ l. each text_of l.names.items };
+}
+
+impl Layout {
+    pub fn new(alloc: Global) -> Layout
+        ensures { result ≡ [] }
+    {
+        Layout {
+            names: Vec::new(alloc),
+        }
+    }
+
+    /// The place of a name.
+    pub fn number(&self, name: &str) -> Option<usize>
+        ensures { result ≡ number_of self.now (chars name.now) }
+    {
+        let mut number = 0;
+        for known in &self.names {
+            if is_text(name, known.as_str()) {
+                return Some(number);
+            }
+            number += 1;
+        }
+        None
+    }
+
+    /// Gives a name the next place, if it has none.
+    pub fn add(&mut self, name: &RcStr) -> Result<(), AllocError>
+        ensures done { OnOk result (self.new ≡ placed_name self.old (text_of name.now)) }
+        ensures same { OnErr result (self.new ≡ self.old) }
+    {
+        if self.number(name.as_str()).is_some() {
+            return Ok(());
+        }
+        self.names.push(name.clone()?)?;
+        Ok(())
+    }
+
+    /// How many places there are.
+    pub fn len(&self) -> usize
+        ensures { result ≡ length self.now }
+    {
+        self.names.len()
+    }
+
+    /// The names in the order of their places.
+    pub(crate) fn names(&self) -> &[RcStr]
+        ensures { each text_of result.now ≡ self.now }
+    {
+        &self.names
+    }
+}
