@@ -10,5 +10,11 @@ returns-clause-values c =
 
 pub returns-clause-deeper : goal.returns-clause-deeper
 returns-clause-deeper c =
-    omega (arith, c.requires.deeper, ap depth_over c.put.ensures.put, c.in_ok-plain.ensures.depth,
-    depth_set-bound c.args.own.now.values.items c.args.place c.in_ok-plain.plain, depth_below c.args.own.now.values.items c.args.place c.index.result.now c.requires.place c.index.ensures)
+    omega (
+      arith,
+      c.requires.deeper,
+      ap depth_over c.put.ensures.put,
+      c.in_ok-plain.ensures.depth,
+      depth_set-bound c.args.own.now.values.items c.args.place c.in_ok-plain.plain,
+      depth_below c.args.own.now.values.items c.args.place c.index.result.now c.requires.place c.index.ensures,
+    )
