@@ -4,7 +4,7 @@ use Rattle.std.proofs.lemmas.Bool.{cases_lt}
 use Rattle.std.proofs.lemmas.List.{take_more, take-append-drop}
 use Rattle.tcl_values.specs.Kept.{Kept, depth_over}
 
-depth_least : (ks : List Kept) → 1 ≤ depth_over ks
+pub depth_least : (ks : List Kept) → 1 ≤ depth_over ks
 depth_least [] = omega arith
 depth_least (x ∷ ks) = omega arith
 
@@ -86,7 +86,7 @@ set_lower ks now i k b d n m g set exact same before low was = omega (arith, ap 
 pub set_within : (ks now : List Kept) (i : ℕ) (k : Kept) (d : ℕ) → now ≡ slice_set ks i k → d ≡ depth_over ks → d ≤ 64 → k.depth < 64 → depth_over now ≤ 64
 set_within ks now i k d set exact limit low = omega (arith, ap depth_over set, depth_set-bound ks i k, exact, limit, low)
 
-depth_over-append : (ks ls : List Kept) → depth_over (ks ++ ls) ≡ max (depth_over ks) (depth_over ls)
+pub depth_over-append : (ks ls : List Kept) → depth_over (ks ++ ls) ≡ max (depth_over ks) (depth_over ls)
 depth_over-append [] ls = omega (arith, depth_least ls)
 depth_over-append (x ∷ ks) ls = omega (arith, depth_over-append ks ls)
 

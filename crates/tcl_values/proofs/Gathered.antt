@@ -2,16 +2,8 @@
 use Rattle.std.proofs.Common.{◌≡◌, ℕ, zero, suc, ◌+◌, ◌≤◌, ◌<◌, List, [], ◌∷◌, ◌++◌, length, get_or, max, map, take, drop, reverse, append_assoc, ap, sym, ◌∙◌, refl, arith}
 use Rattle.std.proofs.lemmas.List.{append-nil, map-append, reverse-append, take_more}
 use Rattle.tcl_pages.specs.Lists.{times}
-use Rattle.tcl_values.proofs.Depths.{depth_over-push, depth_take, depth_drop}
+use Rattle.tcl_values.proofs.Depths.{depth_least, depth_over-append, depth_over-push, depth_take, depth_drop}
 use Rattle.tcl_values.specs.Kept.{Kept, texts, depth_over}
-
-least : (ks : List Kept) → 1 ≤ depth_over ks
-least [] = omega arith
-least (k ∷ ks) = omega arith
-
-over_append : (ks ls : List Kept) → depth_over (ks ++ ls) ≡ max (depth_over ks) (depth_over ls)
-over_append [] ls = omega (arith, least ls)
-over_append (k ∷ ks) ls = omega (arith, over_append ks ls)
 
 over_reverse : (ks : List Kept) → depth_over (reverse ks) ≡ depth_over ks
 over_reverse [] = refl
@@ -32,13 +24,13 @@ texts_rest (suc n) (k ∷ ks) = texts_rest n ks
 -- ---- no list among them
 
 pub at_most_one : (ks : List Kept) (m : ℕ) → depth_over ks ≤ m → m ≤ 1 → m ≡ depth_over ks
-at_most_one ks m d l = omega (arith, least ks, d, l)
+at_most_one ks m d l = omega (arith, depth_least ks, d, l)
 
 -- ---- some elements of a list behind them
 
 pub part_deeper : (old part now row : List Kept) (first last d r m : ℕ) → now ≡ old ++ part → part ≡ drop first (take last row) → depth_over old ≤ d → r ≡ depth_over row → m ≡ max d r → depth_over now ≤ m
 part_deeper old part now row first last d r m e p deep exact most =
-    omega (arith, ap depth_over e, over_append old part, ap depth_over p, depth_drop first (take last row), depth_take last row, deep, exact, most)
+    omega (arith, ap depth_over e, depth_over-append old part, ap depth_over p, depth_drop first (take last row), depth_take last row, deep, exact, most)
 
 pub part_texts : (old part now row : List Kept) (first last : ℕ) (s t : List (List ℕ)) → now ≡ old ++ part → part ≡ drop first (take last row) → texts old ≡ s → texts row ≡ t → texts now ≡ s ++ drop first (take last t)
 part_texts old part now row first last s t e p is_old is_row =
@@ -86,9 +78,9 @@ once_more old now new more n e same =
     ∙ ap (λ ts. texts old ++ ts) (times_more n (texts more))
 
 pub no_deeper : (old now new more : List Kept) → new ≡ now ++ more → depth_over now ≤ max (depth_over old) (depth_over more) → depth_over new ≤ max (depth_over old) (depth_over more)
-no_deeper old now new more e deep = omega (arith, ap depth_over e, over_append now more, deep)
+no_deeper old now new more e deep = omega (arith, ap depth_over e, depth_over-append now more, deep)
 
 pub many_deeper : (ks now start part : List Kept) (d : ℕ) → start ≡ [] → part ≡ ks → depth_over now ≤ max (depth_over start) (depth_over part) → depth_over ks ≤ d → depth_over now ≤ d
 many_deeper ks now start part d none same most deep =
     let one : depth_over start ≡ 1 = ap depth_over none in
-    omega (arith, one, ap depth_over same, least ks, most, deep)
+    omega (arith, one, ap depth_over same, depth_least ks, most, deep)
