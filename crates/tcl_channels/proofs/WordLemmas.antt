@@ -1,6 +1,7 @@
 -- What pages are told to do, by the count of their words.
 use Rattle.std.proofs.Common.{◌≡◌, ◌≢◌, ℕ, ◌<◌, List, [], ◌∷◌, ◌++◌, length, Ok, sym, ap, ◌∙◌, refl, arith}
 use Rattle.std.proofs.lemmas.Str.{chars-nil}
+pub use Rattle.std.proofs.lemmas.Str.{chars-nil as no_chars}
 use Rattle.std.specs.Str.{chars}
 use Rattle.tcl_chars.specs.Characters.{newline}
 use Rattle.tcl_arguments.specs.WordAt.{word}
@@ -12,9 +13,6 @@ use Rattle.tcl_meaning.specs.State.{stdout}
 use Rattle.tcl_meaning.specs.Value.{◌>>=◌, judged}
 use Rattle.std.specs.Prelude.{if◌then◌else◌}
 use Rattle.tcl_pages.specs.Texts.{Text}
-
-pub no_chars : chars [] ≡ []
-no_chars = chars-nil
 
 pub line_is : (m₀ m₁ m₂ text : List ℕ) → m₀ ≡ [] → chars m₁ ≡ chars m₀ ++ chars text → chars m₂ ≡ chars m₁ ++ newline ∷ [] → chars m₂ ≡ line_of (chars text)
 line_is m₀ m₁ m₂ text z p q = q ∙ ap (λ t. t ++ newline ∷ []) (p ∙ ap (λ m. chars m ++ chars text) z ∙ ap (λ t. t ++ chars text) chars-nil)

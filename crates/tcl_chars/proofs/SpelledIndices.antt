@@ -31,11 +31,13 @@ first_sign (c ∷ cs) s o h = elim (cases_Bool ((c == 43) || (c == 45))) [
   | inr other ↦ let e : to_sign cs ≡ s ∷ o = rw other at h in first_sign cs s o e
 ]
 
-before_front : (front rest : List ℕ) → before (front ++ rest) rest ≡ front
+-- what stands before a rest is the front that was put there
+pub before_front : (front rest : List ℕ) → before (front ++ rest) rest ≡ front
 before_front front rest = take_at front rest (length (front ++ rest) - length rest) (omega (arith, length-append front rest))
 
-parts_of : (cs rest : List ℕ) → EndsWith cs rest → cs ≡ before cs rest ++ rest
-parts_of cs rest e = e.joined ∙ ap (λ t. t ++ rest) (sym (before_front e.front rest) ∙ ap (λ t. before t rest) (sym e.joined))
+-- a text is what stands before its end, and the end
+pub cut_at : (cs rest : List ℕ) → EndsWith cs rest → cs ≡ before cs rest ++ rest
+cut_at cs rest e = e.joined ∙ ap (λ t. t ++ rest) (sym (before_front e.front rest) ∙ ap (λ t. before t rest) (sym e.joined))
 
 same_literal : (cs ws : List ℕ) → same_text cs ws ≡ true → cs ≡ ws
 same_literal cs ws h = (bytes_eq-Decides cs ws).0 h
@@ -111,7 +113,7 @@ read_is_spelled dialect cs (whole.Number z) p e h = let f : Start z (pos 0) ≡ 
 read_is_spelled dialect cs whole.TooLarge p e h = absurd cc
 read_is_spelled dialect cs whole.Not p e h =
     let r = to_sign (tail cs) in
-    subst (λ t. Spells dialect t p) (sym (parts_of cs r (sum_ends cs))) (sum_spelled dialect (before cs r) r p (first_sign (tail cs)) h)
+    subst (λ t. Spells dialect t p) (sym (cut_at cs r (sum_ends cs))) (sum_spelled dialect (before cs r) r p (first_sign (tail cs)) h)
 
 -- ---- what is so spelled is read
 

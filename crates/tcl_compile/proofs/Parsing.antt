@@ -12,6 +12,7 @@ use Rattle.tcl_words.specs.declared.fault.Syntax.{Syntax}
 use Rattle.tcl_words.specs.declared.word.Word.{Word}
 use Rattle.tcl_words.specs.declared.word.Parsed.{Parsed}
 use Rattle.tcl_words.specs.declared.word.Parsed.TheVariants as parsed
+use Rattle.tcl_words.proofs.Verbatim.{escape_seen, text_seen}
 
 abbrev Words : Type 0
 Words = Vec Word Global
@@ -56,12 +57,6 @@ map_at f [] i x e = refl
 map_at f (y ∷ ys) zero x e = ap f e
 map_at f (y ∷ ys) (suc i) x e = map_at f ys i x e
 
-text_part : (s : Span) → part_of (piece.Text s) ≡ text (stretch_of s)
-text_part s = search (rules, the_lemmas)
-
-escape_part : (s : Span) (c : ℕ) → part_of (piece.Escape s c) ≡ escape (stretch_of s) c
-escape_part s c = search (rules, the_lemmas)
-
 var_part : (s name : Span) → part_of (piece.Var s name) ≡ var (stretch_of s) (stretch_of name)
 var_part s name = search (rules, the_lemmas)
 
@@ -69,10 +64,10 @@ bracket_part : (s script : Span) → part_of (piece.Bracket s script) ≡ bracke
 bracket_part s script = search (rules, the_lemmas)
 
 pub part-text : (p : Piece) (s : Span) → p ≡ piece.Text s → part_of p ≡ text (stretch_of s)
-part-text p s e = ap part_of e ∙ text_part s
+part-text p s e = ap part_of e ∙ text_seen s
 
 pub part-escape : (p : Piece) (s : Span) (c : ℕ) → p ≡ piece.Escape s c → part_of p ≡ escape (stretch_of s) c
-part-escape p s c e = ap part_of e ∙ escape_part s c
+part-escape p s c e = ap part_of e ∙ escape_seen s c
 
 pub part-var : (p : Piece) (s name : Span) → p ≡ piece.Var s name → part_of p ≡ var (stretch_of s) (stretch_of name)
 part-var p s name e = ap part_of e ∙ var_part s name

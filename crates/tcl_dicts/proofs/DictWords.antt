@@ -1,22 +1,18 @@
 -- Words by their places, as keys and values.
-use Rattle.std.proofs.Common.{◌≡◌, ℕ, zero, suc, ◌+◌, ◌<◌, ◌≤◌, List, [], ◌∷◌, ◌++◌, length, drop, take, get_or, map, Option, Some, None, Result, Ok, Err, refl, sym, ap, ◌∙◌, append_assoc, add-one, arith}
+use Rattle.std.proofs.Common.{◌≡◌, ℕ, zero, suc, ◌+◌, ◌<◌, ◌≤◌, List, [], ◌∷◌, ◌++◌, length, drop, get_or, Ok, Err, refl, sym, ap, ◌∙◌, append_assoc, add-one, arith}
 use Rattle.std.proofs.Math.Seq.{drop-cons}
-use Rattle.std.proofs.lemmas.List.{append-nil, length-map}
+use Rattle.std.proofs.lemmas.List.{append-nil, drop_more}
 use Rattle.tcl_arguments.specs.WordAt.{word}
 use Rattle.tcl_pages.specs.Answers.{Answer, ◌>>=◌}
 use Rattle.tcl_pages.specs.Dictionaries.{Pairs, put_key, put_keys, with_pair, in_pairs, pairs_of, keys_of, values_of}
-use Rattle.tcl_pages.specs.DictPages.{inner_of, value_under, merged, without_key, without_keys, pairs_or}
+use Rattle.tcl_pages.specs.DictPages.{inner_of, value_under, merged, without_key, without_keys}
 use Rattle.tcl_pages.specs.Texts.{Text}
-use Rattle.tcl_pages.specs.Usage.{usage}
 use Rattle.tcl_chars.specs.Texts.{literal}
 
 -- these pairs before what is read
 abbrev pub with_front : Pairs → Answer Pairs → Answer Pairs
 with_front front (Ok ps) = Ok (front ++ ps)
 with_front front (Err message) = Err message
-
-pub drop_word : (ws : List Text) (i : ℕ) → i < length ws → drop i ws ≡ word ws i ∷ drop (i + 1) ws
-drop_word ws i l = drop-cons ws i [] l ∙ ap (λ n. word ws i ∷ drop n ws) (sym (add-one i))
 
 pub drop_end : (ws : List Text) (i : ℕ) → length ws ≤ i → drop i ws ≡ []
 drop_end [] zero l = refl
@@ -27,15 +23,15 @@ drop_end (w ∷ ws) (suc i) l = drop_end ws i (omega (arith, l))
 -- words that were copied, before those that are left
 pub words_more : (cs more ws full : List Text) (i : ℕ) (x : Text) → i < length ws → x ≡ word ws i → more ≡ cs ++ x ∷ [] → cs ++ drop i ws ≡ full → more ++ drop (i + 1) ws ≡ full
 words_more cs more ws full i x l e m so_far =
-    ap (λ us. us ++ drop (i + 1) ws) m ∙ append_assoc cs (x ∷ []) (drop (i + 1) ws) ∙ ap (λ us. cs ++ us) (ap (λ u. u ∷ drop (i + 1) ws) e ∙ sym (drop_word ws i l)) ∙ so_far
+    ap (λ us. us ++ drop (i + 1) ws) m ∙ append_assoc cs (x ∷ []) (drop (i + 1) ws) ∙ ap (λ us. cs ++ us) (ap (λ u. u ∷ drop (i + 1) ws) e ∙ sym (drop_more ws i [] l)) ∙ so_far
 
 -- ---- keys, each in the dictionary under the one before
 
 pub value_more : (t : Text) (ws : List Text) (i : ℕ) (k inner : Text) → i < length ws → k ≡ word ws i → inner_of t k ≡ Ok inner → value_under inner (drop (i + 1) ws) ≡ value_under t (drop i ws)
-value_more t ws i k inner l e is = sym (ap (value_under t) (drop_word ws i l) ∙ ap (λ r. r >>= λ x. value_under x (drop (i + 1) ws)) (ap (inner_of t) (sym e) ∙ is))
+value_more t ws i k inner l e is = sym (ap (value_under t) (drop_more ws i [] l) ∙ ap (λ r. r >>= λ x. value_under x (drop (i + 1) ws)) (ap (inner_of t) (sym e) ∙ is))
 
 pub value_stops : (t : Text) (ws : List Text) (i : ℕ) (k m : Text) → i < length ws → k ≡ word ws i → inner_of t k ≡ Err m → value_under t (drop i ws) ≡ Err m
-value_stops t ws i k m l e is = ap (value_under t) (drop_word ws i l) ∙ ap (λ r. r >>= λ x. value_under x (drop (i + 1) ws)) (ap (inner_of t) (sym e) ∙ is)
+value_stops t ws i k m l e is = ap (value_under t) (drop_more ws i [] l) ∙ ap (λ r. r >>= λ x. value_under x (drop (i + 1) ws)) (ap (inner_of t) (sym e) ∙ is)
 
 pub value_end : (t : Text) (ws : List Text) (i : ℕ) → length ws ≤ i → value_under t (drop i ws) ≡ Ok t
 value_end t ws i l = ap (value_under t) (drop_end ws i l)
@@ -44,16 +40,16 @@ value_end t ws i l = ap (value_under t) (drop_end ws i l)
 
 pub merge_more : (found next ps : Pairs) (ws : List Text) (i : ℕ) → i < length ws → pairs_of (word ws i) ≡ Ok ps → next ≡ put_keys found ps → merged next (drop (i + 1) ws) ≡ merged found (drop i ws)
 merge_more found next ps ws i l e n =
-    ap (λ qs. merged qs (drop (i + 1) ws)) n ∙ sym (ap (merged found) (drop_word ws i l) ∙ ap (λ r. r >>= λ qs. merged (put_keys found qs) (drop (i + 1) ws)) e)
+    ap (λ qs. merged qs (drop (i + 1) ws)) n ∙ sym (ap (merged found) (drop_more ws i [] l) ∙ ap (λ r. r >>= λ qs. merged (put_keys found qs) (drop (i + 1) ws)) e)
 
 pub merge_stops : (found : Pairs) (ws : List Text) (i : ℕ) (m : Text) → i < length ws → pairs_of (word ws i) ≡ Err m → merged found (drop i ws) ≡ Err m
-merge_stops found ws i m l e = ap (merged found) (drop_word ws i l) ∙ ap (λ r. r >>= λ qs. merged (put_keys found qs) (drop (i + 1) ws)) e
+merge_stops found ws i m l e = ap (merged found) (drop_more ws i [] l) ∙ ap (λ r. r >>= λ qs. merged (put_keys found qs) (drop (i + 1) ws)) e
 
 -- ---- keys that are taken out
 
 pub without_more : (found less : Pairs) (ws : List Text) (i : ℕ) (k : Text) → i < length ws → k ≡ word ws i → less ≡ without_key k found → without_keys (drop (i + 1) ws) less ≡ without_keys (drop i ws) found
 without_more found less ws i k l e is =
-    ap (without_keys (drop (i + 1) ws)) (is ∙ ap (λ t. without_key t found) e) ∙ sym (ap (λ ks. without_keys ks found) (drop_word ws i l))
+    ap (without_keys (drop (i + 1) ws)) (is ∙ ap (λ t. without_key t found) e) ∙ sym (ap (λ ks. without_keys ks found) (drop_more ws i [] l))
 
 -- ---- pairs by their places
 
@@ -77,7 +73,7 @@ two_front front p (Err m) = refl
 
 pub pair_more : (front next : Pairs) (p : Text × Text) (ws : List Text) (i : ℕ) → i + 1 < length ws → p ≡ (word ws i, word ws (i + 1)) → next ≡ front ++ p ∷ [] → with_front next (in_pairs (drop (i + 2) ws)) ≡ with_front front (in_pairs (drop i ws))
 pair_more front next p ws i l e is =
-    let two : drop i ws ≡ word ws i ∷ word ws (i + 1) ∷ drop (i + 2) ws = drop_word ws i (omega (arith, l)) ∙ ap (λ ts. word ws i ∷ ts) (drop_word ws (i + 1) l ∙ ap (λ n. word ws (i + 1) ∷ drop n ws) (omega arith)) in
+    let two : drop i ws ≡ word ws i ∷ word ws (i + 1) ∷ drop (i + 2) ws = drop_more ws i [] (omega (arith, l)) ∙ ap (λ ts. word ws i ∷ ts) (drop_more ws (i + 1) [] l ∙ ap (λ n. word ws (i + 1) ∷ drop n ws) (omega arith)) in
     ap (λ ps. with_front ps (in_pairs (drop (i + 2) ws))) is ∙ two_front front p (in_pairs (drop (i + 2) ws))
     ∙ ap (λ q. with_front front (with_pair q.0 q.1 (in_pairs (drop (i + 2) ws)))) e ∙ sym (ap (λ ts. with_front front (in_pairs ts)) two)
 
@@ -85,4 +81,4 @@ pub pairs_end : (front : Pairs) (ws : List Text) (i : ℕ) → length ws ≤ i �
 pairs_end front ws i l = ap (λ ts. with_front front (in_pairs ts)) (drop_end ws i l) ∙ ap Ok (append-nil front)
 
 pub pairs_odd : (front : Pairs) (ws : List Text) (i : ℕ) → i < length ws → length ws ≤ i + 1 → with_front front (in_pairs (drop i ws)) ≡ Err (literal "missing value to go with key")
-pairs_odd front ws i l m = ap (λ ts. with_front front (in_pairs ts)) (drop_word ws i l ∙ ap (λ ts. word ws i ∷ ts) (drop_end ws (i + 1) m))
+pairs_odd front ws i l m = ap (λ ts. with_front front (in_pairs ts)) (drop_more ws i [] l ∙ ap (λ ts. word ws i ∷ ts) (drop_end ws (i + 1) m))

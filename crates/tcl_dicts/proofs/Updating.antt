@@ -1,12 +1,11 @@
 -- A value under a key, changed and put back.
-use Rattle.std.proofs.Common.{◌≡◌, Bool, true, false, ◌==◌, ℕ, zero, suc, ◌+◌, ◌<◌, ◌≤◌, List, [], ◌∷◌, ◌++◌, length, drop, take, map, reverse, Result, Ok, Err, refl, sym, ap, ◌∙◌, append_assoc, arith}
+use Rattle.std.proofs.Common.{◌≡◌, Bool, true, false, ◌==◌, ℕ, zero, suc, ◌+◌, ◌<◌, ◌≤◌, List, [], ◌∷◌, ◌++◌, length, drop, take, Ok, Err, refl, sym, ap, ◌∙◌, append_assoc, arith}
 use Rattle.std.proofs.lemmas.List.{append-nil}
 use Rattle.std.specs.declared.rc.RcStr.{RcStr}
 use Rattle.std.specs.declared.alloc.Global.{Global}
 use Rattle.tcl_arguments.specs.WordAt.{word}
 use Rattle.tcl_chars.specs.Texts.{text_of}
 use Rattle.tcl_list.specs.Elements.{elements_of}
-use Rattle.tcl_list.specs.Written.{written}
 use Rattle.tcl_pages.specs.Answers.{Answer, ◌>>=◌}
 use Rattle.tcl_pages.specs.Dictionaries.{Pairs, put_key, pairs_of}
 use Rattle.tcl_pages.specs.DictPages.{dictionary, value_at, or_text, value_or, known, inner_of, under_key, dict_lappend, dict_set, dict_unset}
@@ -14,12 +13,10 @@ use Rattle.tcl_pages.specs.Lists.{lappend, with_more}
 use Rattle.tcl_pages.specs.Texts.{Text}
 use Rattle.tcl_pages.specs.Updates.{by_key, dict_append, dict_set_words, text_appended}
 use Rattle.tcl_values.specs.Changes.{after, after_under}
-use Rattle.tcl_values.specs.Dictionaries.{less_key, with_key}
+use Rattle.tcl_values.specs.Dictionaries.{less_key}
 use Rattle.tcl_values.specs.declared.change.Change.TheVariants as change
 use Rattle.tcl_values.specs.Lists.{count_of, lengthened}
-use Rattle.tcl_values.proofs.Joined.{reads_written}
-use Rattle.tcl_dicts.specs.Levels.{changed, changed_known, level_text, rebuilt}
-use Rattle.tcl_dicts.proofs.DictWords.{drop_word}
+use Rattle.tcl_dicts.specs.Levels.{changed, changed_known, rebuilt}
 
 ok_is : (r : Answer Text) (a b : Text) → r ≡ Ok a → r ≡ Ok b → a ≡ b
 ok_is r a b e f = cc

@@ -1,16 +1,14 @@
 -- Longest fronts: the white space, the run and the stretch at the front of a text.
-use Rattle.std.proofs.Common.{◌≡◌, ℕ, ◌-◌, Bool, true, false, List, [], ◌∷◌, ◌++◌, length, take, Option, Some, None, refl, sym, ap, subst, ◌∙◌}
-use Rattle.std.specs.Prelude.{◌==◌, ◌&&◌, if◌then◌else◌}
+use Rattle.std.proofs.Common.{◌≡◌, ℕ, Bool, true, false, List, [], ◌∷◌, ◌++◌, Option, Some, None, refl, sym, ap, subst, ◌∙◌}
+use Rattle.std.specs.Prelude.{◌==◌, if◌then◌else◌}
 use Rattle.std.specs.List.{list_all}
-use Rattle.std.proofs.lemmas.Bool.{and_parts, eqb-true, ne_eqb}
-use Rattle.std.proofs.lemmas.List.{length-append}
-use Rattle.std.proofs.Math.Seq.{take-append_seam}
-use Rattle.std.proofs.Math.Nat.{add-sub_cancel}
+use Rattle.std.proofs.lemmas.Bool.{and_parts, ne_eqb}
 use Rattle.tcl_chars.specs.Classes.{is_list_space}
-use Rattle.tcl_chars.specs.Place.{begins, tail, before, place}
+use Rattle.tcl_chars.specs.Place.{before, place}
 use Rattle.tcl_chars.specs.Whole.{skip_space}
 use Rattle.tcl_words.specs.Parts.{Stretch}
 use Rattle.tcl_words.specs.Words.{stretch}
+use Rattle.tcl_words.proofs.ReadIsSpelled.{front_is}
 use Rattle.tcl_expr.specs.Spelling.{begins_space, IsGap, IsFront, IsRun}
 use Rattle.tcl_expr.specs.Token.{Token}
 use Rattle.tcl_expr.specs.Tokens.{is_run_char, after_run, begins_run}
@@ -20,10 +18,6 @@ use Rattle.tcl_expr.specs.Tokens.{is_run_char, after_run, begins_run}
 pub no_clash : (b : Bool) → b ≡ true → b ≡ false → ⊥
 no_clash true e f = absurd cc
 no_clash false e f = absurd cc
-
-pub and_false : (a b : Bool) → a ≡ false → (a && b) ≡ false
-and_false true b e = absurd cc
-and_false false b e = refl
 
 pub branch : {A : Type 0} (P : A → Type 0) (b : Bool) (x y : A) → (b ≡ true → P x) → (b ≡ false → P y) → P (if b then x else y)
 branch P true x y f g = f refl
@@ -41,10 +35,6 @@ third false b c x y z w e f g = second b c y z w f g
 -- two characters that a test tells apart
 pub other_char : (p : ℕ → Bool) (c d : ℕ) → p c ≡ true → p d ≡ false → (c == d) ≡ false
 other_char p c d e f = ne_eqb c d (λ same. no_clash (p d) (sym (ap p same) ∙ e) f)
-
-pub begins_cons : (c : ℕ) (cs : List ℕ) → begins c cs ≡ true → cs ≡ c ∷ tail cs
-begins_cons c [] e = absurd (no_clash false e refl)
-begins_cons c (d ∷ cs) e = ap (λ z. z ∷ cs) (eqb-true d c e)
 
 -- ---- the longest front of characters that pass a test
 
@@ -112,22 +102,14 @@ run_over run rest a e = run_past (run ++ rest) ∙ past_over is_run_char run res
 
 -- ---- stretches
 
-pub before_front : (xs rest : List ℕ) → before (xs ++ rest) rest ≡ xs
-before_front xs rest =
-    let n : length (xs ++ rest) - length rest ≡ length xs = ap (λ n. n - length rest) (length-append xs rest) ∙ add-sub_cancel (length xs) (length rest) in
-    ap (λ n. take n (xs ++ rest)) n ∙ take-append_seam xs rest
-
-pub before_is : (here xs rest : List ℕ) → here ≡ xs ++ rest → before here rest ≡ xs
-before_is here xs rest e = ap (λ (z : List ℕ). before z rest) e ∙ before_front xs rest
-
 pub same_stretch : (s : Stretch) (n : ℕ) (xs : List ℕ) → n ≡ s.start → xs ≡ s.text → record { start = n; text = xs } ≡ s
 same_stretch s n xs e f = rw (e, f) refl
 
 pub stretch_is : (size : ℕ) (here : List ℕ) (s : Stretch) (rest : List ℕ) → IsFront size here s rest → stretch size here rest ≡ s
-stretch_is size here s rest f = same_stretch s (place size here) (before here rest) (sym f.start) (before_is here s.text rest f.joined)
+stretch_is size here s rest f = same_stretch s (place size here) (before here rest) (sym f.start) (front_is here s.text rest f.joined)
 
 pub front_at : (size : ℕ) (here xs rest : List ℕ) → here ≡ xs ++ rest → IsFront size here (stretch size here rest) rest
-front_at size here xs rest e = record { joined = e ∙ ap (λ (z : List ℕ). z ++ rest) (sym (before_is here xs rest e)); start = refl }
+front_at size here xs rest e = record { joined = e ∙ ap (λ (z : List ℕ). z ++ rest) (sym (front_is here xs rest e)); start = refl }
 
 -- ---- the run in front
 
@@ -144,7 +126,7 @@ begins_before test (c ∷ cs) rest runs first e n = first c cs (cs ++ rest) ∙ 
 pub front_run : (cs : List ℕ) → begins_run cs ≡ true → (cs ≡ before cs (after_run cs) ++ after_run cs) × IsRun (before cs (after_run cs))
 front_run cs e =
     let f = run_front cs in
-    let b : before cs (after_run cs) ≡ f.text = before_is cs f.text (after_run cs) f.joined in
+    let b : before cs (after_run cs) ≡ f.text = front_is cs f.text (after_run cs) f.joined in
     let some : begins_run f.text ≡ true = begins_before begins_run f.text (after_run cs) (λ zs k. k) (λ c cs ds. refl) (ap begins_run (sym f.joined) ∙ e) (run_ends cs) in
     let P : List ℕ → Type 0 = λ z. (cs ≡ z ++ after_run cs) × IsRun z in
     subst P (sym b) (f.joined, record { some = some; all = f.all })

@@ -2,7 +2,7 @@
 use Rattle.std.proofs.Common.{◌≡◌, ◌≢◌, ℕ, ◌≤◌, Bool, true, false, List, [], ◌∷◌, ◌++◌, length, Option, Some, None, Result, Ok, Err, refl, sym, ap, subst, ◌∙◌, inl, inr, arith}
 use Rattle.std.specs.Prelude.{◌==◌, not, ◌&&◌, ◌||◌, ◌⊎◌, if◌then◌else◌, IfSome}
 use Rattle.std.specs.List.{list_all}
-use Rattle.std.proofs.lemmas.Bool.{and_parts, eqb-true, eqb-false, ne_eqb}
+use Rattle.std.proofs.lemmas.Bool.{and_left, and_parts, eqb-true, eqb-false, ne_eqb}
 use Rattle.tcl_chars.specs.Characters.{open_paren, open_brace, open_bracket, quote, dollar}
 use Rattle.tcl_chars.specs.Place.{begins, tail, before}
 use Rattle.tcl_chars.specs.Truth.{truth_of}
@@ -12,7 +12,9 @@ use Rattle.tcl_words.specs.declared.fault.Syntax.{Syntax}
 use Rattle.tcl_words.specs.First.{operand, begins_operand}
 use Rattle.tcl_words.specs.Parts.{Stretch, Shape}
 use Rattle.tcl_words.specs.Words.{stretch, begins_variable}
+use Rattle.tcl_chars.proofs.SpelledIndices.{before_front}
 use Rattle.tcl_words.proofs.OperandSpelled.{operand_is_spelled}
+use Rattle.tcl_words.proofs.ReadIsSpelled.{front_is, headed}
 use Rattle.tcl_expr.specs.declared.token.UnaryOp.{UnaryOp}
 use Rattle.tcl_expr.specs.declared.token.UnaryOp.TheVariants as unary
 use Rattle.tcl_expr.specs.declared.token.BinaryOp.{BinaryOp}
@@ -26,7 +28,7 @@ use Rattle.tcl_expr.specs.Spelling as spelling
 use Rattle.tcl_expr.specs.Texts.{unary_text, binary_text, function_text, symbol_text}
 use Rattle.tcl_expr.specs.Token.{Token, Operand, Bareword, Unary, Open}
 use Rattle.tcl_expr.specs.Tokens.{minus, equals, is_run_char, after_run, begins_run, begins_digit, begins_letter, begins_signed, function_of, says_something, called, run_token, symbol_at, symbol_token, prefix, word_token, or_bareword, or_symbol, operand_token}
-use Rattle.tcl_expr.proofs.LongestFronts.{and_false, before_front, before_is, begins_before, begins_cons, branch, front_at, front_run, gap_skipped, no_clash, no_option, other_char, run_ends, run_front, run_over, second, space_gap, stretch_is, third}
+use Rattle.tcl_expr.proofs.LongestFronts.{begins_before, branch, front_at, front_run, gap_skipped, no_clash, no_option, other_char, run_ends, run_front, run_over, second, space_gap, stretch_is, third}
 use Rattle.tcl_expr.proofs.SpelledSymbols.{function_found, function_named, kind_of, lone, no_function, none_prefix, none_stands, none_there, prefix_of, symbol_is, symbol_spelled, unary_longest}
 
 -- ---- parts of a token
@@ -56,7 +58,7 @@ run_some (c ∷ cs) r e = absurd cc
 run_token_is : (dialect : Dialect) (size : ℕ) (here : List ℕ) (s : Stretch) (rest : List ℕ) → IsFront size here s rest → s.text ≢ [] → run_token dialect size here rest ≡ token_of_run dialect s rest
 run_token_is dialect size here s rest f n =
     let l : begins_letter here ≡ begins_letter s.text = ap begins_letter f.joined ∙ letter_of s.text rest n in
-    let b : before here rest ≡ s.text = before_is here s.text rest f.joined in
+    let b : before here rest ≡ s.text = front_is here s.text rest f.joined in
     let t : stretch size here rest ≡ s = stretch_is size here s rest f in
     let P : Bool → List ℕ → Stretch → Token × List ℕ =
     λ b z u. if b && begins open_paren (skip_space rest) then (called (function_of z) u, tail (skip_space rest)) else (if says_something (truth_of dialect z) then Operand (literal u) else Bareword u, rest) in
@@ -68,7 +70,7 @@ called_behind name rest behind k = gap_skipped rest (open_paren ∷ behind) k.ga
 called_when : (name rest : List ℕ) → begins_letter name ≡ true → begins open_paren (skip_space rest) ≡ true → IsCalled name rest (tail (skip_space rest))
 called_when name rest l b =
     let P : List ℕ → Type 0 = λ z. IsGap rest z in
-    record { letter = l; gap = subst P (begins_cons open_paren (skip_space rest) b) (space_gap rest) }
+    record { letter = l; gap = subst P (headed open_paren (skip_space rest) b) (space_gap rest) }
 
 call_token : (dialect : Dialect) (s : Stretch) (rest behind : List ℕ) → IsCalled s.text rest behind → token_of_run dialect s rest ≡ (called (function_of s.text) s, behind)
 call_token dialect s rest behind k =
@@ -141,7 +143,7 @@ unfolding prefix_of NotEqualAt
 bang unary.Minus rest e = absurd (none_prefix _ unary.Minus e refl)
 bang unary.Plus rest e = absurd (none_prefix _ unary.Plus e refl)
 bang unary.Flip rest e = absurd (none_prefix _ unary.Flip e refl)
-bang unary.Not rest e = (refl, ap (λ (z : List ℕ). 33 ∷ z) (begins_cons equals rest (not_then (begins equals rest) e)))
+bang unary.Not rest e = (refl, ap (λ (z : List ℕ). 33 ∷ z) (headed equals rest (not_then (begins equals rest) e)))
 
 bang_at : (here : List ℕ) (v : UnaryOp) (rest : List ℕ) → here ≡ unary_text v ++ rest → prefix_of here ≡ None → NotEqualAt here v rest
 bang_at here v rest j e = subst (λ (z : List ℕ). NotEqualAt z v rest) (sym j) (bang v rest (ap prefix_of (sym j) ∙ e))
@@ -173,7 +175,7 @@ signed_front : (cs : List ℕ) → begins_digit cs ≡ true → IsSigned (before
 signed_front cs d =
     let f = run_front cs in
     let j : minus ∷ cs ≡ (minus ∷ f.text) ++ after_run cs = ap (λ (z : List ℕ). minus ∷ z) f.joined in
-    let b : before (minus ∷ cs) (after_run cs) ≡ minus ∷ f.text = before_is (minus ∷ cs) (minus ∷ f.text) (after_run cs) j in
+    let b : before (minus ∷ cs) (after_run cs) ≡ minus ∷ f.text = front_is (minus ∷ cs) (minus ∷ f.text) (after_run cs) j in
     let digit : begins_digit f.text ≡ true = begins_before begins_digit f.text (after_run cs) digit_run (λ c cs ds. refl) (ap begins_digit (sym f.joined) ∙ d) (run_ends cs) in
     (record { behind = f.text; joined = b; digit = digit; all = f.all }, j ∙ ap (λ (z : List ℕ). z ++ after_run cs) (sym b))
 
@@ -203,7 +205,7 @@ module _ (dialect : Dialect) (size levels : ℕ) where
   run_here [] rest r w = absurd (no_clash false r.some refl)
   run_here (c ∷ cs) rest r w =
       let k = and_parts (is_run_char c) (list_all is_run_char cs) r.all in
-      second (begins_signed (c ∷ cs ++ rest)) (begins_run (c ∷ cs ++ rest)) _ _ _ (and_false (c == minus) _ (minus_no_run c k.0)) k.0
+      second (begins_signed (c ∷ cs ++ rest)) (begins_run (c ∷ cs ++ rest)) _ _ _ (and_left (c == minus) _ (minus_no_run c k.0)) k.0
       ∙ ap (λ (z : List ℕ). Some (run_token dialect size (c ∷ cs ++ rest) z)) (run_over (c ∷ cs) rest r.all w)
 
   signed_here : (behind rest : List ℕ) → begins_digit behind ≡ true → list_all is_run_char behind ≡ true → begins_run rest ≡ false
@@ -267,7 +269,7 @@ module _ (dialect : Dialect) (size levels : ℕ) where
   operand_here [] b = absurd (no_clash false b refl)
   operand_here (c ∷ cs) b =
       let n = operand_char c (begins_variable cs) b in
-      third (begins_signed (c ∷ cs)) (begins_run (c ∷ cs)) (begins_operand (c ∷ cs)) _ _ _ _ (and_false (c == minus) _ n.1) n.0 b
+      third (begins_signed (c ∷ cs)) (begins_run (c ∷ cs)) (begins_operand (c ∷ cs)) _ _ _ _ (and_left (c == minus) _ n.1) n.0 b
 
   operand_spelled_word : (here : List ℕ) (r : Result (Shape × List ℕ) Syntax) → begins_operand here ≡ true → operand size levels here ≡ r → SpellsOperand dialect size levels here (word_token r).0 (word_token r).1
   operand_spelled_word here (Ok x) b e = spelling.quoted x.0 x.1 b (((operand_is_spelled size levels here b).0 x.0 x.1).0 e)
@@ -278,7 +280,7 @@ module _ (dialect : Dialect) (size levels : ℕ) where
   unfolding operand_token
   character_read c rest n b p u s =
       let m : (c == minus) ≡ false = ne_eqb c minus (λ e. u unary.Minus (ap (λ z. z ∷ []) e)) in
-      fifth (begins_signed (c ∷ rest)) (begins_run (c ∷ rest)) (begins_operand (c ∷ rest)) (c == open_paren) _ _ _ _ _ (and_false (c == minus) _ m) n b (ne_eqb c open_paren p)
+      fifth (begins_signed (c ∷ rest)) (begins_run (c ∷ rest)) (begins_operand (c ∷ rest)) (c == open_paren) _ _ _ _ _ (and_left (c == minus) _ m) n b (ne_eqb c open_paren p)
       ∙ ap (λ o. Some (or_symbol o size c rest)) (no_prefix c rest (prefix c rest) refl u)
       ∙ ap (λ o. Some (or_bareword o (stretch size (c ∷ rest) rest) rest)) s
 

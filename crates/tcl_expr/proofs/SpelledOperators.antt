@@ -9,7 +9,8 @@ use Rattle.tcl_expr.specs.Spelling as spelling
 use Rattle.tcl_expr.specs.Texts.{binary_text}
 use Rattle.tcl_expr.specs.Token.{Token}
 use Rattle.tcl_expr.specs.Tokens.{is_run_char, after_run, begins_run, word_operator, symbol_at, symbol_token, or_stray, operator_or_stray, operator_token}
-use Rattle.tcl_expr.proofs.LongestFronts.{before_front, branch, front_run, no_clash, no_option, run_ends, run_over}
+use Rattle.tcl_chars.proofs.SpelledIndices.{before_front}
+use Rattle.tcl_expr.proofs.LongestFronts.{branch, front_run, no_clash, no_option, run_ends, run_over}
 use Rattle.tcl_expr.proofs.SpelledSymbols.{no_word, none_stands, none_there, symbol_is, symbol_spelled, word_found, word_named}
 
 -- ---- where an operator is wanted

@@ -3,6 +3,7 @@ use Rattle.std.proofs.Common.{◌≡◌, ℕ, zero, suc, ◌+◌, ◌<◌, Bool,
 use Rattle.std.specs.Prelude.{cond}
 use Rattle.std.proofs.lemmas.Bool.{cond_both, and_parts, false≢true}
 use Rattle.std.proofs.lemmas.List.{append-nil}
+use Rattle.std.proofs.Math.Seq.{take-length}
 use Rattle.tcl_chars.specs.Characters.{backslash, space, open_brace, close_brace, number_sign}
 use Rattle.tcl_chars.specs.Classes.{is_list_space}
 use Rattle.tcl_chars.specs.Place.{begins}
@@ -171,10 +172,6 @@ joined_written (e ∷ es) (f ∷ fs) h =
     sym (stands_behind (written (e ∷ es)) (written (f ∷ fs)) (written_tight f fs).firm.full (written_tight e es).firm.full) ∙ append_assoc (written (e ∷ es)) (space ∷ []) (written (f ∷ fs))
     ∙ ap (λ t. written (e ∷ es) ++ t) (space_behind f fs h) ∙ append_assoc (appended true e) (written_behind es) (written_behind (f ∷ fs)) ∙ ap (λ t. appended true e ++ t) (sym (behind_append es (f ∷ fs)))
 
-pub all_taken : (es : List Text) → take (length es) es ≡ es
-all_taken [] = refl
-all_taken (e ∷ es) = ap (λ fs. e ∷ fs) (all_taken es)
-
 same_there : (ws : List Text) (i : ℕ) (d : Text) → i < length ws → get_or ws i d ≡ word ws i
 same_there [] i d h = absurd (omega arith)
 same_there (w ∷ ws) zero d h = refl
@@ -185,6 +182,6 @@ pub chained : (ws : List Text) (i n : ℕ) (w : Text) (old more new : List Text)
     → new ≡ old ++ take n more → written new ≡ concat (take (i + 1) ws)
 chained ws i n w old more new h is said plain all so_far e =
     let whole : trimmed w ≡ written more = ap trimmed said ∙ written_whole more in
-    let gathered : new ≡ old ++ more = e ∙ ap (λ k. old ++ take k more) all ∙ ap (λ es. old ++ es) (all_taken more) in
+    let gathered : new ≡ old ++ more = e ∙ ap (λ k. old ++ take k more) all ∙ ap (λ es. old ++ es) (take-length more) in
     ap written gathered ∙ sym (ap (with_word (written old)) whole ∙ joined_written old more (sym plain))
     ∙ concat_step ws i w (trimmed w) (written old) (with_word (written old) (trimmed w)) h (is ∙ same_there ws i w h) refl so_far refl

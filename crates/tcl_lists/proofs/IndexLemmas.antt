@@ -1,6 +1,6 @@
 -- The element to which indices lead, a step at a time.
 use Rattle.std.proofs.Common.{◌≡◌, ◌≢◌, ℕ, zero, suc, ◌+◌, ◌<◌, ◌≤◌, List, [], ◌∷◌, length, drop, get_or, map, Ok, Err, sym, ap, ◌∙◌, refl, arith}
-use Rattle.std.proofs.lemmas.List.{drop_all}
+use Rattle.std.proofs.lemmas.List.{drop_all, drop_more}
 use Rattle.tcl_chars.specs.Answers.{Stops}
 use Rattle.tcl_chars.specs.declared.fault.Fault.{Fault}
 use Rattle.tcl_chars.specs.declared.fault.Fault.TheVariants as fault
@@ -33,14 +33,6 @@ stops_same fault.Memory r s e h = tt
 pub one_more : (n : ℕ) → suc n ≡ n + 1
 one_more n = omega arith
 
-rest_from : (ws : List Text) (i : ℕ) → i < length ws → drop i ws ≡ word ws i ∷ drop (suc i) ws
-rest_from [] i h = absurd (omega arith)
-rest_from (w ∷ ws) zero h = refl
-rest_from (w ∷ ws) (suc i) h = rest_from ws i (omega arith)
-
-pub rest_at : (ws : List Text) (i : ℕ) → i < length ws → drop i ws ≡ word ws i ∷ drop (i + 1) ws
-rest_at ws i h = rest_from ws i h ∙ ap (λ (n : ℕ). word ws i ∷ drop n ws) (one_more i)
-
 -- the same of a list of which something is seen
 module _ {A B : Type 0} (f : A → B) where
   seen_from : (xs : List A) (i : ℕ) (x : A) → i < length xs → x ≡ get_or xs i x → drop i (map f xs) ≡ f x ∷ drop (suc i) (map f xs)
@@ -62,12 +54,12 @@ at_one_index d list i is =
 
 pub index_goes_on : (d : Dialect) (list item t : Text) (ws : List Text) (i : ℕ) → i < length ws → t ≡ word ws i → item_by d list t ≡ Ok item → element_at d item (drop (i + 1) ws) ≡ element_at d list (drop i ws)
 index_goes_on d list item t ws i h w e =
-    sym (ap (element_at d list) (rest_at ws i h) ∙ at_one_index d list (word ws i) (drop (i + 1) ws) ∙ ap (λ u. item_by d list u >>= λ x. element_at d x (drop (i + 1) ws)) (sym w)
+    sym (ap (element_at d list) (drop_more ws i [] h) ∙ at_one_index d list (word ws i) (drop (i + 1) ws) ∙ ap (λ u. item_by d list u >>= λ x. element_at d x (drop (i + 1) ws)) (sym w)
     ∙ ap (λ r. r >>= λ x. element_at d x (drop (i + 1) ws)) e)
 
 pub index_stops : (d : Dialect) (f : Fault) (list t : Text) (ws : List Text) (i : ℕ) → i < length ws → t ≡ word ws i → Stops f (item_by d list t) → Stops f (element_at d list (drop i ws))
 index_stops d f list t ws i h w e =
-    stops_same f _ _ (sym (ap (element_at d list) (rest_at ws i h) ∙ at_one_index d list (word ws i) (drop (i + 1) ws) ∙ ap (λ u. item_by d list u >>= λ x. element_at d x (drop (i + 1) ws)) (sym w)))
+    stops_same f _ _ (sym (ap (element_at d list) (drop_more ws i [] h) ∙ at_one_index d list (word ws i) (drop (i + 1) ws) ∙ ap (λ u. item_by d list u >>= λ x. element_at d x (drop (i + 1) ws)) (sym w)))
     (stops_first f (item_by d list t) (λ x. element_at d x (drop (i + 1) ws)) e)
 
 pub index_ends : (d : Dialect) (list : Text) (ws : List Text) (i : ℕ) → length ws ≤ i → element_at d list (drop i ws) ≡ Ok list

@@ -1,5 +1,5 @@
 -- lsort(n), of the elements with their numbers.
-use Rattle.std.proofs.Common.{◌≡◌, ◌≢◌, ℕ, zero, suc, ◌+◌, ◌-◌, ℤ, pos, Bool, true, false, List, [], ◌∷◌, map, length, take, drop, Ok, Err, sym, ap, ◌∙◌, refl, arith}
+use Rattle.std.proofs.Common.{◌≡◌, ◌≢◌, ℕ, zero, suc, ◌+◌, ◌-◌, ℤ, pos, Bool, true, false, List, [], ◌∷◌, map, length, take, drop, Ok, sym, ap, ◌∙◌, refl, arith}
 use Rattle.std.specs.Prelude.{cond, int_lt}
 use Rattle.std.specs.Cmp.Lexicographic.{slice_cmp}
 use Rattle.std.specs.Ordering.{is_lt, int_cmp, nat_cmp}
@@ -17,14 +17,11 @@ use Rattle.tcl_lists.specs.WordAt.{word}
 use Rattle.tcl_lists.proofs.IndexLemmas.{stops_same, stops_first, in_steps}
 use Rattle.tcl_lists.proofs.SortLemmas.{seen_in_order}
 use Rattle.tcl_pages.specs.Answers.{Answer, ◌>>=◌}
+use Rattle.tcl_pages.proofs.Answers.{same_steps}
 use Rattle.tcl_pages.specs.Sorting.{in_order, directed, number_before, stands_before, numbered, sorted, sorted_elements, with_sort_option, plain_sort, sort_with, lsort}
 use Rattle.tcl_pages.specs.Texts.{Text}
 use Rattle.tcl_pages.specs.Usage.{usage}
 use Rattle.tcl_pages.specs.declared.lists.SortOptions.{SortOptions}
-
-same_steps : {A B : Type 0} (r : Answer A) (f g : A → Answer B) → ((a : A) → f a ≡ g a) → (r >>= f) ≡ (r >>= g)
-same_steps (Ok a) f g e = e a
-same_steps (Err m) f g e = refl
 
 abbrev pub its_text : ℤ × Text → Text
 its_text x = x.1

@@ -48,20 +48,20 @@ module _ {O : Type 0} (more : O → Text → Answer O) where
 
 -- ---- the choices that a message names
 
-said : List ℕ → List (List ℕ) → List ℕ
+unfoldable pub said : List ℕ → List (List ℕ) → List ℕ
 said p [] = p
 said p (q ∷ qs) = p ++ said q qs
 
-shown : List ℕ → List (List ℕ) → List ℕ
+unfoldable pub shown : List ℕ → List (List ℕ) → List ℕ
 shown p [] = chars p
 shown p (q ∷ qs) = chars p ++ shown q qs
 
-all_ascii : List (List ℕ) → Bool
+unfoldable pub all_ascii : List (List ℕ) → Bool
 all_ascii [] = true
 all_ascii (p ∷ ps) = is_ascii_text p && all_ascii ps
 
 -- literals one behind the other, as one
-said_in_parts : (p : List ℕ) (ps : List (List ℕ)) → all_ascii (p ∷ ps) ≡ true → chars (said p ps) ≡ shown p ps
+pub said_in_parts : (p : List ℕ) (ps : List (List ℕ)) → all_ascii (p ∷ ps) ≡ true → chars (said p ps) ≡ shown p ps
 unfolding said shown all_ascii
 said_in_parts p [] h = refl
 said_in_parts p (q ∷ qs) h =

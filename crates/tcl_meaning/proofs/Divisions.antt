@@ -1,11 +1,11 @@
 -- A name is divided_name at its first parenthesis, if its last character is the closing one.
-use Rattle.std.proofs.Common.{◌≡◌, ℕ, zero, suc, ◌+◌, ◌-◌, ◌<◌, Bool, true, false, cond, ◌==◌, List, [], ◌∷◌, ◌++◌, length, take, refl, sym, ap, ◌∙◌, subst, arith, inl, inr, length-append}
+use Rattle.std.proofs.Common.{◌≡◌, ℕ, zero, suc, true, false, ◌==◌, List, [], ◌∷◌, ◌++◌, refl, ap, ◌∙◌, arith, inl, inr}
 use Rattle.std.specs.Prelude.{Contains}
-use Rattle.std.proofs.Math.Seq.{take-append_seam}
 use Rattle.std.proofs.lemmas.Bool.{cases_Bool, cond-true, cond-false, eqb-true, eqb-false, ne_eqb}
 use Rattle.tcl_chars.specs.Characters.{open_paren, close_paren}
 use Rattle.tcl_chars.specs.Place.{begins, before}
-use Rattle.tcl_meaning.specs.Names.{from_paren, last_part, Name, whole_name, element_name, by_paren, divided_name}
+use Rattle.tcl_chars.proofs.SpelledIndices.{before_front}
+use Rattle.tcl_meaning.specs.Names.{from_paren, last_part, whole_name, element_name, by_paren, divided_name}
 use Rattle.tcl_meaning.specs.Laws.{IsElement}
 
 abbrev Lacks : List ℕ → ℕ → Type 0
@@ -23,9 +23,6 @@ lacks_tail c d cs h (k, l, at) = h (suc k, omega arith, at)
 
 lacks_head : (c d : ℕ) (cs : List ℕ) → Lacks (d ∷ cs) c → (d == c) ≡ false
 lacks_head c d cs h = ne_eqb d c (λ e. h (zero, omega arith, e))
-
-before_behind : (front rest : List ℕ) → before (front ++ rest) rest ≡ front
-before_behind front rest = ap (λ n. take n (front ++ rest)) (let e = length-append front rest in omega arith) ∙ take-append_seam front rest
 
 -- ---- the first parenthesis
 
@@ -79,8 +76,8 @@ element_divides name base index e =
     ap (λ n. by_paren n (from_paren n)) e.joined
     ∙ ap (by_paren (base ++ open_paren ∷ rest)) (from_first base rest e.no_paren)
     ∙ cond-true _ _ _ closes
-    ∙ ap (λ b. element_name b (before rest (last_part rest))) (before_behind base (open_paren ∷ rest))
-    ∙ ap (element_name base) (ap (before rest) last ∙ before_behind index (close_paren ∷ []))
+    ∙ ap (λ b. element_name b (before rest (last_part rest))) (before_front base (open_paren ∷ rest))
+    ∙ ap (element_name base) (ap (before rest) last ∙ before_front index (close_paren ∷ []))
 
 undivided : (name : List ℕ) → ((base index : List ℕ) → IsElement name base index → ⊥) → (rest : List ℕ) → Found name rest → by_paren name rest ≡ whole_name name
 undivided name none [] f = refl

@@ -6,7 +6,7 @@ use Rattle.tcl_meaning.specs.Input.{Want, input_taken}
 use Rattle.tcl_meaning.specs.Frames.{Frame, frame_at, set_frame, Level, frame_of_level}
 use Rattle.tcl_meaning.specs.Links.{link, link_from, spot_in}
 use Rattle.tcl_meaning.specs.Names.{divided_name}
-use Rattle.tcl_meaning.specs.State.{Store, with_link, Change, set_variable, drop_variable, set_command, drop_command, changed, State}
+use Rattle.tcl_meaning.specs.State.{Store, Change, set_variable, drop_variable, set_command, drop_command, changed, State}
 use Rattle.tcl_meaning.specs.Effects.{Scope, Here, At, Within, Prog, Give, Look, Make, Link, Write, Take, HasEnded, Exit, Call, Got, Gives, Broke, Exits, Untold, on_got, made, linked, wrote, took, take_from, entered, returned, exec, Plan, Now, Costs, paid, start, level, outcome}
 use Rattle.tcl_meaning.specs.Beginnings.{Called, call_of, calls, SameFrames, FramesStay}
 use Rattle.tcl_meaning.proofs.Linking.{link_is}

@@ -1,5 +1,5 @@
 -- A link is refused and nothing changes, or it is made to a place that is not its own.
-use Rattle.std.proofs.Common.{◌≡◌, Bool, true, false, refl, Option, Some, None}
+use Rattle.std.proofs.Common.{◌≡◌, Bool, true, false, refl, Some, None}
 use Rattle.std.specs.Prelude.{◌||◌, if◌then◌else◌}
 use Rattle.tcl_pages.specs.Texts.{Text}
 use Rattle.tcl_meaning.specs.declared.refusal.LinkRefusal.{LinkRefusal}

@@ -1,5 +1,5 @@
 -- One link more, among the links of all frames.
-use Rattle.std.proofs.Common.{ℕ, zero, suc, List, [], ◌∷◌, Bool, true, false, cond, Option, None, Some, ◌≡◌, ◌<◌, ◌≤◌, inl, inr, refl, ap, sym, ◌∙◌, ⊎_elim, ◌+◌, arith, length}
+use Rattle.std.proofs.Common.{ℕ, zero, suc, List, [], ◌∷◌, Bool, true, false, cond, Some, ◌≡◌, ◌<◌, ◌≤◌, refl, ap, sym, ◌∙◌, ⊎_elim, ◌+◌, arith, length}
 use Rattle.std.specs.Prelude.{is_some}
 use Rattle.std.specs.FinMap as map
 use Rattle.std.specs.FinMap.{get-insert, len-insert}

@@ -1,5 +1,5 @@
 -- A link that is made to a place which is no link closes no circle.
-use Rattle.std.proofs.Common.{ℕ, zero, suc, List, Bool, true, false, not, cond, Option, None, Some, ◌≡◌, ◌<◌, ◌≤◌, ◌⊎◌, inl, inr, refl, ap, sym, subst, ◌∙◌, ⊎_elim, ◌+◌, add-zero, add-one, arith, length}
+use Rattle.std.proofs.Common.{ℕ, zero, suc, List, Bool, true, false, not, cond, Option, None, Some, ◌≡◌, ◌<◌, ◌≤◌, ◌⊎◌, inl, inr, refl, ap, sym, ◌∙◌, ⊎_elim, ◌+◌, add-zero, add-one, arith, length}
 use Rattle.std.specs.Prelude.{is_some, nat_lt}
 use Rattle.std.specs.Ordering.{is_eq, nat_cmp}
 use Rattle.std.specs.Cmp.Lexicographic.{slice_cmp, bytes_decides}

@@ -12,7 +12,7 @@ use Rattle.tcl_meaning.specs.declared.code.Code.{Code}
 use Rattle.tcl_meaning.specs.declared.code.Code.TheVariants as code
 use Rattle.tcl_meaning.specs.Beginnings.{channels_of, OutputsBegin}
 use Rattle.tcl_meaning.specs.Completions.{Completion, failure, too_deep, code_now}
-use Rattle.tcl_meaning.specs.Effects.{Prog, Got, Gives, Broke, on_got, exec, Now, paid, start, ◌>>=◌ as andthen}
+use Rattle.tcl_meaning.specs.Effects.{Prog, Got, Gives, Broke, on_got, exec, Now, paid, start}
 use Rattle.tcl_meaning.specs.Script.{most_depth, plan, by_first, sequence, rest_by, run_command, with_words, Run}
 use Rattle.tcl_meaning.specs.State.{State, with_units, remains}
 use Rattle.tcl_meaning.specs.Substitution.{piece_text, index_text, pieces_text, expanded, words_text}

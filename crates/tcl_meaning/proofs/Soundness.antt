@@ -4,9 +4,10 @@ use Rattle.std.specs.FinMap as map
 use Rattle.std.specs.FinMap.{get-empty}
 use Rattle.std.specs.Ordering.{nat_cmp}
 use Rattle.std.specs.Cmp.Lexicographic.{slice_cmp, bytes_decides}
+use Rattle.std.proofs.lemmas.Bool.{and_from}
 use Rattle.std.proofs.lemmas.Bool.Decides.{eqb_tells}
 use mathlib.Core.Bool.{false≢true}
-use Rattle.std.specs.Prelude.{nat_eq, ◌==◌, ◌&&◌}
+use Rattle.std.specs.Prelude.{nat_eq, ◌==◌}
 use Rattle.tcl_pages.specs.Texts.{Text}
 use Rattle.tcl_meaning.specs.Beginnings.{calls, SameFrames, FramesStay, SoundAfter}
 use Rattle.tcl_meaning.specs.Completions.{Completion}
@@ -101,15 +102,11 @@ module _ (fs : List Frame) (callers : (i : ℕ) → (frame_at fs i).caller ≤ i
 
 -- ---- links
 
-true_and : (a b : Bool) → a ≡ true → b ≡ true → (a && b) ≡ true
-true_and true b h k = k
-true_and false b h k = absurd cc
-
 same_number : (i j : ℕ) → i ≡ j → nat_eq i j ≡ true
 same_number i j e = ⊎_elim (λ y. y.0) (λ n. absurd (n.1 e)) (eqb_tells i j)
 
 pub not_own : (s : Store) (local : Text) (t : Spot) → is_own s local t ≡ false → (t.frame ≡ s.active) × (t.name ≡ local) → ⊥
-not_own s local t h p = false≢true (sym h ∙ true_and _ _ (same_number t.frame s.active p.0) ((bytes_decides t.name local).1 p.1))
+not_own s local t h p = false≢true (sym h ∙ and_from _ _ (same_number t.frame s.active p.0) ((bytes_decides t.name local).1 p.1))
 
 home_down : (i : ℕ) (n : Name) → home i n ≤ i
 home_down i n = elim n.global as (λ b. cond b 0 i ≤ i) [ true ↦ omega arith | false ↦ omega arith ]

@@ -1,7 +1,7 @@
 -- Links lead to no later frame, and end: where a name leads, and what frames that are made and dropped leave of it.
-use Rattle.std.proofs.Common.{ℕ, zero, suc, ◌+◌, ◌≤◌, ◌<◌, List, [], ◌∷◌, ◌++◌, Bool, true, false, not, Option, None, Some, ◌≡◌, ◌⊎◌, refl, ap, sym, subst, ◌∙◌, ⊎_elim, arith, length, take}
+use Rattle.std.proofs.Common.{ℕ, zero, suc, ◌+◌, ◌≤◌, ◌<◌, List, [], ◌∷◌, ◌++◌, Bool, true, not, Option, None, Some, ◌≡◌, refl, ap, sym, subst, ◌∙◌, ⊎_elim, arith, length, take}
 use Rattle.std.specs.FinMap as map
-use Rattle.std.specs.FinMap.{get-empty, len-empty}
+use Rattle.std.specs.FinMap.{get-empty}
 use Rattle.std.specs.Ordering.{nat_cmp}
 use Rattle.std.specs.Cmp.Lexicographic.{slice_cmp}
 use Rattle.std.specs.Prelude.{is_some, nat_lt}

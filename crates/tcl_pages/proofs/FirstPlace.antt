@@ -19,7 +19,7 @@ begun (c ∷ cs) (d ∷ ds) h =
     let more = begun cs ds p.1 in
     record { rest = more.rest; joined = ap (λ x. x ∷ ds) (sym (eqb-true c d p.0)) ∙ ap (λ t. c ∷ t) more.joined }
 
-begins : (needle rest : Text) → begins_with needle (needle ++ rest) ≡ true
+pub begins : (needle rest : Text) → begins_with needle (needle ++ rest) ≡ true
 begins [] rest = refl
 begins (c ∷ cs) rest = ap (λ b. b && begins_with cs (cs ++ rest)) (eq-eqb c c refl) ∙ begins cs rest
 

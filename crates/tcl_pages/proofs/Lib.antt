@@ -1,3 +1,4 @@
+pub mod Answers
 pub mod FirstPlace
 pub mod Glob
 pub mod Sorting

@@ -1,6 +1,6 @@
 -- A list sorted is the one stable ordered rearrangement of it.
-use Rattle.std.proofs.Common.{◌≡◌, ℕ, zero, suc, ◌+◌, ◌<◌, Bool, true, false, not, ◌&&◌, List, [], ◌∷◌, ◌++◌, length, get_or, sym, ap, ◌∙◌, subst, refl, arith, inl, inr}
-use Rattle.std.specs.Prelude.{if◌then◌else◌, cond, ◌↔◌}
+use Rattle.std.proofs.Common.{◌≡◌, ℕ, zero, suc, ◌+◌, Bool, true, false, not, List, [], ◌∷◌, get_or, sym, ap, ◌∙◌, subst, refl, arith, inl, inr}
+use Rattle.std.specs.Prelude.{cond}
 use Rattle.std.specs.Cmp.{IsStrictWeakOrder}
 use Rattle.std.specs.List.{filter}
 use Rattle.std.specs.List.Sorted.{IsPermutation, IsSortedBy, IsStableBy, ties}

@@ -1,6 +1,6 @@
 -- Where the finder of bytes finds a needle is where the definition has it.
-use Rattle.std.proofs.Common.{◌≡◌, ◌≤◌, ◌<◌, ◌+◌, ◌-◌, ℕ, zero, suc, min, true, false, ◌&&◌, [], ◌∷◌, ◌++◌, length, take, drop, Option, Some, None, ap, sym, ◌∙◌, subst, refl, arith, inl, inr, get_or-take, length-drop, length-take-le, drop-drop}
-use Rattle.std.proofs.lemmas.Bool.{cases_Bool, and_parts, cond-true, cond-false, eq-eqb, eqb-true, false≢true, lt-ltb, ltb-true, le-ltb, ltb-false, le-leb, leb-true, lt-leb, leb-false}
+use Rattle.std.proofs.Common.{◌≡◌, ◌≤◌, ◌<◌, ◌+◌, ◌-◌, ℕ, zero, suc, min, true, false, [], ◌∷◌, length, take, drop, Option, Some, None, ap, sym, ◌∙◌, subst, refl, arith, inl, inr, get_or-take, length-drop, length-take-le, drop-drop}
+use Rattle.std.proofs.lemmas.Bool.{cases_Bool, and_parts, cond-true, cond-false, eqb-true, false≢true, lt-ltb, ltb-true, le-ltb, ltb-false, le-leb, leb-true, lt-leb, leb-false}
 use Rattle.std.proofs.lemmas.List.{take_rest}
 use Rattle.std.specs.Prelude.{ℤ, pos, negsuc, ◌+ℤ◌, nat_lt, nat_le, ◌==◌}
 use Rattle.memchr.proofs.lemmas.MatchLemmas.{OccursAt-split, OccursAt-from_part}
@@ -8,6 +8,7 @@ use Rattle.memchr.specs.Find.{OccursAt, FindsNeedle, FindsLastNeedle}
 use Rattle.tcl_pages.specs.Lists.{clamped}
 use Rattle.tcl_pages.specs.Strings.{begins_with, places_of, found_at, is_before, first_from, ends_by, last_until}
 use Rattle.tcl_pages.specs.Texts.{Text}
+use Rattle.tcl_pages.proofs.FirstPlace.{begins}
 
 -- ---- where the needle begins what is left
 
@@ -18,10 +19,6 @@ begun (c ∷ cs) (d ∷ ds) h =
     let p = and_parts _ _ h in
     let more = begun cs ds p.1 in
     (omega (arith, more.0), ap (λ x. x ∷ take (length cs) ds) (sym (eqb-true c d p.0)) ∙ ap (λ t. c ∷ t) more.1)
-
-begins : (needle rest : Text) → begins_with needle (needle ++ rest) ≡ true
-begins [] rest = refl
-begins (c ∷ cs) rest = ap (λ b. b && begins_with cs (cs ++ rest)) (eq-eqb c c refl) ∙ begins cs rest
 
 occurs_begins : (hay needle : Text) (k : ℕ) → OccursAt hay needle k → begins_with needle (drop k hay) ≡ true
 occurs_begins hay needle k h = subst (λ t. begins_with needle t ≡ true) (sym (OccursAt-split hay needle k h)) (begins needle _)

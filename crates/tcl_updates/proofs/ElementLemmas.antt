@@ -1,5 +1,5 @@
 -- One element of a value that is read as a list.
-use Rattle.std.proofs.Common.{◌≡◌, ℕ, zero, suc, ◌+◌, ◌<◌, ◌≤◌, Bool, true, List, [], ◌∷◌, ◌++◌, take, drop, length, get_or, refl, sym, ap, ◌∙◌, arith, lt-ltb, Option, Some, None, Result, Ok, Err}
+use Rattle.std.proofs.Common.{◌≡◌, ℕ, zero, suc, ◌<◌, List, [], ◌∷◌, ◌++◌, take, drop, length, get_or, refl, sym, ap, ◌∙◌, arith, lt-ltb, Option, None, Result, Ok, Err}
 use Rattle.std.specs.Prelude.{cond, nat_lt, slice_get, slice_set}
 use Rattle.tcl_chars.specs.Reading.{◌>>=◌}
 use Rattle.tcl_list.specs.Elements.{elements_of}

@@ -1,5 +1,5 @@
 -- The way that indices lead through lists in lists, and what a change at its end leaves.
-use Rattle.std.proofs.Common.{◌≡◌, ℕ, zero, suc, ◌+◌, ◌<◌, ◌≤◌, List, [], ◌∷◌, ◌++◌, map, take, drop, length, get_or, append_assoc, refl, sym, ap, ◌∙◌, subst, arith, Ok, Err}
+use Rattle.std.proofs.Common.{◌≡◌, ℕ, ◌+◌, ◌<◌, ◌≤◌, List, [], ◌∷◌, ◌++◌, take, drop, length, get_or, append_assoc, refl, sym, ap, ◌∙◌, Ok, Err}
 use Rattle.tcl_chars.specs.Answers.{Stops}
 use Rattle.tcl_chars.specs.declared.fault.Fault.{Fault}
 use Rattle.tcl_chars.specs.declared.numbers.Dialect.{Dialect}
@@ -8,15 +8,11 @@ use Rattle.tcl_list.specs.Written.{written}
 use Rattle.tcl_lists.proofs.IndexLemmas.{in_steps, stops_first, stops_same}
 use Rattle.tcl_lists.proofs.OptionLemmas.{front_at}
 use Rattle.tcl_pages.specs.Answers.{Answer, ◌>>=◌}
+use Rattle.tcl_pages.proofs.Answers.{same_steps}
 use Rattle.tcl_pages.specs.Lists.{index, place_within, with_element, element_set}
 use Rattle.tcl_pages.specs.Texts.{Text}
 use Rattle.tcl_updates.specs.Way.{place_by, element_in, put, seen, all_seen, way_of, put_all}
 use Rattle.tcl_updates.specs.declared.path.Level.{Level}
-use Rattle.tcl_values.specs.Lists.{Leaves}
-
-same_steps : {A B : Type 0} (r : Answer A) (f g : A → Answer B) → ((a : A) → f a ≡ g a) → (r >>= f) ≡ (r >>= g)
-same_steps (Ok a) f g e = e a
-same_steps (Err m) f g e = refl
 
 as_it_is : {A : Type 0} (r : Answer A) → (r >>= λ x. Ok x) ≡ r
 as_it_is (Ok x) = refl

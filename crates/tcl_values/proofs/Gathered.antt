@@ -1,5 +1,5 @@
 -- Elements that are gathered to be a list.
-use Rattle.std.proofs.Common.{◌≡◌, ℕ, zero, suc, ◌+◌, ◌≤◌, ◌<◌, List, [], ◌∷◌, ◌++◌, length, get_or, max, map, take, drop, reverse, append_assoc, ap, sym, ◌∙◌, refl, arith}
+use Rattle.std.proofs.Common.{◌≡◌, ℕ, zero, suc, ◌+◌, ◌≤◌, ◌<◌, List, [], ◌∷◌, ◌++◌, length, get_or, max, take, drop, reverse, append_assoc, ap, sym, ◌∙◌, refl, arith}
 use Rattle.std.proofs.lemmas.List.{append-nil, map-append, reverse-append, take_more}
 use Rattle.tcl_pages.specs.Lists.{times}
 use Rattle.tcl_values.proofs.Depths.{depth_least, depth_over-append, depth_over-push, depth_take, depth_drop}

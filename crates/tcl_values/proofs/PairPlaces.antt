@@ -6,7 +6,7 @@ use Rattle.std.specs.Str.{chars, IsUtf8, bytes_eq, encode_utf8_all}
 use Rattle.std.specs.Rc.{rc_str_bytes}
 use Rattle.std.specs.declared.rc.RcStr.{RcStr}
 use Rattle.std.specs.declared.alloc.Global.{Global}
-use Rattle.std.proofs.lemmas.Bool.{cond-true, cond-false, cases_lt, lt-ltb, le-ltb}
+use Rattle.std.proofs.lemmas.Bool.{cond-true, cond-false, or_parts, cases_lt, lt-ltb, le-ltb}
 use Rattle.std.proofs.lemmas.List.{length-map, map-set, map-append}
 use Rattle.std.proofs.lemmas.Str.{encodes-chars, IsUtf8-string_bytes}
 use Rattle.tcl_chars.specs.Texts.{same_text, text_of}
@@ -16,7 +16,7 @@ use Rattle.tcl_pages.proofs.Glob.{same_truth}
 use Rattle.tcl_pages.specs.Texts.{Text}
 use Rattle.tcl_values.specs.Kept.{Kept, texts}
 use Rattle.tcl_values.specs.Paired.{zipped}
-use Rattle.tcl_values.proofs.PairTexts.{same_is, or_false}
+use Rattle.tcl_values.proofs.PairTexts.{same_is}
 
 -- texts are the same where their bytes are
 same_key : (a : List ℕ) → IsUtf8 a → (j : RcStr Global) → bytes_eq a (rc_str_bytes j) ≡ same_text (text_of j) (chars a)
@@ -54,7 +54,7 @@ module _ (test : RcStr Global → Bool) (k : Text) (tells : (j : RcStr Global) �
   put_last [] (w ∷ ws) v e n = absurd (omega (arith, e))
   put_last (j ∷ js) [] v e n = absurd (omega (arith, e))
   put_last (j ∷ js) (w ∷ ws) v e n =
-      let no = or_false (test j) (list_any test js) n in
+      let no = or_parts (test j) (list_any test js) n in
       cond-false _ _ _ (sym (tells j) ∙ no.0) ∙ ap (λ ps. (text_of j, w) ∷ ps) (put_last js ws v (omega (arith, e)) no.1)
 
   found_at : (js : List (RcStr Global)) (vs : List Text) → length js ≡ length vs → position_or_len test js < length js → value_at k (zipped (map text_of js) vs) ≡ slice_get vs (position_or_len test js)
@@ -70,7 +70,7 @@ module _ (test : RcStr Global → Bool) (k : Text) (tells : (j : RcStr Global) �
   found_not [] vs n = refl
   found_not (j ∷ js) [] n = refl
   found_not (j ∷ js) (w ∷ ws) n =
-      let no = or_false (test j) (list_any test js) n in
+      let no = or_parts (test j) (list_any test js) n in
       cond-false _ _ _ (sym (tells j) ∙ no.0) ∙ found_not js ws no.1
 
   without_at : (js : List (RcStr Global)) (vs : List Text) → length js ≡ length vs → position_or_len test js < length js → without_key k (zipped (map text_of js) vs) ≡ zipped (map text_of (remove js (position_or_len test js))) (remove vs (position_or_len test js))
@@ -89,7 +89,7 @@ module _ (test : RcStr Global → Bool) (k : Text) (tells : (j : RcStr Global) �
   without_none [] vs n = refl
   without_none (j ∷ js) [] n = refl
   without_none (j ∷ js) (w ∷ ws) n =
-      let no = or_false (test j) (list_any test js) n in
+      let no = or_parts (test j) (list_any test js) n in
       cond-false _ _ _ (sym (tells j) ∙ no.0) ∙ ap (λ ps. (text_of j, w) ∷ ps) (without_none js ws no.1)
 
 some_is : (a b : ℕ) → Some a ≡ Some b → a ≡ b

@@ -1,7 +1,7 @@
 -- Dictionaries that are written read as their pairs (dict(n)).
-use Rattle.std.proofs.Common.{◌≡◌, Bool, true, false, ◌||◌, List, [], ◌∷◌, ◌++◌, Ok, Err, refl, sym, ap, ◌∙◌, append_assoc, subst}
+use Rattle.std.proofs.Common.{◌≡◌, Bool, true, false, List, [], ◌∷◌, ◌++◌, Ok, Err, refl, sym, ap, ◌∙◌, append_assoc, subst}
 use Rattle.std.specs.Cmp.Lexicographic.{bytes_decides}
-use Rattle.std.proofs.lemmas.Bool.{cond-true, cond-false}
+use Rattle.std.proofs.lemmas.Bool.{cond-true, cond-false, or_from, or_parts}
 use Rattle.std.proofs.lemmas.List.{append-nil}
 use Rattle.tcl_chars.specs.Texts.{same_text}
 use Rattle.tcl_list.specs.Elements.{elements_of}
@@ -20,24 +20,17 @@ same_is a b e = (bytes_decides a b).0 e
 same_symm : (a b : Text) → same_text a b ≡ same_text b a
 same_symm a b = same_truth (same_text a b) (same_text b a) (λ e. (bytes_decides b a).1 (sym (same_is a b e))) (λ e. (bytes_decides a b).1 (sym (same_is b a e)))
 
-pub or_false : (a b : Bool) → (a || b) ≡ false → (a ≡ false) × (b ≡ false)
-or_false true b e = absurd cc
-or_false false b e = (refl, e)
-
-neither : (a b : Bool) → a ≡ false → b ≡ false → (a || b) ≡ false
-neither a b e f = rw (e, f) refl
-
 -- ---- no key stands twice
 
 still_new : (ps : Pairs) (k v q : Text) → has_key q ps ≡ false → same_text k q ≡ false → has_key q (put_key ps k v) ≡ false
-still_new [] k v q h s = neither (same_text k q) false s refl
+still_new [] k v q h s = or_from (same_text k q) false s refl
 still_new (p ∷ ps) k v q h s = by (same_text p.0 k) refl (λ n. still_new ps k v q n s)
   where
     by : (b : Bool) → same_text p.0 k ≡ b → (has_key q ps ≡ false → has_key q (put_key ps k v) ≡ false) → has_key q (put_key (p ∷ ps) k v) ≡ false
-    by true e rest = ap (has_key q) (cond-true _ ((k, v) ∷ ps) (p ∷ put_key ps k v) e) ∙ neither _ _ s (or_false (same_text p.0 q) (has_key q ps) h).1
+    by true e rest = ap (has_key q) (cond-true _ ((k, v) ∷ ps) (p ∷ put_key ps k v) e) ∙ or_from _ _ s (or_parts (same_text p.0 q) (has_key q ps) h).1
     by false e rest =
-        let parts = or_false (same_text p.0 q) (has_key q ps) h in
-        ap (has_key q) (cond-false _ ((k, v) ∷ ps) (p ∷ put_key ps k v) e) ∙ neither _ _ parts.0 (rest parts.1)
+        let parts = or_parts (same_text p.0 q) (has_key q ps) h in
+        ap (has_key q) (cond-false _ ((k, v) ∷ ps) (p ∷ put_key ps k v) e) ∙ or_from _ _ parts.0 (rest parts.1)
 
 pub distinct_put : (ps : Pairs) (k v : Text) → AreDistinct ps → AreDistinct (put_key ps k v)
 distinct_put [] k v d = (refl, tt)
@@ -56,11 +49,11 @@ fewer [] k q h = h
 fewer (p ∷ ps) k q h = by (same_text p.0 k) refl (λ n. fewer ps k q n)
   where
     parts : (same_text p.0 q ≡ false) × (has_key q ps ≡ false)
-    parts = or_false (same_text p.0 q) (has_key q ps) h
+    parts = or_parts (same_text p.0 q) (has_key q ps) h
 
     by : (b : Bool) → same_text p.0 k ≡ b → (has_key q ps ≡ false → has_key q (without_key k ps) ≡ false) → has_key q (without_key k (p ∷ ps)) ≡ false
     by true e rest = ap (has_key q) (cond-true _ ps (p ∷ without_key k ps) e) ∙ parts.1
-    by false e rest = ap (has_key q) (cond-false _ ps (p ∷ without_key k ps) e) ∙ neither _ _ parts.0 (rest parts.1)
+    by false e rest = ap (has_key q) (cond-false _ ps (p ∷ without_key k ps) e) ∙ or_from _ _ parts.0 (rest parts.1)
 
 pub distinct_without : (ps : Pairs) (k : Text) → AreDistinct ps → AreDistinct (without_key k ps)
 distinct_without [] k d = d
@@ -75,16 +68,16 @@ distinct_without (p ∷ ps) k d = by (same_text p.0 k) refl (distinct_without ps
 put_new : (ps : Pairs) (k v : Text) → has_key k ps ≡ false → put_key ps k v ≡ ps ++ (k, v) ∷ []
 put_new [] k v h = refl
 put_new (p ∷ ps) k v h =
-    let parts = or_false (same_text p.0 k) (has_key k ps) h in
+    let parts = or_parts (same_text p.0 k) (has_key k ps) h in
     cond-false _ _ _ parts.0 ∙ ap (λ qs. p ∷ qs) (put_new ps k v parts.1)
 
 other_key : (qs : Pairs) (p : Text × Text) (ps : Pairs) (q : Text) → has_key q (qs ++ p ∷ ps) ≡ false → same_text p.0 q ≡ false
-other_key [] p ps q h = (or_false (same_text p.0 q) (has_key q ps) h).0
-other_key (r ∷ qs) p ps q h = other_key qs p ps q (or_false (same_text r.0 q) (has_key q (qs ++ p ∷ ps)) h).1
+other_key [] p ps q h = (or_parts (same_text p.0 q) (has_key q ps) h).0
+other_key (r ∷ qs) p ps q h = other_key qs p ps q (or_parts (same_text r.0 q) (has_key q (qs ++ p ∷ ps)) h).1
 
 new_key : (qs : Pairs) (p : Text × Text) (ps : Pairs) → AreDistinct (qs ++ p ∷ ps) → has_key p.0 qs ≡ false
 new_key [] p ps d = refl
-new_key (q ∷ qs) p ps d = neither _ _ (same_symm q.0 p.0 ∙ other_key qs p ps q.0 d.0) (new_key qs p ps d.1)
+new_key (q ∷ qs) p ps d = or_from _ _ (same_symm q.0 p.0 ∙ other_key qs p ps q.0 d.0) (new_key qs p ps d.1)
 
 puts_back : (qs ps : Pairs) → AreDistinct (qs ++ ps) → put_keys qs ps ≡ qs ++ ps
 puts_back qs [] d = sym (append-nil qs)

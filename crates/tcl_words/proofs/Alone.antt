@@ -1,7 +1,7 @@
 -- The text in a bracket, read alone, has the same commands as inside.
 use Rattle.std.proofs.Common.{◌≡◌, ℕ, zero, suc, ◌+◌, ◌≤◌, Bool, true, false, ◌&&◌, ◌==◌, List, [], ◌∷◌, ◌++◌, length, drop, Option, None, Result, Ok, Err, refl, sym, ap, subst, ◌∙◌, arith, inl, inr, ◌⊎◌}
 use Rattle.std.specs.Prelude.{IfOk}
-use Rattle.std.proofs.lemmas.Bool.{cases_Bool, true≢false, eqb-true}
+use Rattle.std.proofs.lemmas.Bool.{cases_Bool, and_parts, true≢false, eqb-true}
 use Rattle.std.proofs.lemmas.List.{nil_from_length}
 use Rattle.std.proofs.Math.Bool.{and-false}
 use Rattle.tcl_chars.specs.Characters.{star, close_bracket, close_brace, open_brace, open_paren}
@@ -23,7 +23,7 @@ use Rattle.tcl_words.proofs.Bracketed.{closed_by, behind, length_closed, place_a
 use Rattle.tcl_words.proofs.BracketedTurns.{Cut, cut_of, of_cut, turns_alone}
 use Rattle.tcl_chars.proofs.Ends.{always, ends_le, if_bind, if_cond, forward_shrinks}
 use Rattle.tcl_words.proofs.Forward.{Inside, plain_past, piece_forward, word_forward, first_forward, words_end, command_end, inner_inside}
-use Rattle.tcl_words.proofs.BracketedKinds.{tail_le, tail_lt, Clear, no_bracket, kind_bare, kind_quoted, kind_index, kind_at_bracket, plain_bare, plain_same, was_closed, closed_is_le, shape_rest, word_rest, and_true, ends_at_bracket, word_from, bracket_or_clear, no_blanks_at, command_from, command_rest, command_clear, command_alone, scan_of}
+use Rattle.tcl_words.proofs.BracketedKinds.{tail_le, tail_lt, Clear, no_bracket, kind_bare, kind_quoted, kind_index, kind_at_bracket, plain_bare, plain_same, was_closed, closed_is_le, shape_rest, word_rest, ends_at_bracket, word_from, bracket_or_clear, no_blanks_at, command_from, command_rest, command_clear, command_alone, scan_of}
 
 -- ---- pieces and words, where the same is known of what nests
 
@@ -227,9 +227,9 @@ module _ (n : ℕ) (y : List ℕ) (inner alone : Inner) (inside : Inside inner) 
       elim (cases_Bool (marked false (c ∷ d ∷ e ∷ f ∷ r))) [
         | inr plain ↦ rw plain (word_of_alone false false (form_of (c ∷ d ∷ e ∷ f ∷ r)) c (d ∷ e ∷ f ∷ r))
         | inl starred ↦ cut_of y (Clear false y) (word_of whole inner true false (form_of (c ∷ d ∷ e ∷ f ∷ r)) (closed_by (c ∷ d ∷ e ∷ f ∷ r) y)) _ (λ p eq big fine.
-            let front = and_true (c == open_brace && d == star && e == close_brace) _ starred in
-            let third = and_true (c == open_brace && d == star) (e == close_brace) front.0 in
-            let second = and_true (c == open_brace) (d == star) third.0 in
+            let front = and_parts (c == open_brace && d == star && e == close_brace) _ starred in
+            let third = and_parts (c == open_brace && d == star) (e == close_brace) front.0 in
+            let second = and_parts (c == open_brace) (d == star) third.0 in
             let c_is : c ≡ 123 = eqb-true c 123 second.0 in
             let d_is : d ≡ 42 = eqb-true d 42 second.1 in
             let e_is : e ≡ 125 = eqb-true e 125 third.1 in

@@ -1,5 +1,5 @@
 -- What stands at the front before a `]`, and what is put together of it, where the text ends there.
-use Rattle.std.proofs.Common.{◌≡◌, ℕ, suc, ◌<◌, ◌≤◌, Bool, true, false, cond, ◌&&◌, ◌==◌, List, [], ◌∷◌, length, Option, Some, None, Result, Ok, Err, refl, sym, ap, subst, ◌∙◌, arith, inl, inr, ◌⊎◌}
+use Rattle.std.proofs.Common.{◌≡◌, ℕ, suc, ◌<◌, ◌≤◌, Bool, true, false, cond, ◌==◌, List, [], ◌∷◌, length, Option, Some, None, Result, Ok, Err, refl, sym, ap, subst, ◌∙◌, arith, inl, inr, ◌⊎◌}
 use Rattle.std.specs.Prelude.{IfOk, if◌then◌else◌}
 use Rattle.std.proofs.lemmas.Bool.{cases_Bool, true≢false, eqb-true}
 use Rattle.std.proofs.Math.Bool.{or-true}
@@ -94,10 +94,6 @@ shape_rest d (Err m) = d
 abbrev pub word_rest : List ℕ → Result (Option Shape × List ℕ) Syntax → List ℕ
 word_rest d (Ok p) = p.1
 word_rest d (Err m) = d
-
-pub and_true : (a b : Bool) → (a && b) ≡ true → (a ≡ true) × (b ≡ true)
-and_true true b e = (refl, e)
-and_true false b e = absurd cc
 
 pub ends_at_bracket : (c : ℕ) (rest : List ℕ) → (c == close_bracket) ≡ true → ends_word true (c ∷ rest) ≡ true
 ends_at_bracket c rest here = rw (here, or-true) refl

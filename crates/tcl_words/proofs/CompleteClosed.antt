@@ -1,6 +1,6 @@
 -- A complete text is closed: it ends in no hidden newline, and no command in it is open.
-use Rattle.std.proofs.Common.{◌≡◌, ℕ, Bool, true, false, not, ◌&&◌, List, Result, Ok, Err, refl, sym, ap, ◌∙◌}
-use Rattle.std.proofs.lemmas.Bool.{and_parts, true≢false}
+use Rattle.std.proofs.Common.{◌≡◌, ℕ, Bool, true, false, not, List, Result, Ok, Err, refl, sym, ap, ◌∙◌}
+use Rattle.std.proofs.lemmas.Bool.{and_from, and_parts, true≢false}
 use Rattle.tcl_chars.specs.Place.{bytes}
 use Rattle.tcl_chars.specs.Reading.{◌>>=◌}
 use Rattle.tcl_words.specs.declared.fault.Syntax.{Syntax}
@@ -35,14 +35,10 @@ all_closed : (cs : List ℕ) → ((m : Syntax) → BadCommands (bytes cs) most_l
 unfolding after_commands
 all_closed cs h = none_open cs (commands_at (bytes cs) (inner_at (bytes cs) most_levels) false cs) refl h
 
-both_true : (a b : Bool) → a ≡ true → b ≡ true → (a && b) ≡ true
-both_true true b e f = f
-both_true false b e f = e
-
 pub complete_is_closed : CompleteIsClosed
 complete_is_closed cs = (
   λ e.
       let both = and_parts (not (ends_hidden false false cs)) (not (ends_open (after_all cs))) e in
       (is_false (ends_hidden false false cs) both.0, λ m b. sym (ap ends_open (bad_all cs m b)) ∙ is_false (ends_open (after_all cs)) both.1),
-  λ (h, k). both_true (not (ends_hidden false false cs)) (not (ends_open (after_all cs))) (is_not (ends_hidden false false cs) h) (is_not (ends_open (after_all cs)) (all_closed cs k)),
+  λ (h, k). and_from (not (ends_hidden false false cs)) (not (ends_open (after_all cs))) (is_not (ends_hidden false false cs) h) (is_not (ends_open (after_all cs)) (all_closed cs k)),
 )

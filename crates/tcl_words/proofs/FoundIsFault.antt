@@ -5,6 +5,7 @@ use Rattle.std.proofs.lemmas.Bool.{cases_Bool, and_parts, true≢false}
 use Rattle.tcl_chars.specs.Characters.{backslash, dollar, quote, open_bracket, open_brace, close_brace, open_paren}
 use Rattle.tcl_chars.specs.Place.{EndsWith, begins, tail, before, place}
 use Rattle.tcl_chars.specs.Reading.{◌>>=◌, Reading, with_front, after_turn, turns, all_turns}
+use Rattle.tcl_chars.proofs.SpelledIndices.{cut_at}
 use Rattle.tcl_chars.proofs.Turns.{Shrinks, shorter}
 use Rattle.tcl_words.specs.declared.blanks.Gap.TheVariants as gap
 use Rattle.tcl_words.specs.declared.fault.Syntax.{Syntax}
@@ -21,7 +22,7 @@ use Rattle.tcl_words.specs.Spelling.{ends_word, begins_variable, marked, IsLonge
 use Rattle.tcl_words.specs.Words.{after_blanks, after_gaps, after_name, at_variable_brace, at_brace, verbatim_at, braced_at, begins_hidden_newline, kind_of, ends_pieces, fault_at_end, form_of, closed, Inner, inner_at, named, variable_at, bracket_at, piece_of, piece_at, pieces_at, quoted_at, word_of, word_at, next_word, words_at, first_at, commands_at, after_commands, closing}
 use Rattle.tcl_chars.proofs.Ends.{if_ok, forward_shrinks}
 use Rattle.tcl_words.proofs.Forward.{verbatim_forward, piece_forward, word_forward, first_forward, inner_inside, name_end}
-use Rattle.tcl_words.proofs.ReadIsSpelled.{cut_at, headed, longest_before, BracedText, braced_spelled, quoted_spelled, braced_body, quoted_body, KindIs, kind_facts, FormIs, form_facts, mark_parts, no_comment, gaps_passed, PieceIs, piece_is, WordIs, word_is, FirstSpelled, first_spelled, commands_spelled, nest_spelled}
+use Rattle.tcl_words.proofs.ReadIsSpelled.{headed, longest_before, BracedText, braced_spelled, quoted_spelled, braced_body, quoted_body, KindIs, kind_facts, FormIs, form_facts, mark_parts, no_comment, gaps_passed, PieceIs, piece_is, WordIs, word_is, FirstSpelled, first_spelled, commands_spelled, nest_spelled}
 use Rattle.tcl_words.proofs.ScansSpelled.{one_is, blanks_spelled, gaps_spelled, braces_read}
 
 -- ---- steps that fail

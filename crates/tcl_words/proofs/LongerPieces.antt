@@ -98,7 +98,7 @@ braced_kept n big y c t =
 
 -- ---- pieces
 
-open_end : (m : Mode) → is_open (fault_at_end m) ≡ true
+pub open_end : (m : Mode) → is_open (fault_at_end m) ≡ true
 open_end (mode.Bare nested) = refl
 open_end mode.Quoted = refl
 open_end mode.Index = refl

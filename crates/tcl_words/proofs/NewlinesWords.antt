@@ -25,7 +25,7 @@ use Rattle.tcl_words.proofs.FillsPieces.{over_same}
 use Rattle.tcl_words.proofs.Forward.{Inside, piece_forward, word_forward, first_forward, inner_inside}
 use Rattle.tcl_words.proofs.Longer.{some, firm, Firm, Scanned, name_longer, variable_brace_longer, brace_longer, blanks_longer, gaps_longer, ends_longer}
 use Rattle.tcl_words.proofs.LongerKinds.{settled, nothing, unsettled, kind_longer}
-use Rattle.tcl_words.proofs.LongerPieces.{Nested, inside_fine, braced_kept, quoted_kept, named_loose, piece_over, pieces_go}
+use Rattle.tcl_words.proofs.LongerPieces.{Nested, inside_fine, braced_kept, open_end, quoted_kept, named_loose, piece_over, pieces_go}
 use Rattle.tcl_words.proofs.LongerTurns.{Kept, Over, true_not_false, Goes}
 use Rattle.tcl_words.proofs.LongerWords.{Mere, mere_colon, mere_backslash, mere, mere_open, ends_backslash, closed_loose, inner_nested, brace_open, star_open, star_over, marked_mere, from_over, words_go, command_over, first_over, first_kept}
 use Rattle.tcl_words.proofs.Newlines.{Still, Open, Left, LeftSome, over_still, loose_still, still_weak, still_bind, open_bind, open_left, turns_still}
@@ -76,11 +76,6 @@ braced_of n t (Ok close) s l h = let (x, e) = inside_fine (place n close) (befor
 braced_still : (n c : ℕ) (t : List ℕ) (l : Result (List Part × List ℕ) Syntax) → Still Open (braced_at n (c ∷ t)) l
 unfolding braced_at
 braced_still n c t l = braced_of n t (at_brace false 0 t) (at_brace false 0 (t ++ nl)) l (brace_longer false 0 t nl)
-
-end_open : (m : Mode) → is_open (fault_at_end m) ≡ true
-end_open (mode.Bare nested) = refl
-end_open mode.Quoted = refl
-end_open mode.Index = refl
 
 open_is : {A : Type 0} (q : Result A Syntax) → Open q → (m : Syntax) × (q ≡ Err m) × (is_open m ≡ true)
 open_is (Ok p) h = absurd h
@@ -162,7 +157,7 @@ module _ (n big levels : ℕ) (below : StillNested (inner_at n levels) (inner_at
 
   piece_of_still : (m : Mode) (k : Kind) (c : ℕ) (t : List ℕ) → Still Open (piece_of n inner m k (c ∷ t)) (piece_of big long m k (c ∷ (t ++ nl)))
   piece_of_still m kind.Ends c t = tt
-  piece_of_still m kind.Open c t = λ shut. true_not_false (is_open (fault_at_end m)) (end_open m) shut
+  piece_of_still m kind.Open c t = λ shut. true_not_false (is_open (fault_at_end m)) (open_end m) shut
   piece_of_still m kind.Backslashed c t = tt
   piece_of_still m kind.Opening c t = bound (bracket_at n inner (c ∷ t)) (bracket_at big long (c ∷ (t ++ nl))) (λ x. (Some x.0, x.1)) _ (bound (inner.bracket t) (long.bracket (t ++ nl)) _ _ (below.bracket t))
   piece_of_still m kind.Variable c t = bound (variable_at n inner (c ∷ t)) (variable_at big long (c ∷ (t ++ nl))) (λ x. (Some x.0, x.1)) _ (variable_still c t)

@@ -1,7 +1,7 @@
 -- An operand is read as it is spelled, and so is its fault.
 use Rattle.std.proofs.Common.{◌≡◌, ℕ, Bool, true, false, not, ◌&&◌, ◌||◌, ◌==◌, List, [], ◌∷◌, Option, Some, None, Result, Ok, Err, refl, sym, ap, subst, ◌∙◌, inl, inr, ◌⊎◌}
 use Rattle.std.specs.Prelude.{IfOk, IfErr}
-use Rattle.std.proofs.lemmas.Bool.{cases_Bool, and_parts, true≢false}
+use Rattle.std.proofs.lemmas.Bool.{cases_Bool, and_parts, or_left, or_right, true≢false}
 use Rattle.tcl_chars.specs.Characters.{backslash, dollar, quote, open_bracket, open_brace, close_paren}
 use Rattle.tcl_chars.specs.Place.{begins, tail}
 use Rattle.tcl_chars.specs.Reading.{◌>>=◌}
@@ -26,14 +26,6 @@ use Rattle.tcl_words.proofs.ScansSpelled.{one_is}
 use Rattle.tcl_words.proofs.SpelledIsRead.{run_front, kind_bracket, kind_variable, braced_read, quoted_read, piece_read, nest_read}
 
 -- ---- what begins an operand
-
-or_first : (a b : Bool) → a ≡ true → (a || b) ≡ true
-or_first true b e = refl
-or_first false b e = absurd (true≢false (sym e))
-
-or_last : (a b : Bool) → b ≡ true → (a || b) ≡ true
-or_last true b e = refl
-or_last false b e = e
 
 rest_of : (a b d e : Bool) → (a || b || d || e) ≡ true → a ≡ false → b ≡ false → (d || e) ≡ true
 rest_of true b d e h f g = absurd (true≢false f)
@@ -69,11 +61,11 @@ unfolding operand_at
 operand_spelled size levels cs s = elim (cases_Bool (begins open_brace cs)) [
   | inl b ↦ rw b (
       if_bind (BracedText size (tail cs)) (λ x. OperandWord size levels cs x.0 x.1) (braced_at size cs) _ (braced_spelled size cs)
-      (λ x h. OperandWord.delimited levels cs form.Braced x.0 x.1 (or_first (begins open_brace cs) (begins quote cs) b) (braced_body size levels (nest_spelled size levels) false cs x.0 x.1 b h)))
+      (λ x h. OperandWord.delimited levels cs form.Braced x.0 x.1 (or_left (begins open_brace cs) (begins quote cs) b) (braced_body size levels (nest_spelled size levels) false cs x.0 x.1 b h)))
   | inr b ↦ elim (cases_Bool (begins quote cs)) [
     | inl q ↦ rw (b, q) (
         if_bind (λ x. Pieces size levels (begins quote) (tail cs) x.0 (quote ∷ x.1)) (λ x. OperandWord size levels cs x.0 x.1) (quoted_at size (inner_at size levels) cs) _ (quoted_spelled size levels (nest_spelled size levels) cs)
-        (λ x h. OperandWord.delimited levels cs form.Quoted x.0 x.1 (or_last (begins open_brace cs) (begins quote cs) q) (quoted_body size levels (nest_spelled size levels) false cs x.0 x.1 q h)))
+        (λ x h. OperandWord.delimited levels cs form.Quoted x.0 x.1 (or_right (begins open_brace cs) (begins quote cs) q) (quoted_body size levels (nest_spelled size levels) false cs x.0 x.1 q h)))
     | inr q ↦ rw (b, q) (lone_spelled size levels cs (begins_other cs s b q))
   ]
 ]

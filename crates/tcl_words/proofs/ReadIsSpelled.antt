@@ -1,14 +1,14 @@
 -- What is read is spelled so.
-use Rattle.std.proofs.Common.{◌≡◌, ℕ, zero, suc, ◌+◌, ◌-◌, ◌<◌, Bool, true, false, cond, not, ◌&&◌, ◌||◌, ◌==◌, List, [], ◌∷◌, ◌++◌, length, take, drop, Option, Some, None, Result, Ok, Err, refl, sym, ap, subst, ◌∙◌, arith, inl, inr, length-append}
+use Rattle.std.proofs.Common.{◌≡◌, ℕ, zero, suc, ◌+◌, ◌<◌, Bool, true, false, cond, not, ◌&&◌, ◌||◌, ◌==◌, List, [], ◌∷◌, ◌++◌, length, drop, Option, Some, None, Result, Ok, Err, refl, sym, ap, subst, ◌∙◌, arith, inl, inr}
 use Rattle.std.specs.Prelude.{IfOk}
-use Rattle.std.proofs.lemmas.Bool.{cases_Bool, and_parts, eqb-true, true≢false}
-use Rattle.std.proofs.lemmas.List.{take_at}
+use Rattle.std.proofs.lemmas.Bool.{cases_Bool, and_parts, or_from, eqb-true, true≢false}
 use Rattle.std.proofs.Math.Bool.{and-false}
 use Rattle.tcl_chars.specs.Characters.{newline, space, backslash, semicolon, number_sign, dollar, quote, open_bracket, close_bracket, open_brace, close_brace, open_paren, close_paren, star}
 use Rattle.tcl_chars.specs.Classes.{is_word_space}
 use Rattle.tcl_chars.specs.Escape.{blanks, escape as escape_of, escape_of as escape_by}
 use Rattle.tcl_chars.specs.Place.{EndsWith, begins, tail, before, place}
 use Rattle.tcl_chars.specs.Reading.{◌>>=◌, Reading, with_front, after_turn, turns, all_turns}
+use Rattle.tcl_chars.proofs.SpelledIndices.{before_front, cut_at}
 use Rattle.tcl_chars.proofs.Turns.{Shrinks, shorter}
 use Rattle.tcl_words.specs.declared.blanks.Gap.{Gap}
 use Rattle.tcl_words.specs.declared.blanks.Gap.TheVariants as gap
@@ -60,13 +60,7 @@ turns_give R step cs h each = turns_give_n R step (suc (length cs)) cs h each (o
 
 -- the text before a rest
 pub front_is : (cs front rest : List ℕ) → cs ≡ front ++ rest → before cs rest ≡ front
-front_is cs front rest e =
-    let k : length front ≡ length cs - length rest = omega (arith, ap length e, length-append front rest) in
-    ap (take (length cs - length rest)) e ∙ take_at front rest (length cs - length rest) k
-
--- a text is what stands before its end, and the end
-pub cut_at : (cs rest : List ℕ) → EndsWith cs rest → cs ≡ before cs rest ++ rest
-cut_at cs rest e = e.joined ∙ ap (λ t. t ++ rest) (sym (front_is cs e.front rest e.joined))
+front_is cs front rest e = ap (λ t. before t rest) e ∙ before_front front rest
 
 pub headed : (c : ℕ) (cs : List ℕ) → begins c cs ≡ true → cs ≡ c ∷ tail cs
 headed c [] h = absurd cc
@@ -179,22 +173,18 @@ abbrev begins_gap : List ℕ → Bool
 begins_gap [] = false
 begins_gap (c ∷ cs) = is_word_space c || c == newline || c == semicolon || (c == backslash && begins newline cs) || c == number_sign
 
-or_is_false : (a b : Bool) → a ≡ false → b ≡ false → (a || b) ≡ false
-or_is_false true b e f = e
-or_is_false false b e f = f
-
 blanks_passed : (cs : List ℕ) → begins_blank (after_blanks cs) ≡ false
 unfolding after_blanks
 blanks_passed [] = refl
 blanks_passed (c ∷ []) = elim (cases_Bool (is_word_space c)) [
   | inl s ↦ rw s refl
-  | inr s ↦ rw s (or_is_false (is_word_space c) (c == backslash && begins newline []) s (and-false (c == backslash)))
+  | inr s ↦ rw s (or_from (is_word_space c) (c == backslash && begins newline []) s (and-false (c == backslash)))
 ]
 blanks_passed (c ∷ d ∷ cs) = elim (cases_Bool (is_word_space c)) [
   | inl s ↦ rw s (blanks_passed (d ∷ cs))
   | inr s ↦ elim (cases_Bool (c == backslash && d == newline)) [
     | inl h ↦ rw (s, h) (blanks_passed cs)
-    | inr h ↦ rw (s, h) (or_is_false (is_word_space c) (c == backslash && d == newline) s h)
+    | inr h ↦ rw (s, h) (or_from (is_word_space c) (c == backslash && d == newline) s h)
   ]
 ]
 
@@ -206,7 +196,7 @@ gaps_passed gap.Between (c ∷ cs) = elim (cases_Bool (is_word_space c || c == n
   | inl s ↦ rw s (gaps_passed gap.Between cs)
   | inr s ↦ elim (cases_Bool (c == number_sign)) [
     | inl n ↦ rw (s, n) (gaps_passed (gap.Comment false) cs)
-    | inr n ↦ rw (s, n) (or_is_false _ _ s n)
+    | inr n ↦ rw (s, n) (or_from _ _ s n)
   ]
 ]
 gaps_passed (gap.Comment h) (c ∷ cs) =

@@ -2,7 +2,7 @@
 use Rattle.std.proofs.Common.{◌≡◌, ℕ, zero, suc, ◌+◌, ◌-◌, ◌≤◌, Bool, true, false, cond, not, ◌&&◌, ◌||◌, ◌==◌, List, [], ◌∷◌, ◌++◌, length, take, drop, Ok, refl, sym, ap, subst, ◌∙◌, arith, inl, inr, append_assoc, length-append}
 use Rattle.std.specs.Prelude.{IfOk}
 use Rattle.std.proofs.Math.Seq.{drop-append_seam}
-use Rattle.std.proofs.lemmas.Bool.{cases_Bool, and_parts, eqb-true, eqb-false, ne_eqb, true≢false, cases_lt}
+use Rattle.std.proofs.lemmas.Bool.{cases_Bool, and_parts, or_right, eqb-true, eqb-false, ne_eqb, true≢false, cases_lt}
 use Rattle.std.proofs.lemmas.List.{take_at}
 use Rattle.tcl_chars.specs.Characters.{newline, backslash, semicolon, number_sign, colon, open_bracket, close_bracket, open_brace, close_brace, dollar}
 use Rattle.tcl_chars.specs.Classes.{is_word_space, is_name_char}
@@ -353,14 +353,10 @@ solid_blanks nested (c ∷ []) h = elim (cases_Bool (is_word_space c)) [
 solid_blanks nested (c ∷ d ∷ cs) h = elim (cases_Bool (is_word_space c)) [
   | inl s ↦ absurd (true≢false (let e : true ≡ false = rw s at h in e))
   | inr s ↦ elim (cases_Bool (c == backslash && d == newline)) [
-    | inl b ↦ absurd (true≢false (sym (or_last _ _ b) ∙ h))
+    | inl b ↦ absurd (true≢false (sym (or_right _ _ b) ∙ h))
     | inr b ↦ rw (s, b) refl
   ]
 ]
-  where
-    or_last : (a b : Bool) → b ≡ true → (a || b) ≡ true
-    or_last true b e = refl
-    or_last false b e = e
 
 pub solid_gaps : (nested : Bool) (cs : List ℕ) → ends_word nested cs ≡ false → begins number_sign cs ≡ false → after_gaps gap.Between cs ≡ cs
 unfolding after_gaps

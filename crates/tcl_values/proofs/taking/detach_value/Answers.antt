@@ -1,4 +1,4 @@
-use Rattle.std.proofs.Common.{◌∙◌, ap, arith}
+use Rattle.std.proofs.Common.{ap, arith}
 use Rattle.tcl_values.specs.Kept.{depth_over}
 use Rattle.tcl_values.proofs.Depths.{depth_below, depth_set-bound}
 use Rattle.tcl_values.proofs.Replaced.{plain_texts}
