@@ -15,12 +15,9 @@ use std::alloc::{AllocError, Global};
 use tcl_chars::Dialect;
 use tcl_code::{Code, CodeBuilder, CodeFault, Instr};
 use tcl_expr::{ExprSyntax, Tree, parse_expr};
+use tcl_names::Layout;
 
-/// What a code may rely on where it runs: nothing yet.
-#[derive(Clone, Copy, Debug, PartialEq, Eq)]
-pub struct Layout {}
-
-/// The code of a script. It ends exactly as the script does, in every dialect of numbers.
+/// The code of a script. It ends exactly as the script does, in every dialect of numbers, with any layout.
 pub fn compile_script(alloc: Global, text: &str, _layout: &Layout) -> Result<Code, AllocError>
     ensures { IfOk result (λ code. (dialect : Numbers) → Means dialect (shown_by code) (chars text.now)) }
 {

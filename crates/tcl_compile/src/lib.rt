@@ -8,4 +8,4 @@ mod compile;
 mod script;
 mod tree;
 
-pub use compile::{Layout, compile_expr, compile_script};
+pub use compile::{compile_expr, compile_script};
