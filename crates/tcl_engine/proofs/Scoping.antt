@@ -72,9 +72,9 @@ at_entered scope level i f g is found e cs channels units =
 pub at_can : (i n : ℕ) (f g : Standing) → n < length f.frames → ((cs : Commands) → store_of cs g ≡ with_active i (store_of cs f)) → n < length g.frames
 at_can i n f g there e = subst (λ k. n < k) (sym (ap (λ s. length s.frames) (e map.empty))) there
 
-pub within_entered : (scope : Scope) (vs : Variables) (f g : Standing) → scope ≡ Within vs → ((cs : Commands) → store_of cs g ≡ with_call vs (store_of cs f)) → IsEntered scope f g
-within_entered scope vs f g is e cs channels units =
-    state_by channels units (store_of cs g) (with_call vs (store_of cs f)) (e cs) ∙ ap (λ x. entered x (state_of cs channels units f)) (sym is)
+pub within_entered : (scope : Scope) (vs taken : Variables) (f g : Standing) → scope ≡ Within vs → taken ≡ vs → ((cs : Commands) → store_of cs g ≡ with_call taken (store_of cs f)) → IsEntered scope f g
+within_entered scope vs taken f g is same e cs channels units =
+    state_by channels units (store_of cs g) (with_call vs (store_of cs f)) (e cs ∙ ap (λ x. with_call x (store_of cs f)) same) ∙ ap (λ x. entered x (state_of cs channels units f)) (sym is)
 
 pub within_can : (vs : Variables) (i n : ℕ) (f g : Standing) → i < length f.frames → n ≡ length f.frames → ((cs : Commands) → store_of cs g ≡ with_call vs (store_of cs f)) → (i < n) × (length g.frames ≡ n + 1)
 within_can vs i n f g there is e =

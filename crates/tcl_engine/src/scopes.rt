@@ -29,7 +29,7 @@ pub(crate) fn enter(alloc: Global, frames: &mut Frames, scope: Scope) -> Result<
         Scope::Within(variables) => {
             let active = frames.active();
             let count = frames.count();
-            frames.push_call(alloc, variables)?;
+            frames.push_call(alloc, Box::into_inner(variables))?;
             Ok(Undone::Gone(active, count))
         }
     }

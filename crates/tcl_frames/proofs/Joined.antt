@@ -4,7 +4,7 @@ use Rattle.std.specs.Prelude.{slice_set, IfOk, IfErr, IfSome, ◌==◌, if◌the
 use Rattle.std.specs.FinMap as map
 use Rattle.tcl_pages.specs.Texts.{Text}
 use Rattle.tcl_meaning.specs.declared.refusal.Refusal.{Refusal}
-use Rattle.tcl_meaning.specs.Frames.{Variable, Variables, Part, whole, Spot, Frame, frame_at, set_frame, Level, up, at, chain_of, chain, nth, of_level, frame_of_level}
+use Rattle.tcl_meaning.specs.Frames.{Variable, Variables, whole, Spot, Frame, frame_at, set_frame, Level, up, at, chain_of, chain, nth, of_level, frame_of_level}
 use Rattle.tcl_meaning.specs.Arrays.{whole_array, array_of, spot_named}
 use Rattle.tcl_meaning.specs.SeenPages.{is_there, is_there_at, exists_here, names_of, frame_names}
 use Rattle.tcl_meaning.specs.Links.{links_of, destination, spot_in, home}

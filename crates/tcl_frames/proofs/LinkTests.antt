@@ -1,12 +1,12 @@
 -- Why a link is refused, among frames whose variables are kept apart.
-use Rattle.std.proofs.Common.{◌≡◌, ℕ, zero, suc, ◌∷◌, [], Bool, true, false, not, List, Option, None, Some, refl, sym, ap, ◌∙◌}
-use Rattle.std.specs.Prelude.{is_some, nat_eq, ◌&&◌, ◌||◌, length}
+use Rattle.std.proofs.Common.{◌≡◌, ℕ, zero, suc, ◌∷◌, [], true, false, not, List, None, Some, refl, sym, ap, ◌∙◌}
+use Rattle.std.specs.Prelude.{is_some, ◌&&◌, ◌||◌, length}
 use Rattle.std.specs.FinMap as map
 use Rattle.std.proofs.lemmas.Bool.{cond-true, cond-false}
-use Rattle.tcl_pages.specs.Texts.{Text, same_text}
+use Rattle.tcl_pages.specs.Texts.{Text}
 use Rattle.tcl_meaning.specs.declared.refusal.LinkRefusal.TheVariants.{BadLevel, BadName, Itself, Exists}
 use Rattle.tcl_meaning.specs.Frames.{Variables, Spot, Level, Frame, frame_at, set_frame, frame_of_level}
-use Rattle.tcl_meaning.specs.Links.{links_of, link_at, spot_in, is_own, is_variable, Linked, link, link_to, link_from}
+use Rattle.tcl_meaning.specs.Links.{links_of, link_at, spot_in, is_own, is_variable, link, link_to, link_from}
 use Rattle.tcl_meaning.specs.Names.{divided_name, is_element}
 use Rattle.tcl_meaning.specs.State.{Commands, Store, with_link}
 use Rattle.tcl_frames.specs.Standing.{Standing, store_of, with_variables, joined}

@@ -1,7 +1,6 @@
 -- What a name stands for, among frames whose variables are kept apart.
-use Rattle.std.proofs.Common.{◌≡◌, List, length, Option, Some, None, Result, Ok, Err, option_map, Bor, refl, sym, ap, ◌∙◌}
+use Rattle.std.proofs.Common.{◌≡◌, List, length, Option, Some, None, Ok, Err, sym, ap, ◌∙◌}
 use Rattle.std.specs.FinMap as map
-use Rattle.std.specs.Option.{option_copied}
 use Rattle.tcl_names.specs.Named.{Named}
 use Rattle.tcl_pages.specs.Texts.{Text}
 use Rattle.tcl_meaning.specs.declared.refusal.Refusal.{Refusal}

@@ -1,7 +1,7 @@
 -- What the variables of a frame end as, once the loan of a text is over.
 use Rattle.std.specs.Prelude.{Result}
 use Rattle.std.specs.Borrow.{LendsIfOk, MutBor, Fml}
-use Rattle.tcl_names.specs.contracts.NameMap as names
+use Rattle.tcl_names.specs.contracts.placed.PlacedNames as names
 use Rattle.tcl_meaning.specs.declared.refusal.Refusal.{Refusal}
 use Rattle.tcl_pages.specs.Texts.{Text}
 use Rattle.tcl_meaning.specs.Frames.{Part, Variables}

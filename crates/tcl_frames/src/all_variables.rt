@@ -16,20 +16,19 @@ ghost use Rattle.tcl_frames.specs.Written.{variables_of, variable_in, stored_at,
 
 use crate::edit::Edit;
 use crate::fault::VarFault;
-use crate::name_set::add_names;
 use crate::place::Place;
 use crate::variable::Variable;
 use crate::variables::{array_in, edit_in, find_in, is_there_in, place_in, put_in, remove_in};
 use std::alloc::{AllocError, Global};
 use std::marker::Model;
 use tcl_meaning::Refusal;
-use tcl_names::{HashedNames, NameMap};
+use tcl_names::{HashedNames, NameMap, PlacedNames};
 use tcl_values::Value;
 
 /// The variables of all frames, by the numbers of the frames.
 #[derive(Drop)]
 pub(crate) struct AllVariables {
-    frames: Vec<NameMap<Variable>>,
+    frames: Vec<PlacedNames<Variable>>,
 }
 
 impl Model for AllVariables {
@@ -55,12 +54,12 @@ impl AllVariables {
         ensures { IfOk result (λ all. all ≡ variables ∷ []) }
     {
         let mut frames = Vec::new(alloc);
-        frames.push(variables)?;
+        frames.push(PlacedNames::of_map(alloc, variables)?)?;
         Ok(AllVariables { frames })
     }
 
     /// Those of one frame more.
-    pub(crate) fn push(&mut self, variables: NameMap<Variable>) -> Result<(), AllocError>
+    pub(crate) fn push(&mut self, variables: PlacedNames<Variable>) -> Result<(), AllocError>
         ensures done { OnOk result (self.new ≡ self.old ++ variables ∷ []) }
         ensures same { OnErr result (self.new ≡ self.old) }
     {
@@ -118,7 +117,7 @@ impl AllVariables {
         requires { frame < length self.now }
         ensures { OnOk result (names.new ≡ with_names names.old (names_of (variables_of self.now frame))) }
     {
-        add_names(alloc, names, &self.frames[frame])
+        self.frames[frame].add_names(alloc, names)
     }
 
     /// Gives a place a text.

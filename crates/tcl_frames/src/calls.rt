@@ -9,7 +9,7 @@ use crate::frames::Frames;
 use crate::level::Level;
 use crate::variable::Variable;
 use std::alloc::{AllocError, Global};
-use tcl_names::NameMap;
+use tcl_names::PlacedNames;
 
 impl Frames {
     /// The level of the active frame: info(n).
@@ -49,7 +49,7 @@ impl Frames {
     pub fn push_call(
         &mut self,
         alloc: Global,
-        variables: NameMap<Variable>,
+        variables: PlacedNames<Variable>,
     ) -> Result<(), AllocError>
         ensures done { (cs : Commands) → OnOk result (store_of cs self.new ≡ with_call variables (store_of cs self.old)) }
         ensures same { OnErr result (self.new ≡ self.old) }

@@ -20,12 +20,12 @@ use crate::name::Part;
 use crate::variable::Variable;
 use std::alloc::Global;
 use tcl_meaning::Refusal;
-use tcl_names::{HashedNames, NameMap};
+use tcl_names::{HashedNames, PlacedNames};
 use tcl_values::Value;
 
 /// The text of a part of a variable.
 pub(crate) fn find_in<'a>(
-    variables: &'a NameMap<Variable>,
+    variables: &'a PlacedNames<Variable>,
     name: &str,
     part: Part<'_>,
     missing: Refusal,
@@ -44,7 +44,7 @@ pub(crate) fn find_in<'a>(
 
 /// The elements of an array.
 pub(crate) fn array_in<'a>(
-    variables: &'a NameMap<Variable>,
+    variables: &'a PlacedNames<Variable>,
     name: &str,
     part: Part<'_>,
 ) -> Option<&'a HashedNames<Value>>
@@ -57,7 +57,7 @@ pub(crate) fn array_in<'a>(
 }
 
 /// Is there a variable, or an element?
-pub(crate) fn is_there_in(variables: &NameMap<Variable>, name: &str, part: Part<'_>) -> bool
+pub(crate) fn is_there_in(variables: &PlacedNames<Variable>, name: &str, part: Part<'_>) -> bool
     ensures { result ≡ is_there (map.get variables.now (chars name.now)) (part_of part.entry) }
 {
     match variables.get(name) {
@@ -68,7 +68,7 @@ pub(crate) fn is_there_in(variables: &NameMap<Variable>, name: &str, part: Part<
 
 /// Lends the text of a part of a variable.
 pub(crate) fn place_in<'a>(
-    variables: &'a mut NameMap<Variable>,
+    variables: &'a mut PlacedNames<Variable>,
     name: &str,
     part: Part<'_>,
     missing: Refusal,
@@ -104,7 +104,7 @@ fn made(alloc: Global, part: Part<'_>, value: Value) -> Result<Variable, VarFaul
 
 /// Puts a text into a part of a variable, which is made where it is missing.
 pub(crate) fn put_in(
-    variables: &mut NameMap<Variable>,
+    variables: &mut PlacedNames<Variable>,
     alloc: Global,
     name: &str,
     part: Part<'_>,
@@ -140,7 +140,7 @@ fn begun(alloc: Global, part: Part<'_>, edit: Edit<'_>) -> Result<Variable, VarF
 
 /// Changes the elements of an array, which is made where it is missing.
 pub(crate) fn edit_in(
-    variables: &mut NameMap<Variable>,
+    variables: &mut PlacedNames<Variable>,
     alloc: Global,
     name: &str,
     part: Part<'_>,
@@ -160,7 +160,7 @@ pub(crate) fn edit_in(
 
 // Takes an element away from a variable that is there.
 fn remove_element_in(
-    variables: &mut NameMap<Variable>,
+    variables: &mut PlacedNames<Variable>,
     name: &str,
     index: &str,
     missing: Refusal,
@@ -177,7 +177,7 @@ fn remove_element_in(
 
 /// Takes a part of a variable away.
 pub(crate) fn remove_in(
-    variables: &mut NameMap<Variable>,
+    variables: &mut PlacedNames<Variable>,
     name: &str,
     part: Part<'_>,
     missing: Refusal,

@@ -54,8 +54,9 @@ impl<V> PlacedNames<V> {
         V: Drop,
         ensures { IfOk result (λ m. m ≡ map.empty) }
     {
-        let mut places = Vec::new(alloc);
-        for _n in 0..layout.len() {
+        let count = layout.len();
+        let mut places = Vec::with_capacity(alloc, count)?;
+        for _n in 0..count {
             places.push(None)?;
         }
         Ok(PlacedNames {

@@ -1,5 +1,5 @@
 -- One formal after another is given its word.
-use Rattle.std.proofs.Common.{◌≡◌, ◌≤◌, true, false, true≢false, List, [], ◌∷◌, Option, None, Some, map as each, length, get_or, drop, refl, sym, ap, ◌∙◌, arith}
+use Rattle.std.proofs.Common.{◌≡◌, ◌≤◌, Bool, true, false, true≢false, List, [], ◌∷◌, Option, None, Some, map as each, length, get_or, drop, refl, sym, ap, ◌∙◌, arith}
 use Rattle.std.specs.FinMap as map
 use Rattle.std.specs.Prelude.{if◌then◌else◌}
 use Rattle.tcl_list.specs.Written.{written}
@@ -47,23 +47,27 @@ front_is : {X : Type 0} (xs : List X) (x : X) → 1 ≤ length xs → x ≡ get_
 front_is [] x h e = absurd (omega arith)
 front_is (y ∷ ys) x h e = ap (λ z. z ∷ ys) (sym e)
 
-module _ (whole : Option Variables) (vs : Variables) (fs : List Kept) (f : Kept) (ws : List Text) (now : whole ≡ bound (Some vs) (each formal_of fs) ws) (some : 1 ≤ length fs) (first : f ≡ get_or fs 0 f)
-    (more : takes_rest (each formal_of fs) ≡ false) where
+module _ (whole : Option Variables) (vs : Variables) (fs : List Kept) (f : Kept) (ws : List Text) (now : whole ≡ bound (Some vs) (each formal_of fs) ws) (some : 1 ≤ length fs) (first : f ≡ get_or fs 0 f) where
   formals_are : each formal_of fs ≡ formal_of f ∷ each formal_of (drop 1 fs)
   formals_are = ap (each formal_of) (front_is fs f some first)
 
-  last_is : takes_rest (formal_of f ∷ each formal_of (drop 1 fs)) ≡ false
-  last_is = ap takes_rest (sym formals_are) ∙ more
+  rest_is : (takes : Bool) → takes_rest (each formal_of fs) ≡ takes → takes_rest (formal_of f ∷ each formal_of (drop 1 fs)) ≡ takes
+  rest_is takes is = ap takes_rest (sym formals_are) ∙ is
 
   begun : whole ≡ bound (Some vs) (formal_of f ∷ each formal_of (drop 1 fs)) ws
   begun = now ∙ ap (λ gs. bound (Some vs) gs ws) formals_are
 
-  pub bound_on : (t name : Text) (after : Variables) (left : List Kept) (rest : List Text) → Some t ≡ argument_of (formal_of f) ws → name ≡ text_of f.name → after ≡ map.insert vs name (text t) → left ≡ drop 1 fs
-      → rest ≡ drop 1 ws → whole ≡ bound (Some after) (each formal_of left) rest
-  bound_on t name after left rest a n p l r =
-      begun ∙ given_bound vs (formal_of f) (each formal_of (drop 1 fs)) ws t last_is a ∙ sym (ap (λ m. bound (Some (map.insert vs m (text t))) (each formal_of (drop 1 fs)) (drop 1 ws)) n)
+  pub bound_to_rest : takes_rest (each formal_of fs) ≡ true → (t name : Text) (after : Variables) → t ≡ written ws → name ≡ text_of f.name → after ≡ map.insert vs name (text t) → Some after ≡ whole
+  bound_to_rest takes t name after w n p =
+      ap Some (p ∙ ap (λ m. map.insert vs m (text t)) n ∙ ap (λ x. map.insert vs (text_of f.name) (text x)) w)
+      ∙ sym (begun ∙ rest_bound vs (formal_of f) (each formal_of (drop 1 fs)) ws (rest_is true takes))
+
+  pub bound_on : takes_rest (each formal_of fs) ≡ false → (t name : Text) (after : Variables) (left : List Kept) (rest : List Text) → Some t ≡ argument_of (formal_of f) ws → name ≡ text_of f.name → after ≡ map.insert vs name (text t)
+      → left ≡ drop 1 fs → rest ≡ drop 1 ws → whole ≡ bound (Some after) (each formal_of left) rest
+  bound_on more t name after left rest a n p l r =
+      begun ∙ given_bound vs (formal_of f) (each formal_of (drop 1 fs)) ws t (rest_is false more) a ∙ sym (ap (λ m. bound (Some (map.insert vs m (text t))) (each formal_of (drop 1 fs)) (drop 1 ws)) n)
       ∙ sym (ap (λ v. bound (Some v) (each formal_of left) rest) p ∙ ap (λ gs. bound (Some (map.insert vs name (text t))) (each formal_of gs) rest) l
       ∙ ap (bound (Some (map.insert vs name (text t))) (each formal_of (drop 1 fs))) r)
 
-  pub bound_to_none : None ≡ argument_of (formal_of f) ws → None ≡ whole
-  bound_to_none a = sym (begun ∙ none_bound vs (formal_of f) (each formal_of (drop 1 fs)) ws last_is a)
+  pub bound_to_none : takes_rest (each formal_of fs) ≡ false → None ≡ argument_of (formal_of f) ws → None ≡ whole
+  bound_to_none more a = sym (begun ∙ none_bound vs (formal_of f) (each formal_of (drop 1 fs)) ws (rest_is false more) a)

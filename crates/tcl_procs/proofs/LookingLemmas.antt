@@ -1,10 +1,9 @@
 -- Commands that look at the command table: info(n).
-use Rattle.std.proofs.Common.{◌≡◌, ◌≢◌, ◌≤◌, ◌<◌, ◌+◌, ℕ, Bool, true, false, List, [], ◌∷◌, ◌++◌, length, drop, get_or, map as each, Option, Some, None, Ok, Err, refl, sym, ap, ◌∙◌, append_assoc, arith}
+use Rattle.std.proofs.Common.{◌≡◌, ◌<◌, ◌+◌, ℕ, Bool, true, false, List, [], ◌∷◌, ◌++◌, length, drop, get_or, map as each, Option, Ok, Err, refl, sym, ap, ◌∙◌, append_assoc}
 use Rattle.std.proofs.lemmas.Bool.{cond-true, cond-false}
 use Rattle.std.proofs.lemmas.List.{drop_more}
 use Rattle.std.specs.FinMap as map
 use Rattle.std.specs.Prelude.{◌&&◌, if◌then◌else◌}
-use Rattle.tcl_arguments.specs.WordAt.{word}
 use Rattle.tcl_chars.specs.Texts.{literal}
 use Rattle.tcl_list.specs.Written.{written}
 use Rattle.tcl_meaning.specs.Arrays.{name_fits}
@@ -20,7 +19,6 @@ use Rattle.tcl_meaning.specs.declared.page.SeenPage.{SeenPage}
 use Rattle.tcl_pages.specs.Answers.{Answer, ◌>>=◌ as andthen}
 use Rattle.tcl_pages.specs.Arguments.{one_argument}
 use Rattle.tcl_pages.specs.Texts.{Text}
-use Rattle.tcl_pages.specs.Usage.{usage}
 use Rattle.tcl_arguments.specs.UpToOne.{up_to_one}
 use Rattle.tcl_procs.specs.Looking.{of_kind}
 use Rattle.tcl_vars.specs.Comes.{BecomesIn}

@@ -6,10 +6,11 @@ ghost use Rattle.tcl_procs.specs.Binding.{argument_of, takes_rest};
 ghost use Rattle.tcl_table.specs.Procedures.{formal_of};
 
 use std::alloc::{AllocError, Global};
+use std::rc::Rc;
 use tcl_chars::is_text;
 use tcl_frames::Variable;
 use tcl_lists::list;
-use tcl_names::NameMap;
+use tcl_names::{Layout, PlacedNames};
 use tcl_table::Formal;
 use tcl_values::Value;
 
@@ -56,15 +57,16 @@ fn behind_first(words: &[Value]) -> &[Value]
     }
 }
 
-/// The variables of a call; none where a word is missing or too many.
+/// The variables of a call, with places of this layout; none where a word is missing or too many.
 pub(crate) fn bound(
     alloc: Global,
+    layout: Rc<Layout>,
     formals: &[Formal],
     words: &[Value],
-) -> Result<Option<NameMap<Variable>>, AllocError>
+) -> Result<Option<PlacedNames<Variable>>, AllocError>
     ensures { IfOk result (λ variables. variables ≡ spec.bound (Some map.empty) (each formal_of formals.now) words.now) }
 {
-    let mut variables = NameMap::new(alloc);
+    let mut variables = PlacedNames::new(alloc, layout)?;
     let mut left = formals;
     let mut rest = words;
     'formals: while let [formal, ..] = left {

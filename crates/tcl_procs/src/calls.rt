@@ -23,10 +23,11 @@ pub fn call_procedure(
 ) -> Result<Step<Scope, Owes, Loop>, AllocError>
     ensures { IsAsked result (spec.call_procedure (chars word.now) (procedure_of procedure.now) words.now) }
 {
-    match bound(alloc, &procedure.formals, words)? {
+    match bound(alloc, procedure.layout.clone()?, &procedure.formals, words)? {
         Some(variables) => {
             let body = Value::of_text(procedure.body.clone()?);
-            Ok(Step::Run(Scope::Within(variables), body, Owes::Leaving))
+            let scope = Scope::Within(Box::new(alloc, variables)?);
+            Ok(Step::Run(scope, body, Owes::Leaving))
         }
         None => {
             let form = procedure_usage(alloc, word, &procedure.formals)?;

@@ -7,12 +7,17 @@ ghost use Rattle.tcl_meaning.specs.Procedures as spec;
 ghost use Rattle.tcl_procs.specs.Reading.{formal_of_text, is_empty};
 ghost use Rattle.tcl_table.specs.Procedures.{formal_of, procedure_of};
 
-use std::alloc::Global;
-use std::rc::RcStr;
+use std::alloc::{AllocError, Global};
+use std::rc::{Rc, RcStr};
 use tcl_chars::{Fault, about, message, split_first};
 use tcl_frames::{is_element, is_global};
 use tcl_list::split;
+use tcl_names::Layout;
 use tcl_table::{Formal, Procedure};
+
+// So many formals have places of their own. A name is looked for among them one by one, so that more would be found faster by
+// their order.
+const PLACED: usize = 16;
 
 /// Has a text no character?
 pub(crate) fn is_empty(text: &str) -> bool
@@ -86,6 +91,15 @@ fn formals_by(alloc: Global, texts: &[RcStr]) -> Result<Vec<Formal>, Fault>
     Ok(formals)
 }
 
+// Places for the first of some formals.
+fn layout_of(alloc: Global, formals: &[Formal]) -> Result<Rc<Layout>, AllocError> {
+    let mut layout = Layout::new(alloc);
+    for formal in formals.iter().take(PLACED) {
+        layout.add(&formal.name)?;
+    }
+    Ok(Rc::new(alloc, layout)?)
+}
+
 /// The procedure of these formals and this body.
 ///
 /// # Errors
@@ -97,5 +111,10 @@ pub(crate) fn read_procedure(alloc: Global, formals: &str, body: RcStr) -> Resul
 {
     let texts = split(alloc, formals)?;
     let formals = formals_by(alloc, &texts)?;
-    Ok(Procedure { formals, body })
+    let layout = layout_of(alloc, &formals)?;
+    Ok(Procedure {
+        formals,
+        body,
+        layout,
+    })
 }

@@ -18,7 +18,7 @@ use Rattle.tcl_steps.specs.declared.step.Step.TheVariants as step
 abbrev pub scope_of : Scope → effects.Scope
 scope_of scope.Here = effects.Here
 scope_of (scope.At level) = effects.At (level_of level)
-scope_of (scope.Within variables) = effects.Within variables
+scope_of (scope.Within variables) = effects.Within variables.value
 
 abbrev pub lane_of : Lane → tasks.Lane
 lane_of l = record { names = l.names.items; elements = drop l.gone l.elements }

@@ -2,7 +2,7 @@
 
 use crate::completion::Completion;
 use tcl_frames::{Level, Variable};
-use tcl_names::NameMap;
+use tcl_names::PlacedNames;
 use tcl_values::{Row, Value};
 
 /// The frame in which a script is run.
@@ -13,7 +13,7 @@ pub enum Scope {
     /// The one of a level: uplevel(n).
     At(Level),
     /// A new one that the active one calls, with these variables: proc(n).
-    Within(NameMap<Variable>),
+    Within(Box<PlacedNames<Variable>>),
 }
 
 /// Names of loop variables, and the elements that are left for them: foreach(n).

@@ -1,5 +1,5 @@
 -- Procedures, as the definitions see them.
-use Rattle.std.specs.Prelude.{List, [], ◌∷◌, map as each, option_map}
+use Rattle.std.specs.Prelude.{map as each, option_map}
 use Rattle.tcl_names.specs.Named.{text_of}
 use Rattle.tcl_meaning.specs.State as state
 use Rattle.tcl_table.specs.declared.command.Formal.{Formal}

@@ -6,6 +6,7 @@ use std::alloc::AllocError;
 use std::marker::Model;
 use std::rc::{Rc, RcStr};
 use tcl_meaning::BuiltIn;
+use tcl_names::Layout;
 
 /// A formal of a procedure, and its default if it has one: proc(n).
 #[derive(Drop)]
@@ -19,6 +20,8 @@ pub struct Formal {
 pub struct Procedure {
     pub formals: Vec<Formal>,
     pub body: RcStr,
+    /// The places of its variables in each call.
+    pub layout: Rc<Layout>,
 }
 
 // What is kept of a command.

@@ -10,7 +10,7 @@ pub returns-in-Some-clause-can : goal.returns-in-Some-clause-can
 returns-in-Some-clause-can c = λ cs channels units. at_can c.in-Some.frame c.activate.result c.args.frames.now c.activate.new.self c.activate.ensures.there c.activate.ensures.active
 
 pub returns-in_ok-push_call-in-Within-clause-entered : goal.returns-in_ok-push_call-in-Within-clause-entered
-returns-in_ok-push_call-in-Within-clause-entered c = within_entered (scope_of c.args.scope) _ c.args.frames.now c.push_call.new.self (ap scope_of c.in-Within.is) c.in_ok-push_call-in-Within.ensures.done
+returns-in_ok-push_call-in-Within-clause-entered c = within_entered (scope_of c.args.scope) _ _ c.args.frames.now c.push_call.new.self (ap scope_of c.in-Within.is) c.into_inner.ensures c.in_ok-push_call-in-Within.ensures.done
 
 pub returns-in_ok-push_call-in-Within-clause-can : goal.returns-in_ok-push_call-in-Within-clause-can
-returns-in_ok-push_call-in-Within-clause-can c = λ cs channels units. within_can c.in-Within.variables c.active-active.result c.count-count.result c.args.frames.now c.push_call.new.self c.active-active.ensures.there c.count-count.ensures c.in_ok-push_call-in-Within.ensures.done
+returns-in_ok-push_call-in-Within-clause-can c = λ cs channels units. within_can _ c.active-active.result c.count-count.result c.args.frames.now c.push_call.new.self c.active-active.ensures.there c.count-count.ensures c.in_ok-push_call-in-Within.ensures.done

@@ -1,4 +1,4 @@
-use Rattle.std.proofs.Common.{◌≡◌, List, ℕ, ap, sym, ◌∙◌}
+use Rattle.std.proofs.Common.{List, ℕ, ap, sym, ◌∙◌}
 use Rattle.std.specs.Prelude.{slice_set}
 use Rattle.std.specs.Str.{chars}
 use Rattle.std.specs.Borrow.{name_if_ok}

@@ -1,5 +1,4 @@
 use Rattle.std.proofs.Common.{ap, ◌∙◌}
-use Rattle.std.specs.FinMap as map
 use Rattle.tcl_meaning.specs.Frames.{frame_at}
 use Rattle.tcl_meaning.specs.SeenPages.{names_of}
 use Rattle.tcl_frames.specs.NameSets.{with_names}

@@ -1,7 +1,6 @@
 use Rattle.std.proofs.Common.{sym, ap, ◌∙◌, arith}
 use Rattle.std.specs.Str.{chars}
 use Rattle.std.specs.Option.{option_copied}
-use Rattle.tcl_meaning.specs.Frames.{Frame}
 use Rattle.tcl_meaning.specs.Links.{links_of, link_at}
 use Rattle.tcl_frames.specs.Standing.{Standing}
 use Rattle.tcl_frames.specs.Parts.{part_of}

@@ -1,5 +1,5 @@
 use Rattle.std.proofs.Common.{sym, subst, ap, arith, ◌∙◌}
-use Rattle.tcl_frames.specs.Standing.{Standing, IsStanding, left}
+use Rattle.tcl_frames.specs.Standing.{IsStanding, left}
 use Rattle.tcl_frames.proofs.Standings.{popped, left_standing, more_calls}
 use Rattle.tcl_frames.proofs.stack.Stack.pop.Goals as goal
 
