@@ -25,6 +25,8 @@ mod pure;
 #[cfg(test)]
 mod strings;
 #[cfg(test)]
+mod table;
+#[cfg(test)]
 mod values;
 #[cfg(test)]
 mod words;
