@@ -4,7 +4,7 @@ use Rattle.std.specs.Prelude.{nat_lt, neg_ℤ}
 use Rattle.std.specs.Str.{chars}
 use Rattle.std.proofs.lemmas.Bool.{cases_Bool, cond-true, cond-false, ltb-true, lt-ltb, false_from_ne_true}
 use Rattle.std.proofs.lemmas.List.{append-nil, length-append, take_at}
-use Rattle.std.proofs.lemmas.Slice.Eq.{bytes_eq-Decides}
+use Rattle.tcl_chars.proofs.Same.{text_is}
 use Rattle.tcl_chars.specs.Index.{has_space, to_sign, of_whole, base_of, signed_offset, offset_of, moved, shifted, number_or_sum, index_of}
 use Rattle.tcl_chars.specs.Laws.{IsBase, IsUnsigned, Spells, IndexIsSpelled}
 use Rattle.tcl_chars.specs.Laws.IsBase.{last, number}
@@ -39,9 +39,6 @@ before_front front rest = take_at front rest (length (front ++ rest) - length re
 pub cut_at : (cs rest : List ℕ) → EndsWith cs rest → cs ≡ before cs rest ++ rest
 cut_at cs rest e = e.joined ∙ ap (λ t. t ++ rest) (sym (before_front e.front rest) ∙ ap (λ t. before t rest) (sym e.joined))
 
-same_literal : (cs ws : List ℕ) → same_text cs ws ≡ true → cs ≡ ws
-same_literal cs ws h = (bytes_eq-Decides cs ws).0 h
-
 of_whole_at : (w : Whole) (p : Position) → of_whole w ≡ index.At p → (z : ℤ) × (w ≡ whole.Number z) × (p ≡ Start z (pos 0))
 of_whole_at (whole.Number z) p h = (z, refl, cc)
 of_whole_at whole.TooLarge p h = absurd cc
@@ -52,7 +49,7 @@ base_is dialect b q h = elim (cases_Bool (same_text b (literal "end"))) [
   | inl ends ↦
       let e : index.At (End (pos 0)) ≡ index.At q = sym (cond-true _ _ _ ends) ∙ h in
       let f : End (pos 0) ≡ q = cc in
-      let g : b ≡ literal "end" = same_literal b _ ends in
+      let g : b ≡ literal "end" = text_is b _ ends in
       subst (IsBase dialect b) f (subst (λ t. IsBase dialect t (End (pos 0))) (sym g) last)
   | inr other ↦ elim (cases_Bool (has_space b)) [
     | inl space ↦ absurd (let e : index.Not ≡ index.At q = sym (cond-false _ _ _ other ∙ cond-true _ _ _ space) ∙ h in cc)
@@ -158,7 +155,7 @@ end_base dialect = refl
 
 number_base : (dialect : Dialect) (b : List ℕ) (z : ℤ) → has_space b ≡ false → whole_of dialect b ≡ whole.Number z → base_of dialect b ≡ index.At (Start z (pos 0))
 number_base dialect b z p h =
-    let other : same_text b (literal "end") ≡ false = false_from_ne_true _ (λ e. let k : whole.Not ≡ whole.Number z = sym (end_is_no_number dialect) ∙ ap (whole_of dialect) (sym (same_literal b _ e)) ∙ h in absurd cc) in
+    let other : same_text b (literal "end") ≡ false = false_from_ne_true _ (λ e. let k : whole.Not ≡ whole.Number z = sym (end_is_no_number dialect) ∙ ap (whole_of dialect) (sym (text_is b _ e)) ∙ h in absurd cc) in
     cond-false _ _ _ other ∙ cond-false _ _ _ p ∙ ap of_whole h
 
 signed_read : (dialect : Dialect) (b o : List ℕ) (s n : ℕ) (q : Position) → IsSign s → IsBase dialect b q → IsUnsigned dialect o n → index_of dialect (b ++ s ∷ o) ≡ index.At (moved q (cond (s == 45) (neg_ℤ (pos n)) (pos n)))

@@ -1,8 +1,8 @@
 -- How operators and functions are spelled: what is read is the longest that stands there.
 use Rattle.std.proofs.Common.{◌≡◌, ◌≢◌, ℕ, ◌≤◌, true, false, List, [], ◌∷◌, ◌++◌, length, Option, Some, None, refl, sym, ap, subst, ◌∙◌, arith}
 use Rattle.std.specs.Prelude.{◌==◌, ◌&&◌, IfSome, codes}
-use Rattle.std.specs.Cmp.Lexicographic.{same_text as equal_by_test}
 use Rattle.std.proofs.lemmas.Bool.{and_parts, eqb-true}
+use Rattle.tcl_chars.proofs.Same.{text_is}
 use Rattle.tcl_chars.specs.Texts.{same_text}
 use Rattle.tcl_expr.specs.declared.token.UnaryOp.{UnaryOp}
 use Rattle.tcl_expr.specs.declared.token.BinaryOp.{BinaryOp}
@@ -17,9 +17,6 @@ use Rattle.tcl_expr.specs.Tokens.{equals, is_run_char, begins_run, function_of, 
 use Rattle.tcl_expr.proofs.LongestFronts.{branch, no_clash}
 
 -- ---- functions and the operators that are runs
-
-pub text_is : (cs ds : List ℕ) → same_text cs ds ≡ true → cs ≡ ds
-text_is cs ds e = equal_by_test cs ds (sym e)
 
 pub function_named : (cs : List ℕ) → IfSome (function_of cs) (λ f. cs ≡ function_text f)
 function_named cs =

@@ -8,16 +8,12 @@ use Rattle.std.specs.FinMap as map
 use Rattle.std.specs.FinMap.{same_map, get-empty, get-insert, get-remove}
 use Rattle.std.specs.Borrow.{MutBor}
 use Rattle.std.specs.Option.{option_map, option_copied_mut, ghost_name_of}
+use Rattle.tcl_chars.proofs.Same.{text_is}
 use Rattle.tcl_chars.specs.Texts.{same_text, by_code_point}
 use Rattle.tcl_names.specs.Named.{Named}
 use Rattle.tcl_names.specs.Placed.{number_of, with_place, placed}
 use Rattle.tcl_names.proofs.Entries.{exact, same}
-use Rattle.tcl_names.proofs.Entries as entries
 use borrow.Follows.Closed.{read_of}
-
--- texts that are the same are equal
-equal_texts : (a b : List ℕ) → same_text a b ≡ true → a ≡ b
-equal_texts a b e = entries.same_text a b (is_eq-slice_cmp a b ∙ e)
 
 within : (o : Option ℕ) (n : ℕ) → ((j : ℕ) → o ≡ Some j → j < n) → (k : ℕ) → option_map (λ j. j + 1) o ≡ Some k → k < n + 1
 within None n h k e = absurd cc
@@ -46,7 +42,7 @@ name_at (n ∷ ns) q k e = by (same_text q n) (number_of ns q) refl refl e (λ j
     by : (b : Bool) (i : Option ℕ) → same_text q n ≡ b → number_of ns q ≡ i → cond b (Some 0) (option_map (λ j. j + 1) i) ≡ Some k → ((j : ℕ) → number_of ns q ≡ Some j → get_or ns j [] ≡ q) → get_or (n ∷ ns) k [] ≡ q
     by true i alike at h below =
         let first : 0 ≡ k = cc in
-        ap (λ j. get_or (n ∷ ns) j []) (sym first) ∙ sym (equal_texts q n alike)
+        ap (λ j. get_or (n ∷ ns) j []) (sym first) ∙ sym (text_is q n alike)
     by false None alike at h below = absurd cc
     by false (Some j) alike at h below =
         let later : j + 1 ≡ k = cc in
@@ -101,7 +97,7 @@ module _ {H : Type 0} where
       where
         put : (p : List ℕ) (b : Bool) (i : Option ℕ) → same_text p q ≡ b → number_of ns p ≡ i → there i (set os k o) (map.get m p) ≡ cond b o (there i os (map.get m p))
         put p true i e n =
-            let here : i ≡ Some k = sym n ∙ ap (number_of ns) (equal_texts p q e) ∙ at in
+            let here : i ≡ Some k = sym n ∙ ap (number_of ns) (text_is p q e) ∙ at in
             ap (λ j. there j (set os k o) (map.get m p)) here ∙ get_or-set_same os k o None (subst (λ c. k < c) (sym as_many) (number_within ns q k at))
         put p false None e n = refl
         put p false (Some j) e n = get_or-set_other os k j o None (λ same. absurd (apart p j n same e))
@@ -120,7 +116,7 @@ module _ {H : Type 0} where
       where
         put : (p : List ℕ) (b : Bool) (i : Option ℕ) → same_text p q ≡ b → number_of ns p ≡ i → there i os (cond b o (map.get m p)) ≡ cond b o (there i os (map.get m p))
         put p true i e n =
-            let here : i ≡ None = sym n ∙ ap (number_of ns) (equal_texts p q e) ∙ at in
+            let here : i ≡ None = sym n ∙ ap (number_of ns) (text_is p q e) ∙ at in
             ap (λ j. there j os o) here
         put p false i e n = refl
 

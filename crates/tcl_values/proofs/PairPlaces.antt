@@ -16,7 +16,7 @@ use Rattle.tcl_pages.proofs.Glob.{same_truth}
 use Rattle.tcl_pages.specs.Texts.{Text}
 use Rattle.tcl_values.specs.Kept.{Kept, texts}
 use Rattle.tcl_values.specs.Paired.{zipped}
-use Rattle.tcl_values.proofs.PairTexts.{same_is}
+use Rattle.tcl_chars.proofs.Same.{text_is}
 
 -- texts are the same where their bytes are
 same_key : (a : List ℕ) → IsUtf8 a → (j : RcStr Global) → bytes_eq a (rc_str_bytes j) ≡ same_text (text_of j) (chars a)
@@ -34,7 +34,7 @@ module _ (test : RcStr Global → Bool) (k : Text) (tells : (j : RcStr Global) �
   later j js t = let there : position_or_len test (j ∷ js) ≡ 1 + position_or_len test js = ap (λ b. cond (not b) (1 + position_or_len test js) 0) t in omega (arith, there)
 
   is_key : (j : RcStr Global) → test j ≡ true → text_of j ≡ k
-  is_key j t = same_is (text_of j) k (sym (tells j) ∙ t)
+  is_key j t = text_is (text_of j) k (sym (tells j) ∙ t)
 
   put_at : (js : List (RcStr Global)) (vs : List Text) (v : Text) → length js ≡ length vs → position_or_len test js < length js → put_key (zipped (map text_of js) vs) k v ≡ zipped (map text_of js) (slice_set vs (position_or_len test js) v)
   put_at [] vs v e lt = absurd (omega arith)

@@ -3,6 +3,7 @@ use Rattle.std.proofs.Common.{◌≡◌, Bool, true, false, List, [], ◌∷◌,
 use Rattle.std.specs.Cmp.Lexicographic.{bytes_decides}
 use Rattle.std.proofs.lemmas.Bool.{cond-true, cond-false, or_from, or_parts}
 use Rattle.std.proofs.lemmas.List.{append-nil}
+use Rattle.tcl_chars.proofs.Same.{text_is}
 use Rattle.tcl_chars.specs.Texts.{same_text}
 use Rattle.tcl_list.specs.Elements.{elements_of}
 use Rattle.tcl_pages.specs.Answers.{Answer, ◌>>=◌}
@@ -14,11 +15,8 @@ use Rattle.tcl_values.specs.Kept.{Kept, texts}
 use Rattle.tcl_values.specs.Paired.{has_key, AreDistinct, read_pairs}
 use Rattle.tcl_values.proofs.Joined.{reads_written}
 
-pub same_is : (a b : Text) → same_text a b ≡ true → a ≡ b
-same_is a b e = (bytes_decides a b).0 e
-
 same_symm : (a b : Text) → same_text a b ≡ same_text b a
-same_symm a b = same_truth (same_text a b) (same_text b a) (λ e. (bytes_decides b a).1 (sym (same_is a b e))) (λ e. (bytes_decides a b).1 (sym (same_is b a e)))
+same_symm a b = same_truth (same_text a b) (same_text b a) (λ e. (bytes_decides b a).1 (sym (text_is a b e))) (λ e. (bytes_decides a b).1 (sym (text_is b a e)))
 
 -- ---- no key stands twice
 
@@ -37,7 +35,7 @@ distinct_put [] k v d = (refl, tt)
 distinct_put (p ∷ ps) k v d = by (same_text p.0 k) refl (distinct_put ps k v d.1)
   where
     by : (b : Bool) → same_text p.0 k ≡ b → AreDistinct (put_key ps k v) → AreDistinct (put_key (p ∷ ps) k v)
-    by true e rest = subst AreDistinct (sym (cond-true _ ((k, v) ∷ ps) (p ∷ put_key ps k v) e)) (subst (λ t. has_key t ps ≡ false) (same_is p.0 k e) d.0, d.1)
+    by true e rest = subst AreDistinct (sym (cond-true _ ((k, v) ∷ ps) (p ∷ put_key ps k v) e)) (subst (λ t. has_key t ps ≡ false) (text_is p.0 k e) d.0, d.1)
     by false e rest = subst AreDistinct (sym (cond-false _ ((k, v) ∷ ps) (p ∷ put_key ps k v) e)) (still_new ps k v p.0 d.0 (same_symm k p.0 ∙ e), rest)
 
 distinct_puts : (ps qs : Pairs) → AreDistinct qs → AreDistinct (put_keys qs ps)
