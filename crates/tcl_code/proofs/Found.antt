@@ -47,7 +47,10 @@ module _ (fits : Bool) (shapes new : Shapes) (pending new_pending : List ℕ) (s
 
 followed_way : (o : Option Instruction) (shapes : Shapes) (p : ℕ) (s : Shape) (k : Target) (t : Shape) → Followed o shapes p s → HasWay (ways_at o s) k t → shape_at shapes (target p k) ≡ Some t
 followed_way None shapes p s k t f h = elim h [ ]
-followed_way (Some i) shapes p s k t f h = let r = way_reached p s i k t h in f (target p k) r.0 ∙ ap Some (sym r.1)
+followed_way (Some i) shapes p s k t f h = elim (way_reached p s i k t h) [
+  | inl r ↦ f.0 (target p k) r.0 ∙ ap Some (sym r.1)
+  | inr r ↦ f.1 (target p k) r.0 ∙ ap Some (sym r.1)
+]
 
 module _ (code : List Instruction) (shapes : Shapes) (at : shape_at shapes 0 ≡ Some bare) (closed : Closed code shapes []) where
   here : (p : ℕ) (s : Shape) → shape_at shapes p ≡ Some s → Settled code shapes p s
@@ -81,6 +84,7 @@ within_on a b c h k = record {
   lists = omega (arith, h.lists, k.lists);
   depth = omega (arith, h.depth, k.depth);
   paid = omega (arith, h.paid, k.paid);
+  loops = omega (arith, h.loops, k.loops);
 }
 
 within_some : (o : Option Shape) (s top : Shape) → o ≡ Some s → IfSome o (λ t. IsWithin t top) → IsWithin s top

@@ -1,9 +1,11 @@
 pub mod Building
 pub mod Ends
 pub mod Found
+pub mod Guarding
 pub mod Holding
 pub mod Noting
 pub mod Place
+pub mod Placing
 pub mod Reading
 pub mod Settling
 pub mod Shapes

@@ -7,9 +7,9 @@ use Rattle.tcl_code.specs.Instructions.{Instruction}
 use Rattle.tcl_code.specs.declared.instr.Instr.{Instr}
 use Rattle.tcl_code.specs.declared.shape.Shape.{Shape}
 use Rattle.tcl_code.specs.Shown.{shown, instructions}
-use Rattle.tcl_code.specs.Valid.{IsFine, Valid, left_by, bare}
-use Rattle.tcl_code.specs.Search.{StaysInside, reached, Shapes, shape_at, Noted, Sound, Closed}
-use Rattle.tcl_code.proofs.Settling.{after_noted, after_end, after_not_suited, after_outside}
+use Rattle.tcl_code.specs.Valid.{IsFine, Valid, left_by, inner, bare}
+use Rattle.tcl_code.specs.Search.{StaysInside, reached, begun, Shapes, shape_at, Noted, Sound, Closed}
+use Rattle.tcl_code.proofs.Settling.{after_clash, after_noted, after_end, after_not_suited, after_outside}
 
 abbrev blank : List Instr → List Instruction
 blank code = instructions [] code
@@ -38,7 +38,11 @@ module _ (code : List Instr) (shapes : Shapes) (pending : List ℕ) (place : ℕ
         let P : ℕ → Type 0 = λ n. IsTrue r ↔ StaysInside place n (shown [] i) in
         after_outside (blank code) shapes place s (shown [] i) r at sound (read_item code place i l is) (subst P (as_long code) h) e v
 
-    pub noted : (ps : List ℕ) (left : Shape) (new : Shapes) (new_pending : List ℕ) (fits : Bool) → IsFine (shown [] i) s → StaysInside place (length code) (shown [] i) → ps ≡ reached place (shown [] i) → left ≡ left_by (shown [] i) s → Noted fits ps left shapes pending new new_pending → (fits ≡ true → Sound (blank code) new × Closed (blank code) new new_pending) × (fits ≡ false → Valid (blank code) → ⊥)
-    noted ps left new new_pending fits fine inside e f n =
+    pub clash : (ps : List ℕ) (left : Shape) (mid : Shapes) (mid_pending : List ℕ) (fits : Bool) → fits ≡ false → ps ≡ reached place (shown [] i) → left ≡ left_by (shown [] i) s → Noted fits ps left shapes pending mid mid_pending → Valid (blank code) → ⊥
+    clash ps left mid mid_pending fits t e f n v = after_clash (blank code) shapes pending place s (shown [] i) at sound (read_item code place i l is) ps left mid mid_pending e f fits t n v
+
+    pub noted : (ps : List ℕ) (left : Shape) (mid : Shapes) (mid_pending : List ℕ) (first fits : Bool) (qs : List ℕ) (owned : Shape) (new : Shapes) (new_pending : List ℕ) → IsFine (shown [] i) s → StaysInside place (length code) (shown [] i) → ps ≡ reached place (shown [] i) → left ≡ left_by (shown [] i) s → first ≡ true → Noted first ps left shapes pending mid mid_pending
+        → qs ≡ begun place (shown [] i) → owned ≡ inner (shown [] i) s → Noted fits qs owned mid mid_pending new new_pending → (fits ≡ true → Sound (blank code) new × Closed (blank code) new new_pending) × (fits ≡ false → Valid (blank code) → ⊥)
+    noted ps left mid mid_pending first fits qs owned new new_pending fine inside e f u n g h m =
         let P : ℕ → Type 0 = λ n. StaysInside place n (shown [] i) in
-        after_noted (blank code) shapes pending place s (shown [] i) ps left new new_pending fits at sound closed (read_item code place i l is) fine (subst P (as_long code) inside) e f n
+        after_noted (blank code) shapes pending place s (shown [] i) at sound (read_item code place i l is) ps left mid mid_pending e f first fits qs owned new new_pending closed fine (subst P (as_long code) inside) u n g h m

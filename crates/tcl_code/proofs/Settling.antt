@@ -4,8 +4,8 @@ use Rattle.std.specs.Prelude.{slice_get}
 use Rattle.std.proofs.lemmas.Option.{slice_get_past}
 use Rattle.tcl_code.specs.Instructions.{Instruction}
 use Rattle.tcl_code.specs.declared.shape.Shape.{Shape}
-use Rattle.tcl_code.specs.Valid.{Target, target, targets, left_by, IsFine, IsInside, Ways, ways_of, ways_at, HasWay, EachWay, Comes, Valid, FineOrEnd, bare}
-use Rattle.tcl_code.specs.Search.{Has, EachTarget, StaysInside, reached, Shapes, flat, shape_at, Noted, Sound, Followed, Settled, Closed}
+use Rattle.tcl_code.specs.Valid.{Target, target, targets, inner_targets, left_by, inner, IsFine, IsInside, Ways, ways_of, ways_at, HasWay, EachWay, Comes, Valid, FineOrEnd, bare}
+use Rattle.tcl_code.specs.Search.{Has, EachTarget, StaysInside, reached, begun, Shapes, flat, shape_at, Noted, Sound, Followed, Settled, Closed}
 use Rattle.tcl_code.proofs.Noting.{has_either, at_read}
 
 -- ---- ways and targets
@@ -27,8 +27,38 @@ way_target p s [] k t h = elim h [ ]
 way_target p s (j ∷ ks) k t (inl e) = (inl (ap (target p) (sym e.0)), sym e.1)
 way_target p s (j ∷ ks) k t (inr h) = let r = way_target p s ks k t h in (inr r.0, r.1)
 
-pub way_reached : (p : ℕ) (s : Shape) (i : Instruction) (k : Target) (t : Shape) → HasWay (ways_of i s) k t → Has (reached p i) (target p k) × (t ≡ left_by i s)
-way_reached p s i k t h = way_target p (left_by i s) (targets i) k t h
+-- ways one after another
+way_either : (xs ys : Ways) (k : Target) (t : Shape) → HasWay (xs ++ ys) k t → HasWay xs k t ⊎ HasWay ys k t
+way_either [] ys k t h = inr h
+way_either (x ∷ xs) ys k t (inl e) = inl (inl e)
+way_either (x ∷ xs) ys k t (inr h) = elim (way_either xs ys k t h) [ inl a ↦ inl (inr a) | inr b ↦ inr b ]
+
+way_left : (xs ys : Ways) (k : Target) (t : Shape) → HasWay xs k t → HasWay (xs ++ ys) k t
+way_left [] ys k t h = elim h [ ]
+way_left (x ∷ xs) ys k t (inl e) = inl e
+way_left (x ∷ xs) ys k t (inr h) = inr (way_left xs ys k t h)
+
+way_right : (xs ys : Ways) (k : Target) (t : Shape) → HasWay ys k t → HasWay (xs ++ ys) k t
+way_right [] ys k t h = h
+way_right (x ∷ xs) ys k t h = inr (way_right xs ys k t h)
+
+each_both : (P : Target → Shape → Type 0) (xs ys : Ways) → EachWay P xs → EachWay P ys → EachWay P (xs ++ ys)
+each_both P [] ys h k = k
+each_both P (x ∷ xs) ys h k = (h.0, each_both P xs ys h.1 k)
+
+each_left : (P : Target → Shape → Type 0) (xs ys : Ways) → EachWay P (xs ++ ys) → EachWay P xs
+each_left P [] ys h = tt
+each_left P (x ∷ xs) ys h = (h.0, each_left P xs ys h.1)
+
+each_right : (P : Target → Shape → Type 0) (xs ys : Ways) → EachWay P (xs ++ ys) → EachWay P ys
+each_right P [] ys h = h
+each_right P (x ∷ xs) ys h = each_right P xs ys h.1
+
+pub way_reached : (p : ℕ) (s : Shape) (i : Instruction) (k : Target) (t : Shape) → HasWay (ways_of i s) k t → (Has (reached p i) (target p k) × (t ≡ left_by i s)) ⊎ (Has (begun p i) (target p k) × (t ≡ inner i s))
+way_reached p s i k t h = elim (way_either (with_shape (left_by i s) (targets i)) (with_shape (inner i s) (inner_targets i)) k t h) [
+  | inl a ↦ inl (way_target p (left_by i s) (targets i) k t a)
+  | inr b ↦ inr (way_target p (inner i s) (inner_targets i) k t b)
+]
 
 -- and a place that is reached has such a way
 target_way : (p : ℕ) (s : Shape) (ks : List Target) (q : ℕ) → Has (map (target p) ks) q → (k : Target) × HasWay (with_shape s ks) k s × (q ≡ target p k)
@@ -40,7 +70,14 @@ pub comes_on : (code : List Instruction) (p : ℕ) (s : Shape) (i : Instruction)
 comes_on code p s i q c is h =
     let w = target_way p (left_by i s) (targets i) q h in
     let P : Option Instruction → Type 0 = λ o. HasWay (ways_at o s) w.0 (left_by i s) in
-    record { steps = suc c.steps; comes = (p, s, w.0, c.comes, subst P (sym is) w.1, w.2) }
+    record { steps = suc c.steps; comes = (p, s, w.0, c.comes, subst P (sym is) (way_left (with_shape (left_by i s) (targets i)) (with_shape (inner i s) (inner_targets i)) w.0 (left_by i s) w.1), w.2) }
+
+-- and to the body that begins there
+pub comes_in : (code : List Instruction) (p : ℕ) (s : Shape) (i : Instruction) (q : ℕ) → Comes code p s → slice_get code p ≡ Some i → Has (begun p i) q → Comes code q (inner i s)
+comes_in code p s i q c is h =
+    let w = target_way p (inner i s) (inner_targets i) q h in
+    let P : Option Instruction → Type 0 = λ o. HasWay (ways_at o s) w.0 (inner i s) in
+    record { steps = suc c.steps; comes = (p, s, w.0, c.comes, subst P (sym is) (way_right (with_shape (left_by i s) (targets i)) (with_shape (inner i s) (inner_targets i)) w.0 (inner i s) w.1), w.2) }
 
 -- ---- fine places
 
@@ -51,10 +88,13 @@ pub is_fine : (code : List Instruction) (p : ℕ) (s : Shape) (o : Option Instru
 is_fine code p s o e h = let P : Option Instruction → Type 0 = λ x. FineOrEnd code p s x in subst P e h
 
 fine_by : (code : List Instruction) (p : ℕ) (s : Shape) (i : Instruction) → IsFine i s → StaysInside p (length code) i → FineOrEnd code p s (Some i)
-fine_by code p s i f h = (f, each_way (IsInside p (length code)) (left_by i s) (targets i) h)
+fine_by code p s i f h = (f, each_both (λ k t. IsInside p (length code) k) (with_shape (left_by i s) (targets i)) (with_shape (inner i s) (inner_targets i)) (each_way (IsInside p (length code)) (left_by i s) (targets i) h.0) (each_way (IsInside p (length code)) (inner i s) (inner_targets i) h.1))
 
 inside_by : (code : List Instruction) (p : ℕ) (s : Shape) (i : Instruction) → FineOrEnd code p s (Some i) → StaysInside p (length code) i
-inside_by code p s i h = each_target (IsInside p (length code)) (left_by i s) (targets i) h.1
+inside_by code p s i h = (
+  each_target (IsInside p (length code)) (left_by i s) (targets i) (each_left (λ k t. IsInside p (length code) k) (with_shape (left_by i s) (targets i)) (with_shape (inner i s) (inner_targets i)) h.1),
+  each_target (IsInside p (length code)) (inner i s) (inner_targets i) (each_right (λ k t. IsInside p (length code) k) (with_shape (left_by i s) (targets i)) (with_shape (inner i s) (inner_targets i)) h.1),
+)
 
 -- ---- nothing stands there
 
@@ -76,7 +116,7 @@ nothing_there code shapes pending place none sound closed = (
 
 still_followed : (o : Option Instruction) (shapes new : Shapes) (p : ℕ) (t : Shape) → ((q : ℕ) (u : Shape) → shape_at shapes q ≡ Some u → shape_at new q ≡ Some u) → Followed o shapes p t → Followed o new p t
 still_followed None shapes new p t kept f = tt
-still_followed (Some i) shapes new p t kept f = λ q h. kept q (left_by i t) (f q h)
+still_followed (Some i) shapes new p t kept f = (λ q h. kept q (left_by i t) (f.0 q h), λ q h. kept q (inner i t) (f.1 q h))
 
 module _ (code : List Instruction) (shapes : Shapes) (pending : List ℕ) (place : ℕ) (s : Shape) (at : shape_at shapes place ≡ Some s) (sound : Sound code shapes) where
   pub not_fine : (FineOrEnd code place s (slice_get code place) → ⊥) → Valid code → ⊥
@@ -104,38 +144,67 @@ module _ (code : List Instruction) (shapes : Shapes) (pending : List ℕ) (place
     ];
   }
 
-  module _ (i : Instruction) (is : slice_get code place ≡ Some i) (new : Shapes) (new_pending : List ℕ) where
-    sound_here : (fits : Bool) → Noted fits (reached place i) (left_by i s) shapes pending new new_pending → Sound code new
-    sound_here fits n = record {
+  module _ (i : Instruction) (is : slice_get code place ≡ Some i) where
+    sound_on : (mid : Shapes) (mid_pending : List ℕ) (fits : Bool) → Noted fits (reached place i) (left_by i s) shapes pending mid mid_pending → Sound code mid
+    sound_on mid mid_pending fits n = record {
       comes = λ p t k. elim (n.only p t k) [
         | inl old ↦ sound.comes p t old
         | inr j ↦ let P : Shape → Type 0 = λ x. Comes code p x in subst P (sym j.1) (comes_on code place s i p (sound.comes place s at) is j.0)
       ];
     }
 
-    closed_here : Closed code shapes (pending ++ place ∷ []) → IsFine i s → StaysInside place (length code) i → Noted true (reached place i) (left_by i s) shapes pending new new_pending → Closed code new new_pending
-    closed_here closed fine inside n =
-        let P : Option Instruction → Type 0 = λ o. Followed o new place s in
-        settled_here new new_pending closed n.kept n.waits
-        (λ p t k. elim (n.only p t k) [ inl old ↦ inl old | inr j ↦ inr j.2 ])
-        (record { fine = fine_is code place s (Some i) is (fine_by code place s i fine inside); there = subst P (sym is) (n.there refl) })
-
-    clash_here : Noted false (reached place i) (left_by i s) shapes pending new new_pending → Valid code → ⊥
-    clash_here n v =
+    clash_on : (mid : Shapes) (mid_pending : List ℕ) → Noted false (reached place i) (left_by i s) shapes pending mid mid_pending → Valid code → ⊥
+    clash_on mid mid_pending n v =
         let k = n.clash refl in
-        k.4 (v.agree k.0 k.1 (left_by i s) ((sound_here false n).comes k.0 k.1 k.3) (comes_on code place s i k.0 (sound.comes place s at) is k.2))
+        k.4 (v.agree k.0 k.1 (left_by i s) ((sound_on mid mid_pending false n).comes k.0 k.1 k.3) (comes_on code place s i k.0 (sound.comes place s at) is k.2))
+
+    module _ (mid new : Shapes) (mid_pending new_pending : List ℕ) (first : Noted true (reached place i) (left_by i s) shapes pending mid mid_pending) where
+      sound_in : (fits : Bool) → Noted fits (begun place i) (inner i s) mid mid_pending new new_pending → Sound code new
+      sound_in fits n = record {
+        comes = λ p t k. elim (n.only p t k) [
+          | inl old ↦ (sound_on mid mid_pending true first).comes p t old
+          | inr j ↦ let P : Shape → Type 0 = λ x. Comes code p x in subst P (sym j.1) (comes_in code place s i p (sound.comes place s at) is j.0)
+        ];
+      }
+
+      closed_in : Closed code shapes (pending ++ place ∷ []) → IsFine i s → StaysInside place (length code) i → Noted true (begun place i) (inner i s) mid mid_pending new new_pending → Closed code new new_pending
+      closed_in closed fine inside n =
+          let P : Option Instruction → Type 0 = λ o. Followed o new place s in
+          settled_here new new_pending closed (λ q u k. n.kept q u (first.kept q u k)) (λ p k. n.waits p (first.waits p k))
+          (λ p t k. elim (n.only p t k) [ inl old ↦ elim (first.only p t old) [ inl older ↦ inl older | inr j ↦ inr (n.waits p j.2) ] | inr j ↦ inr j.2 ])
+          (record { fine = fine_is code place s (Some i) is (fine_by code place s i fine inside); there = subst P (sym is) (λ q h. n.kept q (left_by i s) (first.there refl q h), n.there refl) })
+
+      clash_in : Noted false (begun place i) (inner i s) mid mid_pending new new_pending → Valid code → ⊥
+      clash_in n v =
+          let k = n.clash refl in
+          k.4 (v.agree k.0 k.1 (inner i s) ((sound_in false n).comes k.0 k.1 k.3) (comes_in code place s i k.0 (sound.comes place s at) is k.2))
 
 -- ---- what the function that looks at a place answers
 
-pub after_noted : (code : List Instruction) (shapes : Shapes) (pending : List ℕ) (place : ℕ) (s : Shape) (i : Instruction) (ps : List ℕ) (left : Shape) (new : Shapes) (new_pending : List ℕ) (fits : Bool) → shape_at shapes place ≡ Some s → Sound code shapes → Closed code shapes (pending ++ place ∷ []) → slice_get code place ≡ Some i → IsFine i s → StaysInside place (length code) i → ps ≡ reached place i → left ≡ left_by i s → Noted fits ps left shapes pending new new_pending → (fits ≡ true → Sound code new × Closed code new new_pending) × (fits ≡ false → Valid code → ⊥)
-after_noted code shapes pending place s i ps left new new_pending fits at sound closed is fine inside e f n =
-    let R : List ℕ → Type 0 = λ x. Noted fits x left shapes pending new new_pending in
-    let Q : Shape → Type 0 = λ x. Noted fits (reached place i) x shapes pending new new_pending in
-    let m = subst Q f (subst R e n) in
-    let P : Bool → Type 0 = λ x. Noted x (reached place i) (left_by i s) shapes pending new new_pending in (
-      λ t. (sound_here code shapes pending place s at sound i is new new_pending fits m, closed_here code shapes pending place s at sound i is new new_pending closed fine inside (subst P t m)),
-      λ t. clash_here code shapes pending place s at sound i is new new_pending (subst P t m),
-    )
+module _ (code : List Instruction) (shapes : Shapes) (pending : List ℕ) (place : ℕ) (s : Shape) (i : Instruction) (at : shape_at shapes place ≡ Some s) (sound : Sound code shapes) (is : slice_get code place ≡ Some i) (ps : List ℕ) (left : Shape) (mid : Shapes) (mid_pending : List ℕ) (e : ps ≡ reached place i) (f : left ≡ left_by i s) where
+  first_noted : (fits : Bool) → Noted fits ps left shapes pending mid mid_pending → Noted fits (reached place i) (left_by i s) shapes pending mid mid_pending
+  first_noted fits n =
+      let R : List ℕ → Type 0 = λ x. Noted fits x left shapes pending mid mid_pending in
+      let Q : Shape → Type 0 = λ x. Noted fits (reached place i) x shapes pending mid mid_pending in
+      subst Q f (subst R e n)
+
+  pub after_clash : (fits : Bool) → fits ≡ false → Noted fits ps left shapes pending mid mid_pending → Valid code → ⊥
+  after_clash fits t n =
+      let P : Bool → Type 0 = λ x. Noted x (reached place i) (left_by i s) shapes pending mid mid_pending in
+      clash_on code shapes pending place s at sound i is mid mid_pending (subst P t (first_noted fits n))
+
+  pub after_noted : (first fits : Bool) (qs : List ℕ) (owned : Shape) (new : Shapes) (new_pending : List ℕ) → Closed code shapes (pending ++ place ∷ []) → IsFine i s → StaysInside place (length code) i → first ≡ true → Noted first ps left shapes pending mid mid_pending → qs ≡ begun place i → owned ≡ inner i s → Noted fits qs owned mid mid_pending new new_pending
+      → (fits ≡ true → Sound code new × Closed code new new_pending) × (fits ≡ false → Valid code → ⊥)
+  after_noted first fits qs owned new new_pending closed fine inside u n g h m =
+      let F : Bool → Type 0 = λ x. Noted x (reached place i) (left_by i s) shapes pending mid mid_pending in
+      let one = subst F u (first_noted first n) in
+      let R : List ℕ → Type 0 = λ x. Noted fits x owned mid mid_pending new new_pending in
+      let Q : Shape → Type 0 = λ x. Noted fits (begun place i) x mid mid_pending new new_pending in
+      let two = subst Q h (subst R g m) in
+      let P : Bool → Type 0 = λ x. Noted x (begun place i) (inner i s) mid mid_pending new new_pending in (
+        λ t. (sound_in code shapes pending place s at sound i is mid new mid_pending new_pending one fits two, closed_in code shapes pending place s at sound i is mid new mid_pending new_pending one closed fine inside (subst P t two)),
+        λ t. clash_in code shapes pending place s at sound i is mid new mid_pending new_pending one (subst P t two),
+      )
 
 pub after_end : (code : List Instruction) (shapes : Shapes) (pending : List ℕ) (place : ℕ) (s : Shape) (r : Bool) → shape_at shapes place ≡ Some s → Sound code shapes → Closed code shapes (pending ++ place ∷ []) → slice_get code place ≡ None → (IsTrue r ↔ ((place ≡ length code) × (s ≡ bare))) → (r ≡ true → Sound code shapes × Closed code shapes pending) × (r ≡ false → Valid code → ⊥)
 after_end code shapes pending place s r at sound closed is h =

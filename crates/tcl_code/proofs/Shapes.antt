@@ -11,7 +11,7 @@ use Rattle.tcl_code.specs.Instructions.{Turn}
 use Rattle.tcl_code.specs.Valid.{Shape, IsFine, Target, Ahead, Back, target, IsInside, Ways, ways_of, HasWay, EachWay, ways_at, ComesIn, FineOrEnd, Valid, bare}
 use Rattle.tcl_code.specs.Parts.{Fits}
 
-each_weaker : (P Q : Target → Shape → Type 0) (ws : Ways) → EachWay P ws → ((k : Target) (s : Shape) → P k s → Q k s) → EachWay Q ws
+pub each_weaker : (P Q : Target → Shape → Type 0) (ws : Ways) → EachWay P ws → ((k : Target) (s : Shape) → P k s → Q k s) → EachWay Q ws
 each_weaker P Q [] h f = tt
 each_weaker P Q (w ∷ ws) h f = (f w.0 w.1 h.0, each_weaker P Q ws h.1 f)
 
@@ -22,7 +22,7 @@ each_has P (v ∷ ws) k s h (inr w) = each_has P ws k s h.1 w
 
 -- ---- targets
 
-inside_le : (n count : ℕ) (k : Target) → n < count → IsInside n count k → target n k ≤ count
+pub inside_le : (n count : ℕ) (k : Target) → n < count → IsInside n count k → target n k ≤ count
 inside_le n count (Ahead k) lt h = h
 inside_le n count (Back k) lt h = omega arith
 
@@ -30,11 +30,11 @@ inside_more : (n count more : ℕ) (k : Target) → count ≤ more → IsInside 
 inside_more n count more (Ahead k) le h = omega arith
 inside_more n count more (Back k) le h = h
 
-inside_behind : (a m n count more : ℕ) (k : Target) → n ≡ a + m → a + count ≤ more → IsInside m count k → IsInside n more k
+pub inside_behind : (a m n count more : ℕ) (k : Target) → n ≡ a + m → a + count ≤ more → IsInside m count k → IsInside n more k
 inside_behind a m n count more (Ahead k) e le h = omega arith
 inside_behind a m n count more (Back k) e le h = omega arith
 
-target_behind : (a m n count : ℕ) (k : Target) → n ≡ a + m → IsInside m count k → target n k ≡ a + target m k
+pub target_behind : (a m n count : ℕ) (k : Target) → n ≡ a + m → IsInside m count k → target n k ≡ a + target m k
 target_behind a m n count (Ahead k) e h = omega arith
 target_behind a m n count (Back k) e h = omega arith
 

@@ -1,4 +1,5 @@
 pub mod Build
+pub mod Guards
 pub mod Instructions
 pub mod Machine
 pub mod Means

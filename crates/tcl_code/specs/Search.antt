@@ -1,7 +1,7 @@
 -- What the search for shapes has found.
 use Rattle.std.specs.Prelude.{ℕ, ◌+◌, ◌*◌, ◌≤◌, ◌≡◌, List, [], ◌∷◌, ◌++◌, length, map, Option, Some, None, slice_get, ◌⊎◌, Bool, true, false, count_by}
 use Rattle.tcl_code.specs.Instructions.{Instruction}
-use Rattle.tcl_code.specs.Valid.{Comes, Covers, FineOrEnd, IsInside, Valid, Target, target, targets, left_by}
+use Rattle.tcl_code.specs.Valid.{Comes, Covers, FineOrEnd, IsInside, Valid, Target, target, targets, inner_targets, left_by, inner}
 use Rattle.tcl_code.specs.declared.shape.Reached.{Reached}
 use Rattle.tcl_code.specs.declared.shape.Shape.{Shape}
 
@@ -15,11 +15,15 @@ EachTarget P (k ∷ ks) = P k × EachTarget P ks
 
 -- from a place in so many instructions, one leads inside
 abbrev pub StaysInside : ℕ → ℕ → Instruction → Type 0
-StaysInside place count i = EachTarget (IsInside place count) (targets i)
+StaysInside place count i = EachTarget (IsInside place count) (targets i) × EachTarget (IsInside place count) (inner_targets i)
 
 -- the places that it leads to
 abbrev pub reached : ℕ → Instruction → List ℕ
 reached place i = map (target place) (targets i)
+
+-- the places that it leads to with another shape
+abbrev pub begun : ℕ → Instruction → List ℕ
+begun place i = map (target place) (inner_targets i)
 
 abbrev pub maybe_one : Option ℕ → List ℕ
 maybe_one None = []
@@ -63,7 +67,7 @@ pub record Sound (code : List Instruction) (shapes : Shapes) : Type 0 where
 -- all that the instruction at a place leads to has the shape that it leaves
 abbrev pub Followed : Option Instruction → Shapes → ℕ → Shape → Type 0
 Followed None shapes p s = Unit {0}
-Followed (Some i) shapes p s = (q : ℕ) → Has (reached p i) q → shape_at shapes q ≡ Some (left_by i s)
+Followed (Some i) shapes p s = ((q : ℕ) → Has (reached p i) q → shape_at shapes q ≡ Some (left_by i s)) × ((q : ℕ) → Has (begun p i) q → shape_at shapes q ≡ Some (inner i s))
 
 pub record Settled (code : List Instruction) (shapes : Shapes) (p : ℕ) (s : Shape) : Type 0 where
   pub fine : FineOrEnd code p s (slice_get code p)

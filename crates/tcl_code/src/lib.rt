@@ -8,6 +8,7 @@
 
 mod builder;
 mod code;
+mod inlined;
 mod instr;
 pub mod laws;
 mod search;
@@ -15,5 +16,6 @@ mod shape;
 
 pub use builder::{CodeBuilder, CodeFault};
 pub use code::Code;
+pub use inlined::Inlined;
 pub use instr::{Instr, TextInstr};
 pub use shape::Shape;

@@ -8,7 +8,7 @@ ghost use Rattle.tcl_pages.specs.Texts.{Text};
 ghost use Rattle.tcl_code.specs.declared.shape.Shape.{Shape};
 
 use crate::instr::Instr;
-use crate::shape::{Reached, Shape, leads_to, stays_inside};
+use crate::shape::{Reached, Shape, inner_at, leads_to, stays_inside};
 use std::alloc::{AllocError, Global};
 
 /// The shapes that were found, and the places that weren't looked at yet.
@@ -84,7 +84,11 @@ impl Search {
                     return Ok(false);
                 }
                 let left = shape.after(*instr)?;
-                let fits = self.note_all(leads_to(place, code.len(), *instr), left)?;
+                if !self.note_all(leads_to(place, code.len(), *instr), left)? {
+                    return Ok(false);
+                }
+                let inner = shape.inner(*instr)?;
+                let fits = self.note_at(inner_at(place, code.len(), *instr), inner)?;
                 Ok(fits)
             }
         }

@@ -1,22 +1,24 @@
 //! What stands there on a way through a code, and what an instruction makes of it.
 
 ghost use Rattle.std.specs.Prelude.{◌≡◌, ◌+◌, ◌-◌, ◌<◌, ◌≤◌, ◌^◌, ◌∷◌, [], ◌↔◌, IfOk, IfSome, IsTrue, length};
-ghost use Rattle.tcl_code.specs.Search.{StaysInside, listed, reached};
+ghost use Rattle.tcl_code.specs.Search.{StaysInside, begun, listed, maybe_one, reached};
 ghost use Rattle.tcl_code.specs.Shown.{shown};
-ghost use Rattle.tcl_code.specs.Valid.{IsEager, IsFine, IsWithin, bare, left_by, with_texts};
+ghost use Rattle.tcl_code.specs.Valid.{IsEager, IsFine, IsWithin, bare, bare_in, inner, left_by, with_texts};
 
 use crate::instr::Instr;
 use std::alloc::AllocError;
 use tcl_expr::BinaryOp;
 
-/// How many texts and lists of words are there; how many brackets are open; and how many commands have been paid for that
-/// haven't been called yet. There is one result more than brackets are open.
+/// How many texts and lists of words are there; how many brackets are open; how many commands have been paid for that
+/// haven't been called yet, all in the innermost loop's body; and how many loops' bodies run. There is one result more than
+/// brackets are open.
 #[derive(Clone, Copy, Debug, PartialEq, Eq)]
 pub struct Shape {
     pub height: u32,
     pub lists: u32,
     pub depth: u32,
     pub paid: u32,
+    pub loops: u32,
 }
 
 /// The places that an instruction leads to.
@@ -50,6 +52,7 @@ impl Shape {
             lists: 0,
             depth: 0,
             paid: 0,
+            loops: 0,
         }
     }
 
@@ -61,6 +64,7 @@ impl Shape {
             && self.lists == other.lists
             && self.depth == other.depth
             && self.paid == other.paid
+            && self.loops == other.loops
     }
 
     /// The greater of each, where there is another one.
@@ -75,6 +79,7 @@ impl Shape {
                 lists: self.lists.max(other.lists),
                 depth: self.depth.max(other.depth),
                 paid: self.paid.max(other.paid),
+                loops: self.loops.max(other.loops),
             },
         }
     }
@@ -83,7 +88,33 @@ impl Shape {
     pub(crate) fn is_end(self, place: usize, count: usize) -> bool
         ensures { IsTrue result ↔ ((place ≡ count) × (self ≡ bare)) }
     {
-        place == count && self.height == 0 && self.lists == 0 && self.depth == 0 && self.paid == 0
+        place == count && self.loops == 0 && self.has_nothing()
+    }
+
+    /// Does nothing stand there but loops?
+    fn has_nothing(self) -> bool
+        ensures { IsTrue result ↔ (self ≡ bare_in self.loops) }
+    {
+        self.height == 0 && self.lists == 0 && self.depth == 0 && self.paid == 0
+    }
+
+    /// What stands where an instruction leads with another shape.
+    pub(crate) fn inner(self, instr: Instr) -> Result<Shape, AllocError>
+        ensures { IfOk result (λ s. s ≡ inner (shown [] instr) self) }
+    {
+        match instr {
+            Instr::Guard(_, _) => Ok(Shape {
+                paid: self.paid.saturating_sub(1),
+                ..self
+            }),
+            _ => Ok(Shape {
+                height: 0,
+                lists: 0,
+                depth: 0,
+                paid: 0,
+                loops: one_more(self.loops)?,
+            }),
+        }
     }
 
     /// So many texts less, and then so many more.
@@ -109,10 +140,25 @@ impl Shape {
             }
             Instr::Join(n) | Instr::Apply(_, n) => self.with_texts(n, 1),
             Instr::Binary(_) | Instr::Power => self.with_texts(2, 1),
-            Instr::Add | Instr::AddAll | Instr::SkipWhen(_, _) | Instr::Answer => {
-                self.with_texts(1, 0)
-            }
-            Instr::Raise(_) | Instr::Skip(_) | Instr::Turn(_) => Ok(self),
+            Instr::Add
+            | Instr::AddAll
+            | Instr::SkipWhen(_, _)
+            | Instr::Answer
+            | Instr::Write(_)
+            | Instr::Bump(_) => self.with_texts(1, 0),
+            Instr::Under(_) => self.with_texts(1, 2),
+            Instr::Raise(_)
+            | Instr::Skip(_)
+            | Instr::Turn(_)
+            | Instr::Guard(_, _)
+            | Instr::Body(_)
+            | Instr::Again
+            | Instr::Break
+            | Instr::Continue => Ok(self),
+            Instr::Become => Ok(Shape {
+                depth: self.depth.saturating_sub(1),
+                ..self
+            }),
             Instr::Spend => Ok(Shape {
                 paid: one_more(self.paid)?,
                 ..self
@@ -155,15 +201,23 @@ impl Shape {
             | Instr::Gather
             | Instr::Raise(_)
             | Instr::Skip(_)
-            | Instr::Turn(_) => true,
+            | Instr::Turn(_)
+            | Instr::Body(_)
+            | Instr::Break
+            | Instr::Continue => true,
+            Instr::Guard(_, _) => self.paid >= 1,
+            Instr::Again => self.loops >= 1 && self.has_nothing(),
             Instr::ReadElement(_)
             | Instr::SkipWhen(_, _)
             | Instr::Unary(_)
             | Instr::Truth
             | Instr::Final
-            | Instr::Answer => self.height >= 1,
+            | Instr::Answer
+            | Instr::Under(_)
+            | Instr::Write(_)
+            | Instr::Bump(_) => self.height >= 1,
             Instr::Join(n) | Instr::Apply(_, n) => self.height >= n,
-            Instr::Leave => self.depth >= 1,
+            Instr::Leave | Instr::Become => self.depth >= 1,
             Instr::Call(n) => self.height >= n && self.paid >= 1,
             Instr::Add | Instr::AddAll => self.height >= 1 && self.lists >= 1,
             Instr::CallGathered => self.lists >= 1 && self.paid >= 1,
@@ -179,7 +233,10 @@ pub(crate) fn stays_inside(place: usize, count: usize, instr: Instr) -> bool
     ensures { IsTrue result ↔ StaysInside place count (shown [] instr) }
 {
     match instr {
-        Instr::Skip(n) | Instr::SkipWhen(_, n) => count - place - 1 >= n as usize,
+        Instr::Skip(n) | Instr::SkipWhen(_, n) | Instr::Guard(_, n) => {
+            count - place - 1 >= n as usize
+        }
+        Instr::Body(n) => count - place - 1 > n as usize,
         Instr::Turn(n) => place >= n as usize,
         _ => true,
     }
@@ -193,17 +250,21 @@ pub(crate) fn leads_to(place: usize, count: usize, instr: Instr) -> Reached
 {
     let next = place + 1;
     match instr {
-        Instr::Raise(_) => Reached {
+        Instr::Raise(_) | Instr::Again | Instr::Break | Instr::Continue => Reached {
             first: None,
             second: None,
         },
-        Instr::Skip(n) => Reached {
+        Instr::Skip(n) | Instr::Guard(_, n) => Reached {
             first: Some(next + n as usize),
             second: None,
         },
         Instr::SkipWhen(_, n) => Reached {
             first: Some(next),
             second: Some(next + n as usize),
+        },
+        Instr::Body(n) => Reached {
+            first: Some(next + n as usize),
+            second: Some(next + n as usize + 1),
         },
         Instr::Turn(n) => Reached {
             first: Some(place - n as usize),
@@ -213,5 +274,17 @@ pub(crate) fn leads_to(place: usize, count: usize, instr: Instr) -> Reached
             first: Some(next),
             second: None,
         },
+    }
+}
+
+/// The place that an instruction leads to with another shape.
+pub(crate) fn inner_at(place: usize, count: usize, instr: Instr) -> Option<usize>
+    requires at { place < count }
+    ensures place { maybe_one result ≡ begun place (shown [] instr) }
+    ensures inside { IfSome result (λ p. p ≤ count) }
+{
+    match instr {
+        Instr::Guard(_, _) | Instr::Body(_) => Some(place + 1),
+        _ => None,
     }
 }

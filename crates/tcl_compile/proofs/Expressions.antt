@@ -11,9 +11,9 @@ use Rattle.tcl_expr.specs.Token.{Token}
 use Rattle.tcl_expr.specs.Tokens.{tokens, tokens_at, tokens_from, next_token, operand_token}
 use Rattle.tcl_meaning.specs.Operators.{final_answer}
 use Rattle.tcl_pages.specs.Texts.{Text}
-use Rattle.tcl_meaning.specs.Completions.{nothing, normal}
+use Rattle.tcl_meaning.specs.Completions.{Completion, nothing, normal, failure}
 use Rattle.tcl_meaning.specs.State.{State}
-use Rattle.tcl_meaning.specs.Effects.{Prog, Give, exec, ◌>>=◌ as andthen}
+use Rattle.tcl_meaning.specs.Effects.{Gives, Prog, Give, exec, ◌>>=◌ as andthen}
 use Rattle.tcl_meaning.specs.Expressions.{tree_text, parsed_text, expression}
 use Rattle.tcl_meaning.specs.Script.{Run, most_depth}
 use Rattle.tcl_meaning.specs.Tasks.{Task}
@@ -21,7 +21,8 @@ use Rattle.tcl_meaning.specs.Value.{Value, Has, Fails, completed}
 use Rattle.tcl_meaning.proofs.Runs.{exec_bind}
 use Rattle.tcl_meaning.proofs.Reaching.{on_got_same}
 use Rattle.tcl_code.specs.Instructions.{Instruction, Raise, Final, Answer}
-use Rattle.tcl_code.specs.Machine.{stack_of, with_result, result_at, first_spot}
+use Rattle.tcl_code.specs.Machine as M
+use Rattle.tcl_code.specs.Machine.{Next, Spot, follow, landed, stack_of, with_result, result_at, first_spot}
 use Rattle.tcl_code.specs.Means.{EndsAs, MeansExpr}
 use Rattle.tcl_code.specs.Parts.{Fits, Lands, Does}
 use Rattle.tcl_code.specs.Valid.{Valid, shape, bare}
@@ -55,21 +56,24 @@ module _ (dialect : Dialect) where
       value = final_does dialect c (λ d. tree_text dialect d e) x
 
       fits : Fits (whole_code c) bare bare
-      fits = fits_joined (c ++ Final ∷ []) (Answer ∷ []) bare (shape (0 + 1) 0 0 0) bare (value.adds 0 0 0 0) (fits_one Answer (shape (0 + 1) 0 0 0) bare _ (omega arith) refl (ap (λ n. shape n 0 0 0) (omega arith)))
+      fits = fits_joined (c ++ Final ∷ []) (Answer ∷ []) bare (shape (0 + 1) 0 0 0 0) bare (value.adds 0 0 0 0 0) (fits_one Answer (shape (0 + 1) 0 0 0 0) bare _ (omega arith) refl (ap (λ n. shape n 0 0 0 0) (omega arith)))
 
-      lands : (d : ℕ) (s : State) → d ≤ most_depth → Lands dialect (whole_code c) (first_spot d) s (result_at (0 + length (whole_code c)) (stack_of [] [] []) d) (exec (Run dialect) (andthen (parsed_text dialect d (Ok e)) (λ v. Give (completed v))) s)
+      lands : (d : ℕ) (s : State) → d ≤ most_depth → Lands dialect (whole_code c) [] (first_spot d) s (result_at (0 + length (whole_code c)) (stack_of [] [] [] []) d) (exec (Run dialect) (andthen (parsed_text dialect d (Ok e)) (λ v. Give (completed v))) s)
       lands d s le =
           let all = has_all (whole_code c) [] in
           let back = has_back (whole_code c) 0 (c ++ Final ∷ []) (Answer ∷ []) all in
           same_done dialect (whole_code c) (completed_is (parsed_text dialect d (Ok e)) s)
           (then_done dialect (whole_code c) (parsed_text dialect d (Ok e)) (λ t. Give (normal t)) (both_fail dialect (tree_text dialect d e) _ (tree_fails dialect d e) (λ t. judged_fails dialect (final_answer dialect t)))
-          (value.from (whole_code c) 0 (with_result nothing (stack_of [] [] [])) d s (has_front (whole_code c) 0 (c ++ Final ∷ []) (Answer ∷ []) all))
+          (value.from (whole_code c) 0 (with_result nothing (stack_of [] [] [] [])) d s (has_front (whole_code c) 0 (c ++ Final ∷ []) (Answer ∷ []) all))
           (λ t u. one_done dialect (whole_code c) Answer back.0 refl (here_done dialect (whole_code c) (omega (arith, length-append (c ++ Final ∷ []) (Answer ∷ []))) refl)))
+
+  raised : (next : Next) (to : Completion → Spot) (m : Text) (s : State) → follow dialect next [] (M.Fails (failure m) s) ≡ landed next [] to (Gives (failure m) s)
+  raised next to m s = refl
 
   fault_ends : (f : ExprFault) → EndsAs dialect (Raise (fault_text f) ∷ []) (λ d s. exec (Run dialect) (andthen (parsed_text dialect d (Err f)) (λ v. Give (completed v))) s)
   fault_ends f =
       ends_as dialect (Raise (fault_text f) ∷ []) (λ d s. exec (Run dialect) (andthen (parsed_text dialect d (Err f)) (λ v. Give (completed v))) s) (fits_stop (Raise (fault_text f)) bare bare tt refl)
-      (λ d s le. final_done dialect (Raise (fault_text f) ∷ []) (Raise (fault_text f)) refl (λ next. refl))
+      (λ d s le. final_done dialect (Raise (fault_text f) ∷ []) {os = []} {p = first_spot d} {s = s} {r = result_at (0 + length (Raise (fault_text f) ∷ [])) (stack_of [] [] [] []) d} (Raise (fault_text f)) refl (λ next. raised next (result_at (0 + length (Raise (fault_text f) ∷ [])) (stack_of [] [] [] []) d) (fault_text f) s))
 
 -- ---- what was emitted from nothing
 

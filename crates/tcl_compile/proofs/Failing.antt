@@ -18,7 +18,7 @@ use Rattle.tcl_meaning.specs.Value.{Value, Has, Fails, ◌>>=◌, on_value, give
 use Rattle.tcl_meaning.specs.Variables.{get, read_result, read}
 use Rattle.tcl_meaning.proofs.Runs.{exec_bind}
 use Rattle.tcl_code.specs.Instructions.{Instruction}
-use Rattle.tcl_code.specs.Machine.{Next, Spot, Ended, landed_by, exec_code}
+use Rattle.tcl_code.specs.Machine.{Loop, Next, Spot, thrown_by, landed_by, exec_code}
 use Rattle.tcl_code.specs.Parts.{LandsValue, Lands}
 
 -- what follows a value, in place of which stands a completion
@@ -26,14 +26,14 @@ abbrev pub finishing : {A : Type 0} → (A → Prog Task Completion) → Value A
 finishing f (Has a) = f a
 finishing f (Fails c) = Give c
 
--- a completion whose code isn't ok ends the code
-pub landed_stops : (next : Next) (to : Completion → Spot) (k : Code) (c : Completion) (s : State) → (k ≡ ending.Ok → ⊥) → landed_by next to k c s ≡ Ended (Gives c s)
-landed_stops next to ending.Ok c s h = absurd (h refl)
-landed_stops next to ending.Error c s h = refl
-landed_stops next to ending.Return c s h = refl
-landed_stops next to ending.Break c s h = refl
-landed_stops next to ending.Continue c s h = refl
-landed_stops next to (ending.Other z) c s h = refl
+-- a completion whose code isn't ok is thrown
+pub landed_stops : (next : Next) (os : List Loop) (to : Completion → Spot) (k : Code) (c : Completion) (s : State) → (k ≡ ending.Ok → ⊥) → landed_by next os to k c s ≡ thrown_by next os k c s
+landed_stops next os to ending.Ok c s h = absurd (h refl)
+landed_stops next os to ending.Error c s h = refl
+landed_stops next os to ending.Return c s h = refl
+landed_stops next os to ending.Break c s h = refl
+landed_stops next os to ending.Continue c s h = refl
+landed_stops next os to (ending.Other z) c s h = refl
 
 -- what is there fails with no completion that is ok
 abbrev pub FailsBadly : {A : Type 0} → Got (Value A) → Type 0
@@ -113,16 +113,16 @@ module _ (dialect : Dialect) where
 
   -- ---- landing
 
-  module _ (code : List Instruction) where
-    pub after_value : {A : Type 0} {p : Spot} {s : State} {q : A → Spot} {r : Completion → Spot} (g : Got (Value A)) (f : A → Prog Task Completion) → FailsBadly g → LandsValue dialect code p s q g → ((a : A) (u : State) → Lands dialect code (q a) u r (exec (Run dialect) (f a) u))
-        → Lands dialect code p s r (on_got g (λ v u. exec (Run dialect) (finishing f v) u))
+  module _ (code : List Instruction) {os : List Loop} where
+    pub after_value : {A : Type 0} {p : Spot} {s : State} {q : A → Spot} {r : Completion → Spot} (g : Got (Value A)) (f : A → Prog Task Completion) → FailsBadly g → LandsValue dialect code os p s q g → ((a : A) (u : State) → Lands dialect code os (q a) u r (exec (Run dialect) (f a) u))
+        → Lands dialect code os p s r (on_got g (λ v u. exec (Run dialect) (finishing f v) u))
     after_value (Gives (Has t) u) f h l n = record { by = λ k. let b = (n t u).by k in let a = l.by b.0 in (a.0, omega (arith, a.1, b.1), a.2 ∙ b.2) }
-    after_value {r = r} (Gives (Fails c) u) f h l n = record { by = λ k. let a = l.by k in (a.0, a.1, a.2 ∙ sym (landed_stops (exec_code dialect code k) r (code_now c) c u h)) }
+    after_value {r = r} (Gives (Fails c) u) f h l n = record { by = λ k. let a = l.by k in (a.0, a.1, a.2 ∙ sym (landed_stops (exec_code dialect code k) os r (code_now c) c u h)) }
     after_value (Broke u) f h l n = record { by = l.by }
     after_value (Exits m u) f h l n = record { by = l.by }
     after_value (Untold c) f h l n = record { by = l.by }
 
     -- a value, and then a command's completion
-    pub then_done : {A : Type 0} {p : Spot} {s : State} {q : A → Spot} {r : Completion → Spot} (m : Prog Task (Value A)) (f : A → Prog Task Completion) → NeverOk m → LandsValue dialect code p s q (exec (Run dialect) m s) → ((a : A) (u : State) → Lands dialect code (q a) u r (exec (Run dialect) (f a) u))
-        → Lands dialect code p s r (exec (Run dialect) (andthen m (finishing f)) s)
-    then_done {A} {p} {s} {q} {r} m f h l n = subst (Lands dialect code p s r) (sym (exec_bind (Run dialect) m (finishing f) s)) (after_value (exec (Run dialect) m s) f (h.fails s) l n)
+    pub then_done : {A : Type 0} {p : Spot} {s : State} {q : A → Spot} {r : Completion → Spot} (m : Prog Task (Value A)) (f : A → Prog Task Completion) → NeverOk m → LandsValue dialect code os p s q (exec (Run dialect) m s) → ((a : A) (u : State) → Lands dialect code os (q a) u r (exec (Run dialect) (f a) u))
+        → Lands dialect code os p s r (exec (Run dialect) (andthen m (finishing f)) s)
+    then_done {A} {p} {s} {q} {r} m f h l n = subst (Lands dialect code os p s r) (sym (exec_bind (Run dialect) m (finishing f) s)) (after_value (exec (Run dialect) m s) f (h.fails s) l n)

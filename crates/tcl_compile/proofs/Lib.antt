@@ -2,8 +2,11 @@ pub mod Changing
 pub mod Commands
 pub mod Emits
 pub mod Expressions
+pub mod Guarded
 pub mod Failing
+pub mod Inlined
 pub mod Leaves
+pub mod Looping
 pub mod Operators
 pub mod Parsing
 pub mod Pieces

@@ -89,19 +89,19 @@ module _ (dialect : Dialect) where
   -- ---- operators
 
   pub unary_does : (u : UnaryOp) (c : List Instruction) (m : ℕ → Prog Task (Value Text)) → Does dialect c m → Does dialect (c ++ Unary u ∷ []) (λ d. m d >>= λ a. judged (unary_answer dialect u a))
-  unary_does u c m x = does_change dialect c (Unary u ∷ []) m (λ d a. judged (unary_answer dialect u a)) x (change_one dialect (Unary u) (unary_answer dialect u) (λ at t stack d s. refl) (λ h l d p. omega arith) (λ h l d p. refl))
+  unary_does u c m x = does_change dialect c (Unary u ∷ []) m (λ d a. judged (unary_answer dialect u a)) x (change_one dialect (Unary u) (unary_answer dialect u) (λ at t stack d s. refl) (λ h l d p o. omega arith) (λ h l d p o. refl))
 
   pub final_does : (c : List Instruction) (m : ℕ → Prog Task (Value Text)) → Does dialect c m → Does dialect (c ++ Final ∷ []) (λ d. m d >>= λ t. judged (final_answer dialect t))
-  final_does c m x = does_change dialect c (Final ∷ []) m (λ d t. judged (final_answer dialect t)) x (change_one dialect Final (final_answer dialect) (λ at t stack d s. refl) (λ h l d p. omega arith) (λ h l d p. refl))
+  final_does c m x = does_change dialect c (Final ∷ []) m (λ d t. judged (final_answer dialect t)) x (change_one dialect Final (final_answer dialect) (λ at t stack d s. refl) (λ h l d p o. omega arith) (λ h l d p o. refl))
 
   pub power_does : (a b : List Instruction) (m n : ℕ → Prog Task (Value Text)) → Does dialect a m → Does dialect b n → Does dialect (a ++ (b ++ Power ∷ [])) (λ d. m d >>= λ x. n d >>= λ y. judged (power_answer dialect x y))
-  power_does a b m n x y = does_change dialect a (b ++ Power ∷ []) m (λ d t. n d >>= λ v. judged (power_answer dialect t v)) x (change_two dialect b n Power (power_answer dialect) y (λ at v w stack d s. refl) (λ h l d p. omega arith) (λ h l d p. refl))
+  power_does a b m n x y = does_change dialect a (b ++ Power ∷ []) m (λ d t. n d >>= λ v. judged (power_answer dialect t v)) x (change_two dialect b n Power (power_answer dialect) y (λ at v w stack d s. refl) (λ h l d p o. omega arith) (λ h l d p o. refl))
 
   pub eager_step : (o : BinaryOp) (c : List Instruction) (m : ℕ → Prog Task (Value Text)) → decided_by o ≡ None → Does dialect c m → Changes dialect (c ++ Binary o ∷ []) (λ d a. applied dialect (operator dialect o) a (m d))
   eager_step o c m e x =
       let g = eagerly o e in
       subst (λ (k : Operator). Changes dialect (c ++ Binary o ∷ []) (λ d a. applied dialect k a (m d))) (sym g.is)
-      (change_two dialect c m (Binary o) g.answer x (λ at a b stack d s. ap (λ (k : Operator). on_operator k a b (text_at (at + 1) stack d) s) g.is) (λ h l d p. (omega arith, g.fine)) (λ h l d p. refl))
+      (change_two dialect c m (Binary o) g.answer x (λ at a b stack d s. ap (λ (k : Operator). on_operator k a b (text_at (at + 1) stack d) s) g.is) (λ h l d p o. (omega arith, g.fine)) (λ h l d p o. refl))
 
   pub lazy_step : (o : BinaryOp) (b : Bool) (c : List Instruction) (m : ℕ → Prog Task (Value Text)) → decided_by o ≡ Some b → Does dialect c m → Changes dialect (lazy_code b c) (λ d a. applied dialect (operator dialect o) a (m d))
   lazy_step o b c m e x = subst (λ (k : Operator). Changes dialect (lazy_code b c) (λ d a. applied dialect k a (m d))) (sym (lazily o b e)) (change_lazy dialect b c m x)
@@ -112,10 +112,10 @@ module _ (dialect : Dialect) where
   applies_end f n = record {
     from = λ code at ts stack d s e has.
         final dialect code (Apply f n) has.0
-        (λ next. ap (λ x. follow dialect next (on_taken x (λ us below. on_answer (function_answer dialect f us) (λ v. spot (at + 1) (stack_of (v ∷ below) stack.lists stack.results) d) s))) (taken_all n ts stack.texts e)
-        ∙ on_answer_is dialect next (function_answer dialect f ts) (text_at (at + 1) stack d) s
-        ∙ ap (λ us. value_landed next (text_at (at + 1) stack d) (exec (Run dialect) (judged (function_answer dialect f us)) s)) (sym (append-nil ts)));
-    adds = λ h k l d p e. fits_one (Apply f n) (shape (h + k) l d p) (shape (h + 1) l d p) _ (omega arith) refl (ap (λ m. shape m l d p) (omega arith));
+        (λ next. ap (λ x. follow dialect next stack.loops (on_taken x (λ us below. on_answer (function_answer dialect f us) (λ v. spot (at + 1) (stack_of (v ∷ below) stack.lists stack.results stack.loops) d) s))) (taken_all n ts stack.texts e)
+        ∙ on_answer_is dialect next stack.loops (function_answer dialect f ts) (text_at (at + 1) stack d) s
+        ∙ ap (λ us. value_landed next stack.loops (text_at (at + 1) stack d) (exec (Run dialect) (judged (function_answer dialect f us)) s)) (sym (append-nil ts)));
+    adds = λ h k l d p o e. fits_one (Apply f n) (shape (h + k) l d p o) (shape (h + 1) l d p o) _ (omega arith) refl (ap (λ m. shape m l d p o) (omega arith));
   }
 
   args_step : (f : Function) (d : ℕ) (ts : Texts) (e : Expr) (es : Args) (s : State) → exec (Run dialect) (args_value dialect f d ts (arg e es)) s ≡ exec (Run dialect) (tree_text dialect d e >>= λ t. args_value dialect f d (ts ++ t ∷ []) es) s
@@ -133,13 +133,13 @@ module _ (dialect : Dialect) where
         same dialect code (sym (args_step f d ts e es s))
         (then dialect code (tree_text dialect d e) (λ t. args_value dialect f d (ts ++ t ∷ []) es) (x.from code at (stacked ts stack) d s (has_front code at c more has))
         (λ t u. moved dialect code (omega (arith, length-append c more))
-        (subst (λ st. LandsValue dialect code (spot (at + length c) st d) u (text_at (at + length c + length more) stack d) (exec (Run dialect) (args_value dialect f d (ts ++ t ∷ []) es) u)) (stacked_more ts t stack)
+        (subst (λ st. LandsValue dialect code stack.loops (spot (at + length c) st d) u (text_at (at + length c + length more) stack d) (exec (Run dialect) (args_value dialect f d (ts ++ t ∷ []) es) u)) (stacked_more ts t stack)
         (g.from code (at + length c) (ts ++ t ∷ []) stack d u (omega (arith, k, length-append ts (t ∷ []))) back))));
-    adds = λ h k l d p e2. fits_joined c more (shape (h + k) l d p) (shape (h + k + 1) l d p) (shape (h + 1) l d p) (x.adds (h + k) l d p) (fits_same (ap (λ m. shape m l d p) (omega arith)) refl (g.adds h (k + 1) l d p (omega arith)));
+    adds = λ h k l d p o e2. fits_joined c more (shape (h + k) l d p o) (shape (h + k + 1) l d p o) (shape (h + 1) l d p o) (x.adds (h + k) l d p o) (fits_same (ap (λ m. shape m l d p o) (omega arith)) refl (g.adds h (k + 1) l d p o (omega arith)));
   }
 
   pub call_does : (f : Function) (name : Stretch) (es : Args) (c : List Instruction) → Applies dialect f (argument_count es) c es → Does dialect c (λ d. tree_text dialect d (call f name es))
-  call_does f name es c x = record { from = λ code at stack d s has. x.from code at [] stack d s (omega arith) has; adds = λ h l d p. fits_same (ap (λ m. shape m l d p) (omega arith)) refl (x.adds h 0 l d p (omega arith)) }
+  call_does f name es c x = record { from = λ code at stack d s has. x.from code at [] stack d s (omega arith) has; adds = λ h l d p o. fits_same (ap (λ m. shape m l d p o) (omega arith)) refl (x.adds h 0 l d p o (omega arith)) }
 
   -- ---- what stands in place of a value
 

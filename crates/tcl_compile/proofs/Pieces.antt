@@ -19,7 +19,8 @@ use Rattle.tcl_meaning.specs.Value.{Value, Has, Fails, ◌>>=◌, give, behind}
 use Rattle.tcl_meaning.proofs.Reaching.{bind_bind}
 use Rattle.tcl_meaning.proofs.ScriptRules.{script_deep, index_pieces, pieces_start, pieces_next}
 use Rattle.tcl_code.specs.Instructions.{Instruction, Push, Read, ReadElement, Join, Enter, Leave}
-use Rattle.tcl_code.specs.Machine.{Texts, Stack, stack_of, with_text, with_result, text_at, result_at, Spot, spot, To, Ends, taken, on_taken, landed_by, follow, act, exec_code}
+use Rattle.tcl_code.specs.Machine as M
+use Rattle.tcl_code.specs.Machine.{Texts, Stack, stack_of, with_text, with_result, text_at, result_at, Spot, spot, To, taken, on_taken, landed_by, follow, act, exec_code}
 use Rattle.tcl_code.specs.Parts.{HasAt, Fits, Adds, value_landed, LandsValue, Lands, Does}
 use Rattle.tcl_code.specs.Valid.{Ahead, shape, IsFine, ways_of}
 use Rattle.tcl_code.proofs.Shapes.{fits_one, fits_same, fits_joined}
@@ -44,7 +45,7 @@ onto_more [] t stack = refl
 onto_more (x ∷ ts) t stack = onto_more ts t (x ∷ stack)
 
 pub stacked_more : (ts : Texts) (t : Text) (stack : Stack) → stacked (ts ++ t ∷ []) stack ≡ with_text t (stacked ts stack)
-stacked_more ts t stack = ap (λ x. stack_of x stack.lists stack.results) (onto_more ts t stack.texts)
+stacked_more ts t stack = ap (λ x. stack_of x stack.lists stack.results stack.loops) (onto_more ts t stack.texts)
 
 concat_more : (ts : Texts) (t : Text) → concat (ts ++ t ∷ []) ≡ concat ts ++ t
 concat_more [] t = append-nil t
@@ -52,22 +53,22 @@ concat_more (x ∷ ts) t = ap (λ r. x ++ r) (concat_more ts t) ∙ sym (append_
 
 -- ---- shapes
 
-pub adds_one : (i : Instruction) → ((h l d p : ℕ) → IsFine i (shape h l d p)) → ((h l d p : ℕ) → ways_of i (shape h l d p) ≡ (Ahead 0, shape (h + 1) l d p) ∷ []) → Adds (i ∷ [])
-adds_one i f w = λ h l d p. fits_one i (shape h l d p) (shape (h + 1) l d p) (shape (h + 1) l d p) (f h l d p) (w h l d p) refl
+pub adds_one : (i : Instruction) → ((h l d p o : ℕ) → IsFine i (shape h l d p o)) → ((h l d p o : ℕ) → ways_of i (shape h l d p o) ≡ (Ahead 0, shape (h + 1) l d p o) ∷ []) → Adds (i ∷ [])
+adds_one i f w = λ h l d p o. fits_one i (shape h l d p o) (shape (h + 1) l d p o) (shape (h + 1) l d p o) (f h l d p o) (w h l d p o) refl
 
-push_ways : (t : Text) (h l d p : ℕ) → ways_of (Push t) (shape h l d p) ≡ (Ahead 0, shape (h + 1) l d p) ∷ []
-push_ways t h l d p = ap (λ n. (Ahead 0, shape n l d p) ∷ []) (omega arith)
+push_ways : (t : Text) (h l d p o : ℕ) → ways_of (Push t) (shape h l d p o) ≡ (Ahead 0, shape (h + 1) l d p o) ∷ []
+push_ways t h l d p o = ap (λ n. (Ahead 0, shape n l d p o) ∷ []) (omega arith)
 
 module _ (dialect : Dialect) where
   -- ---- pieces
 
   pub push_does : (t : Text) → Does dialect (Push t ∷ []) (λ d. give t)
-  push_does t = record { from = λ code at stack d s has. one dialect code (Push t) has.0 refl (here dialect code refl); adds = adds_one (Push t) (λ h l d p. tt) (push_ways t) }
+  push_does t = record { from = λ code at stack d s has. one dialect code (Push t) has.0 refl (here dialect code refl); adds = adds_one (Push t) (λ h l d p o. tt) (push_ways t) }
 
   pub read_does : (name : Text) → Does dialect (Read name ∷ []) (λ d. read name)
   read_does name = record {
-    from = λ code at stack d s has. final dialect code (Read name) has.0 (λ next. on_read_is dialect next name (text_at (at + 1) stack d) s);
-    adds = adds_one (Read name) (λ h l d p. tt) (λ h l d p. ap (λ n. (Ahead 0, shape n l d p) ∷ []) (omega arith));
+    from = λ code at stack d s has. final dialect code (Read name) has.0 (λ next. on_read_is dialect next stack.loops name (text_at (at + 1) stack d) s);
+    adds = adds_one (Read name) (λ h l d p o. tt) (λ h l d p o. ap (λ n. (Ahead 0, shape n l d p o) ∷ []) (omega arith));
   }
 
   pub element_does : (name : Text) (index : Parts) (c : List Instruction) → Does dialect c (λ d. index_text d index) → Does dialect (c ++ ReadElement name ∷ []) (λ d. index_text d index >>= λ i. read (spelled_element name i))
@@ -76,8 +77,8 @@ module _ (dialect : Dialect) where
         let back = has_back code at c (ReadElement name ∷ []) has in
         then dialect code (index_text d index) (λ i. read (spelled_element name i)) (h.from code at stack d s (has_front code at c _ has))
         (λ i u. moved dialect code (omega (arith, length-append c (ReadElement name ∷ [])))
-        (final dialect code (ReadElement name) back.0 (λ next. on_read_is dialect next (spelled_element name i) (text_at (at + length c + 1) stack d) u)));
-    adds = λ x l d p. fits_joined c (ReadElement name ∷ []) (shape x l d p) (shape (x + 1) l d p) (shape (x + 1) l d p) (h.adds x l d p) (fits_one (ReadElement name) (shape (x + 1) l d p) (shape (x + 1) l d p) _ (omega arith) refl (ap (λ n. shape n l d p) (omega arith)));
+        (final dialect code (ReadElement name) back.0 (λ next. on_read_is dialect next stack.loops (spelled_element name i) (text_at (at + length c + 1) stack d) u)));
+    adds = λ x l d p o. fits_joined c (ReadElement name ∷ []) (shape x l d p o) (shape (x + 1) l d p o) (shape (x + 1) l d p o) (h.adds x l d p o) (fits_one (ReadElement name) (shape (x + 1) l d p o) (shape (x + 1) l d p o) _ (omega arith) refl (ap (λ n. shape n l d p o) (omega arith)));
   }
 
   pub index_does : (ps : List Part) (c : List Instruction) → Does dialect c (λ d. pieces_text d ps) → Does dialect c (λ d. index_text d (parts_of ps))
@@ -89,7 +90,7 @@ module _ (dialect : Dialect) where
   deeper c = Enter ∷ (c ++ Leave ∷ [])
 
   abbrev Deeper : Text → List Instruction → List Instruction → ℕ → Stack → ℕ → State → Type 0
-  Deeper t c code at stack d s = LandsValue dialect code (spot at stack d) s (text_at (at + length (deeper c)) stack d) (exec (Run dialect) (bracket_text d t) s)
+  Deeper t c code at stack d s = LandsValue dialect code stack.loops (spot at stack d) s (text_at (at + length (deeper c)) stack d) (exec (Run dialect) (bracket_text d t) s)
 
   -- what a bracket makes of its script's end
   abbrev left : Got Completion → Got (Value Text)
@@ -99,22 +100,22 @@ module _ (dialect : Dialect) where
   bracket_left d t s = refl
 
   module _ (code : List Instruction) (at at1 d : ℕ) (stack : Stack) (h : slice_get code at ≡ Some Leave) (e : at1 ≡ at + 1) where
-    stopped : {p : Spot} {s : State} (c : Completion) (u : State) → (code_now c ≡ ending.Ok → ⊥) → Lands dialect code p s (result_at at stack (suc d)) (Gives c u) → LandsValue dialect code p s (text_at at1 stack d) (Gives (Fails c) u)
-    stopped c u n l = record { by = λ k. let a = l.by k in (a.0, a.1, a.2 ∙ landed_stops (exec_code dialect code k) (result_at at stack (suc d)) (code_now c) c u n) }
+    stopped : {p : Spot} {s : State} (c : Completion) (u : State) → (code_now c ≡ ending.Ok → ⊥) → Lands dialect code stack.loops p s (result_at at stack (suc d)) (Gives c u) → LandsValue dialect code stack.loops p s (text_at at1 stack d) (Gives (Fails c) u)
+    stopped c u n l = record { by = λ k. let a = l.by k in (a.0, a.1, a.2 ∙ landed_stops (exec_code dialect code k) stack.loops (result_at at stack (suc d)) (code_now c) c u n) }
 
-    resulted : {p : Spot} {s : State} (c : Completion) (u : State) → code_now c ≡ ending.Ok → Lands dialect code p s (result_at at stack (suc d)) (Gives c u) → LandsValue dialect code p s (text_at at1 stack d) (Gives (Has c.result) u)
+    resulted : {p : Spot} {s : State} (c : Completion) (u : State) → code_now c ≡ ending.Ok → Lands dialect code stack.loops p s (result_at at stack (suc d)) (Gives c u) → LandsValue dialect code stack.loops p s (text_at at1 stack d) (Gives (Has c.result) u)
     resulted c u f l = record {
       by = λ k.
           let a = l.by (suc k) in (
             a.0,
             omega (arith, a.1),
-            a.2 ∙ ap (λ m. landed_by (exec_code dialect code (suc k)) (result_at at stack (suc d)) m c u) f
+            a.2 ∙ ap (λ m. landed_by (exec_code dialect code (suc k)) stack.loops (result_at at stack (suc d)) m c u) f
                 ∙ ap (λ i. act dialect i (exec_code dialect code k) (spot at (with_result c stack) (suc d)) u) h
                 ∙ ap (λ n. exec_code dialect code k (spot n (with_text c.result stack) d) u) (sym e),
           );
     }
 
-    by_code : {p : Spot} {s : State} (c : Completion) (u : State) (k : Code) → code_now c ≡ k → Lands dialect code p s (result_at at stack (suc d)) (Gives c u) → LandsValue dialect code p s (text_at at1 stack d) (exec (Run dialect) (result_by k c) u)
+    by_code : {p : Spot} {s : State} (c : Completion) (u : State) (k : Code) → code_now c ≡ k → Lands dialect code stack.loops p s (result_at at stack (suc d)) (Gives c u) → LandsValue dialect code stack.loops p s (text_at at1 stack d) (exec (Run dialect) (result_by k c) u)
     by_code c u ending.Ok f l = resulted c u f l
     by_code c u ending.Error f l = stopped c u (λ q. cc) l
     by_code c u ending.Return f l = stopped c u (λ q. cc) l
@@ -122,7 +123,7 @@ module _ (dialect : Dialect) where
     by_code c u ending.Continue f l = stopped c u (λ q. cc) l
     by_code c u (ending.Other z) f l = stopped c u (λ q. cc) l
 
-    leave : {p : Spot} {s : State} (g : Got Completion) → Lands dialect code p s (result_at at stack (suc d)) g → LandsValue dialect code p s (text_at at1 stack d) (left g)
+    leave : {p : Spot} {s : State} (g : Got Completion) → Lands dialect code stack.loops p s (result_at at stack (suc d)) g → LandsValue dialect code stack.loops p s (text_at at1 stack d) (left g)
     leave (Gives c u) l = by_code c u (code_now c) refl l
     leave (Broke u) l = record { by = l.by }
     leave (Exits m u) l = record { by = l.by }
@@ -131,24 +132,24 @@ module _ (dialect : Dialect) where
   pub bracket_does : (t : Text) (c : List Instruction) → Follows dialect c t → Does dialect (deeper c) (λ d. bracket_text d t)
   bracket_does t c f = record { from = λ code at stack d s has. ⊎_elim (deep code at stack d s has) (shallow code at stack d s has) (cases_lt most_depth (suc d)); adds = fits }
     where
-      fits : (h l d p : ℕ) → Fits (deeper c) (shape h l d p) (shape (h + 1) l d p)
-      fits h l d p =
-          fits_joined (Enter ∷ []) (c ++ Leave ∷ []) (shape h l d p) (shape h l (d + 1) p) (shape (h + 1) l d p)
-          (fits_one Enter (shape h l d p) (shape h l (d + 1) p) _ tt refl refl)
-          (fits_joined c (Leave ∷ []) (shape h l (d + 1) p) (shape h l (d + 1) p) (shape (h + 1) l d p) (f.keeps h l (d + 1) p)
-          (fits_one Leave (shape h l (d + 1) p) (shape (h + 1) l d p) _ (omega arith) refl (ap (λ n. shape (h + 1) l n p) (omega arith))))
+      fits : (h l d p o : ℕ) → Fits (deeper c) (shape h l d p o) (shape (h + 1) l d p o)
+      fits h l d p o =
+          fits_joined (Enter ∷ []) (c ++ Leave ∷ []) (shape h l d p o) (shape h l (d + 1) p o) (shape (h + 1) l d p o)
+          (fits_one Enter (shape h l d p o) (shape h l (d + 1) p o) _ tt refl refl)
+          (fits_joined c (Leave ∷ []) (shape h l (d + 1) p o) (shape h l (d + 1) p o) (shape (h + 1) l d p o) (f.keeps h l (d + 1) p o)
+          (fits_one Leave (shape h l (d + 1) p o) (shape (h + 1) l d p o) _ (omega arith) refl (ap (λ n. shape (h + 1) l n p o) (omega arith))))
 
       deep : (code : List Instruction) (at : ℕ) (stack : Stack) (d : ℕ) (s : State) → HasAt code at (deeper c) → most_depth < suc d → Deeper t c code at stack d s
       deep code at stack d s has lt =
           let e = script_deep dialect (d + 1) nothing t s (omega arith) in
-          final dialect code Enter has.0 (λ next. ap (λ b. follow dialect next (cond b (Ends (Gives too_deep s)) (To (spot (at + 1) (with_result nothing stack) (suc d)) s))) (lt-ltb most_depth (suc d) lt)
-          ∙ ap (λ g. value_landed next (text_at (at + length (deeper c)) stack d) g) (sym (ap left e)))
+          final dialect code Enter has.0 (λ next. ap (λ b. follow dialect next stack.loops (cond b (M.Fails too_deep s) (To (spot (at + 1) (with_result nothing stack) (suc d)) s))) (lt-ltb most_depth (suc d) lt)
+          ∙ ap (λ g. value_landed next stack.loops (text_at (at + length (deeper c)) stack d) g) (sym (ap left e)))
 
       shallow : (code : List Instruction) (at : ℕ) (stack : Stack) (d : ℕ) (s : State) → HasAt code at (deeper c) → suc d ≤ most_depth → Deeper t c code at stack d s
       shallow code at stack d s has le =
           let back = has_back code (at + 1) c (Leave ∷ []) has.1 in
           let n : suc d ≡ d + 1 = omega arith in
-          one dialect code Enter has.0 (ap (λ b. cond b (Ends (Gives too_deep s)) (To (spot (at + 1) (with_result nothing stack) (suc d)) s)) (le-ltb most_depth (suc d) le))
+          one dialect code Enter has.0 (ap (λ b. cond b (M.Fails too_deep s) (To (spot (at + 1) (with_result nothing stack) (suc d)) s)) (le-ltb most_depth (suc d) le))
           (same dialect code (ap (λ m. left (Run dialect (Script m nothing t) s)) n)
           (leave code (at + 1 + length c) (at + length (deeper c)) d stack back.0 (omega (arith, length-append c (Leave ∷ []))) (Run dialect (Script (suc d) nothing t) s)
           (f.from code (at + 1) nothing stack (suc d) s refl le (has_front code (at + 1) c (Leave ∷ []) has.1))))
@@ -158,9 +159,9 @@ module _ (dialect : Dialect) where
   pub joins_end : (n : ℕ) → Joins dialect n (Join n ∷ []) []
   joins_end n = record {
     from = λ code at ts stack d s e has.
-        one dialect code (Join n) has.0 (ap (λ x. on_taken x (λ us below. To (spot (at + 1) (stack_of (concat us ∷ below) stack.lists stack.results) d) s)) (taken_all n ts stack.texts e))
+        one dialect code (Join n) has.0 (ap (λ x. on_taken x (λ us below. To (spot (at + 1) (stack_of (concat us ∷ below) stack.lists stack.results stack.loops) d) s)) (taken_all n ts stack.texts e))
         (same dialect code (ap (λ t. Gives (Has t) s) (sym (append-nil (concat ts)))) (here dialect code refl));
-    adds = λ h k l d p e. fits_one (Join n) (shape (h + k) l d p) (shape (h + 1) l d p) _ (omega arith) refl (ap (λ m. shape m l d p) (omega arith));
+    adds = λ h k l d p o e. fits_one (Join n) (shape (h + k) l d p o) (shape (h + 1) l d p o) _ (omega arith) refl (ap (λ m. shape m l d p o) (omega arith));
   }
 
   -- the next piece, and what is left
@@ -175,10 +176,10 @@ module _ (dialect : Dialect) where
         (then dialect code (piece_text d p) (λ t. behind (concat ts ++ t) (pieces_text d ps)) (f.from code at (stacked ts stack) d s (has_front code at c more has))
         (λ t u. moved dialect code (omega (arith, length-append c more))
         (same dialect code (ap (λ x. exec (Run dialect) (behind x (pieces_text d ps)) u) (concat_more ts t))
-        (subst (λ st. LandsValue dialect code (spot (at + length c) st d) u (text_at (at + length c + length more) stack d) (exec (Run dialect) (pieces_value d (ts ++ t ∷ []) ps) u)) (stacked_more ts t stack)
+        (subst (λ st. LandsValue dialect code stack.loops (spot (at + length c) st d) u (text_at (at + length c + length more) stack d) (exec (Run dialect) (pieces_value d (ts ++ t ∷ []) ps) u)) (stacked_more ts t stack)
         (g.from code (at + length c) (ts ++ t ∷ []) stack d u (omega (arith, e, length-append ts (t ∷ []))) back)))));
-    adds = λ h k l d q e. fits_joined c more (shape (h + k) l d q) (shape (h + k + 1) l d q) (shape (h + 1) l d q) (f.adds (h + k) l d q) (fits_same (ap (λ m. shape m l d q) (omega arith)) refl (g.adds h (k + 1) l d q (omega arith)));
+    adds = λ h k l d q o e. fits_joined c more (shape (h + k) l d q o) (shape (h + k + 1) l d q o) (shape (h + 1) l d q o) (f.adds (h + k) l d q o) (fits_same (ap (λ m. shape m l d q o) (omega arith)) refl (g.adds h (k + 1) l d q o (omega arith)));
   }
 
   pub word_does : (ps : List Part) (c : List Instruction) → Joins dialect (length ps) c ps → Does dialect c (λ d. pieces_text d ps)
-  word_does ps c f = record { from = λ code at stack d s has. same dialect code (sym (pieces_start dialect d ps s)) (f.from code at [] stack d s (omega arith) has); adds = λ h l d p. fits_same (ap (λ m. shape m l d p) (omega arith)) refl (f.adds h 0 l d p (omega arith)) }
+  word_does ps c f = record { from = λ code at stack d s has. same dialect code (sym (pieces_start dialect d ps s)) (f.from code at [] stack d s (omega arith) has); adds = λ h l d p o. fits_same (ap (λ m. shape m l d p o) (omega arith)) refl (f.adds h 0 l d p o (omega arith)) }

@@ -29,20 +29,20 @@ module _ (dialect : Dialect) (code : List Instruction) where
   Comes d s o = (k : ℕ) × (exec_code dialect code k (first_spot d) s ≡ Ended o)
 
   -- what lands at the end of the code ends it
-  comes : (d : ℕ) (s : State) (g : Got Completion) → Lands dialect code (first_spot d) s (result_at (0 + length code) (stack_of [] [] []) d) g → Comes d s g
+  comes : (d : ℕ) (s : State) (g : Got Completion) → Lands dialect code [] (first_spot d) s (result_at (0 + length code) (stack_of [] [] [] []) d) g → Comes d s g
   comes d s (Gives c u) l = by_code (code_now c) refl
     where
       end : slice_get code (0 + length code) ≡ None
       end = slice_get_past code (0 + length code) (omega arith)
 
       stop : (code_now c ≡ ending.Ok → ⊥) → Comes d s (Gives c u)
-      stop h = let a = l.by 0 in (a.0, a.2 ∙ landed_stops (exec_code dialect code 0) (result_at (0 + length code) (stack_of [] [] []) d) (code_now c) c u h)
+      stop h = let a = l.by 0 in (a.0, a.2 ∙ landed_stops (exec_code dialect code 0) [] (result_at (0 + length code) (stack_of [] [] [] []) d) (code_now c) c u h)
 
       by_code : (k : Code) → code_now c ≡ k → Comes d s (Gives c u)
       by_code ending.Ok e =
           let a = l.by 1 in (
             a.0,
-            a.2 ∙ ap (λ m. landed_by (exec_code dialect code 1) (result_at (0 + length code) (stack_of [] [] []) d) m c u) e ∙ ap (λ i. act dialect i (exec_code dialect code 0) (spot (0 + length code) (stack_of [] [] (c ∷ [])) d) u) end,
+            a.2 ∙ ap (λ m. landed_by (exec_code dialect code 1) [] (result_at (0 + length code) (stack_of [] [] [] []) d) m c u) e ∙ ap (λ i. act dialect i (exec_code dialect code 0) (spot (0 + length code) (stack_of [] [] (c ∷ []) []) d) u) end,
           )
       by_code ending.Error e = stop (λ q. cc)
       by_code ending.Return e = stop (λ q. cc)
@@ -54,7 +54,7 @@ module _ (dialect : Dialect) (code : List Instruction) where
   comes d s (Untold u) l = let a = l.by 0 in (a.0, a.2)
 
   -- a code that fits, and lands at its end as is meant, from every state
-  pub ends_as : (meant : ℕ → State → Got Completion) → Fits code bare bare → ((d : ℕ) (s : State) → d ≤ most_depth → Lands dialect code (first_spot d) s (result_at (0 + length code) (stack_of [] [] []) d) (meant d s)) → EndsAs dialect code meant
+  pub ends_as : (meant : ℕ → State → Got Completion) → Fits code bare bare → ((d : ℕ) (s : State) → d ≤ most_depth → Lands dialect code [] (first_spot d) s (result_at (0 + length code) (stack_of [] [] [] []) d) (meant d s)) → EndsAs dialect code meant
   ends_as meant fits lands = record {
     ends = λ d s o le. (
       (λ e. let a = comes d s (meant d s) (lands d s le) in out_same _ _ (sym (one_end dialect code e.0 a.0 (first_spot d) s (Ended o) _ (λ q. ended_un o q) e.1 a.1))),
@@ -78,11 +78,11 @@ module _ (dialect : Dialect) (code : List Instruction) where
 
   -- a code that follows a script means it
   pub means : (t : Text) → Follows dialect code t → Means dialect code t
-  means t f = ends_as (λ d s. Run dialect (Script d nothing t) s) (f.keeps 0 0 0 0) (λ d s le. f.from code 0 nothing (stack_of [] [] []) d s refl le (has_all code []))
+  means t f = ends_as (λ d s. Run dialect (Script d nothing t) s) (f.keeps 0 0 0 0 0) (λ d s le. f.from code 0 nothing (stack_of [] [] [] []) d s refl le (has_all code []))
 
 -- what was emitted for a script, from nothing, is valid, and means it in every dialect
 pub emitted_valid : (c0 c1 : List Instruction) (t : Text) → c0 ≡ [] → Grown (ScriptCode t) c0 c1 → Valid c1
-emitted_valid c0 c1 t e0 g = valid c1 (subst (λ c. Fits c bare bare) (sym (g.1 ∙ ap (λ x. x ++ g.0) e0)) ((g.2 Tcl86).keeps 0 0 0 0))
+emitted_valid c0 c1 t e0 g = valid c1 (subst (λ c. Fits c bare bare) (sym (g.1 ∙ ap (λ x. x ++ g.0) e0)) ((g.2 Tcl86).keeps 0 0 0 0 0))
 
 pub emitted_means : (c0 c1 : List Instruction) (t : Text) → c0 ≡ [] → Grown (ScriptCode t) c0 c1 → (dialect : Dialect) → Means dialect c1 t
 emitted_means c0 c1 t e0 g dialect = subst (λ c. Means dialect c t) (sym (g.1 ∙ ap (λ x. x ++ g.0) e0)) (means dialect g.0 t (g.2 dialect))

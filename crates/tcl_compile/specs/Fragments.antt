@@ -25,11 +25,11 @@ onto [] stack = stack
 onto (t ∷ ts) stack = onto ts (t ∷ stack)
 
 abbrev pub stacked : Texts → Stack → Stack
-stacked ts stack = stack_of (onto ts stack.texts) stack.lists stack.results
+stacked ts stack = stack_of (onto ts stack.texts) stack.lists stack.results stack.loops
 
 -- a list of words is there
 abbrev pub gathered : Texts → Stack → Stack
-gathered ts stack = stack_of stack.texts (ts ∷ stack.lists) stack.results
+gathered ts stack = stack_of stack.texts (ts ∷ stack.lists) stack.results stack.loops
 
 -- ---- what is left
 
@@ -56,22 +56,22 @@ module _ (dialect : Dialect) where
 
   -- these instructions substitute the pieces that are left of n, and join all
   pub record Joins (n : ℕ) (c : List Instruction) (ps : List Part) : Type 0 where
-    pub from : (code : List Instruction) (at : ℕ) (ts : Texts) (stack : Stack) (d : ℕ) (s : State) → length ts + length ps ≡ n → HasAt code at c → LandsValue dialect code (spot at (stacked ts stack) d) s (text_at (at + length c) stack d) (exec (Run dialect) (pieces_value d ts ps) s)
-    pub adds : (h k l d p : ℕ) → k + length ps ≡ n → Fits c (shape (h + k) l d p) (shape (h + 1) l d p)
+    pub from : (code : List Instruction) (at : ℕ) (ts : Texts) (stack : Stack) (d : ℕ) (s : State) → length ts + length ps ≡ n → HasAt code at c → LandsValue dialect code stack.loops (spot at (stacked ts stack) d) s (text_at (at + length c) stack d) (exec (Run dialect) (pieces_value d ts ps) s)
+    pub adds : (h k l d p o : ℕ) → k + length ps ≡ n → Fits c (shape (h + k) l d p o) (shape (h + 1) l d p o)
 
   -- these substitute the words that are left of n, and run the command
   pub record Calls (n : ℕ) (c : List Instruction) (ws : List Shape) : Type 0 where
-    pub from : (code : List Instruction) (at : ℕ) (ts : Texts) (r : Completion) (stack : Stack) (d : ℕ) (s : State) → length ts + length ws ≡ n → HasAt code at c → Lands dialect code (spot at (stacked ts (with_result r stack)) d) s (result_at (at + length c) stack d) (exec (Run dialect) (words_value d ts ws) s)
-    pub pays : (h k l d p : ℕ) → k + length ws ≡ n → Fits c (shape (h + k) l d (p + 1)) (shape h l d p)
+    pub from : (code : List Instruction) (at : ℕ) (ts : Texts) (r : Completion) (stack : Stack) (d : ℕ) (s : State) → length ts + length ws ≡ n → HasAt code at c → Lands dialect code stack.loops (spot at (stacked ts (with_result r stack)) d) s (result_at (at + length c) stack d) (exec (Run dialect) (words_value d ts ws) s)
+    pub pays : (h k l d p o : ℕ) → k + length ws ≡ n → Fits c (shape (h + k) l d (p + 1) o) (shape h l d p o)
 
   -- these substitute the words that are left, add them to the newest list of words, and run the command
   pub record Gathers (c : List Instruction) (ws : List Shape) : Type 0 where
-    pub from : (code : List Instruction) (at : ℕ) (ts : Texts) (r : Completion) (stack : Stack) (d : ℕ) (s : State) → HasAt code at c → Lands dialect code (spot at (gathered ts (with_result r stack)) d) s (result_at (at + length c) stack d) (exec (Run dialect) (words_value d ts ws) s)
-    pub pays : (h l d p : ℕ) → Fits c (shape h (l + 1) d (p + 1)) (shape h l d p)
+    pub from : (code : List Instruction) (at : ℕ) (ts : Texts) (r : Completion) (stack : Stack) (d : ℕ) (s : State) → HasAt code at c → Lands dialect code stack.loops (spot at (gathered ts (with_result r stack)) d) s (result_at (at + length c) stack d) (exec (Run dialect) (words_value d ts ws) s)
+    pub pays : (h l d p o : ℕ) → Fits c (shape h (l + 1) d (p + 1) o) (shape h l d p o)
 
   -- these do the commands of a text, in place of the script's last completion, which is ok
   pub record Follows (c : List Instruction) (t : Text) : Type 0 where
-    pub from : (code : List Instruction) (at : ℕ) (last : Completion) (stack : Stack) (d : ℕ) (s : State) → code_now last ≡ ending.Ok → d ≤ most_depth → HasAt code at c → Lands dialect code (spot at (with_result last stack) d) s (result_at (at + length c) stack d) (Run dialect (Script d last t) s)
+    pub from : (code : List Instruction) (at : ℕ) (last : Completion) (stack : Stack) (d : ℕ) (s : State) → code_now last ≡ ending.Ok → d ≤ most_depth → HasAt code at c → Lands dialect code stack.loops (spot at (with_result last stack) d) s (result_at (at + length c) stack d) (Run dialect (Script d last t) s)
     pub keeps : Keeps c
 
 -- ---- code that grows

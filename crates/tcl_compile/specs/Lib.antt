@@ -1,4 +1,6 @@
+pub mod Changes
 pub mod Emitted
 pub mod Fragments
+pub mod Inlining
 pub mod Trees
 pub mod Within

@@ -38,13 +38,13 @@ args_value dialect f d ts es = args_text dialect d es >>= λ more. judged (funct
 module _ (dialect : Dialect) where
   -- these instructions put what a program makes of the text on top in its place
   pub record Changes (c : List Instruction) (g : ℕ → Text → Prog Task (Value Text)) : Type 0 where
-    pub from : (code : List Instruction) (at : ℕ) (t : Text) (stack : Stack) (d : ℕ) (s : State) → HasAt code at c → LandsValue dialect code (spot at (with_text t stack) d) s (text_at (at + length c) stack d) (exec (Run dialect) (g d t) s)
-    pub fits : (h l d p : ℕ) → Fits c (shape (h + 1) l d p) (shape (h + 1) l d p)
+    pub from : (code : List Instruction) (at : ℕ) (t : Text) (stack : Stack) (d : ℕ) (s : State) → HasAt code at c → LandsValue dialect code stack.loops (spot at (with_text t stack) d) s (text_at (at + length c) stack d) (exec (Run dialect) (g d t) s)
+    pub fits : (h l d p o : ℕ) → Fits c (shape (h + 1) l d p o) (shape (h + 1) l d p o)
 
   -- these evaluate the arguments that are left of n, and apply the function
   pub record Applies (f : Function) (n : ℕ) (c : List Instruction) (es : Args) : Type 0 where
-    pub from : (code : List Instruction) (at : ℕ) (ts : Texts) (stack : Stack) (d : ℕ) (s : State) → length ts + argument_count es ≡ n → HasAt code at c → LandsValue dialect code (spot at (stacked ts stack) d) s (text_at (at + length c) stack d) (exec (Run dialect) (args_value dialect f d ts es) s)
-    pub adds : (h k l d p : ℕ) → k + argument_count es ≡ n → Fits c (shape (h + k) l d p) (shape (h + 1) l d p)
+    pub from : (code : List Instruction) (at : ℕ) (ts : Texts) (stack : Stack) (d : ℕ) (s : State) → length ts + argument_count es ≡ n → HasAt code at c → LandsValue dialect code stack.loops (spot at (stacked ts stack) d) s (text_at (at + length c) stack d) (exec (Run dialect) (args_value dialect f d ts es) s)
+    pub adds : (h k l d p o : ℕ) → k + argument_count es ≡ n → Fits c (shape (h + k) l d p o) (shape (h + 1) l d p o)
 
 -- the code of a tree
 abbrev pub TreeCode : Expr → List Instruction → Type 0

@@ -4,6 +4,7 @@
 //! - [`compile_expr`]: the code of an expression, which ends exactly as its value does.
 #![tactic(auto)]
 
+mod change;
 mod compile;
 mod script;
 mod tree;

@@ -6,10 +6,12 @@ ghost use Rattle.tcl_words.specs.First.{IsParsed, first_command, most_levels};
 ghost use Rattle.tcl_words.specs.Parts.{shape_of, part_of, parts_of};
 ghost use Rattle.tcl_meaning.specs.Nesting.{PartNests, PartsNest, WordsNest};
 ghost use Rattle.tcl_code.specs.Instructions.{Call, Join, Push};
+ghost use Rattle.tcl_compile.specs.Changes.{IsChange};
 ghost use Rattle.tcl_compile.specs.Emitted.{PieceCode, WordCode, BracketCode, CommandCode, ScriptCode};
 ghost use Rattle.tcl_compile.specs.Fragments.{Grown, Plain, adding};
 ghost use Rattle.tcl_compile.specs.Within.{PartWithin, PartsWithin, WordsWithin};
 
+use crate::change::{Change, change_of, emit_change};
 use std::alloc::{AllocError, Global};
 use tcl_chars::push;
 use tcl_code::{CodeBuilder, Instr};
@@ -73,10 +75,32 @@ fn emit_command(
     ensures { OnOk result (Grown (CommandCode (map shape_of words.now)) code.old code.new) }
 {
     if any_expands(words) {
-        emit_gathered(code, alloc, whole, words)
-    } else {
-        emit_plain(code, alloc, whole, words)
+        return emit_gathered(code, alloc, whole, words);
     }
+    match change_of(words) {
+        Some((change, name)) => emit_changed(code, alloc, whole, change, name, words),
+        None => emit_plain(code, alloc, whole, words),
+    }
+}
+
+// A command that changes a variable by the text of its last word.
+#[cycle(emitting)]
+fn emit_changed(
+    code: &mut CodeBuilder,
+    alloc: Global,
+    whole: &str,
+    change: Change,
+    name: &str,
+    words: &[Word<'_>],
+) -> Result<(), AllocError>
+    requires change { IsChange change (chars name.now) (map shape_of words.now) }
+    requires some { 0 < length (chars whole.now) }
+    requires nests { WordsNest most_levels (map shape_of words.now) }
+    requires within { WordsWithin (length (chars whole.now) - 1) (map shape_of words.now) }
+    ensures { OnOk result (Grown (CommandCode (map shape_of words.now)) code.old code.new) }
+{
+    emit_word(code, alloc, whole, &words[2])?;
+    emit_change(code, change, name)
 }
 
 // So many pieces are joined.

@@ -9,7 +9,7 @@ use Rattle.tcl_meaning.proofs.Nests.{first_nests, parts_nest_at, words_nest_at}
 use Rattle.tcl_compile.specs.Emitted.{GatheredLeft}
 use Rattle.tcl_compile.specs.Within.{PartWithin, PartsWithin, WordsWithin}
 use Rattle.tcl_compile.proofs.Within.{first_shorter, parts_within_at, words_within_at}
-use Rattle.tcl_compile.proofs.Emits.{grown_text, grown_escape, grown_var, grown_elem, grown_bracket, grown_deeper, grown_word, grown_command, grown_gathered, piece_leads, word_leads, gather_leads, leads_start, plain_at, script_leads, script_ends, script_fails}
+use Rattle.tcl_compile.proofs.Emits.{grown_text, grown_escape, grown_var, grown_elem, grown_bracket, grown_deeper, grown_word, grown_command, grown_gathered, piece_leads, word_leads, gather_leads, leads_start, plain_at, script_leads, script_ends, script_fails, grown_changed, change_long}
 use Rattle.tcl_compile.proofs.Parsing.{parsed_end, parsed_bad, parsed_command, map_at, part-text, part-escape, part-var, part-elem, part-bracket}
 use Rattle.tcl_compile.proofs.script.+emitting.Goals as goal
 
@@ -178,3 +178,10 @@ emit_script-commands-preserved t c =
 
 pub emit_word-returns : goal.emit_word-returns
 emit_word-returns t c = rw c.as_slice.ensures.value at c.emit_pieces.ensures
+
+pub emit_changed-returns : goal.emit_changed-returns
+emit_changed-returns t c =
+    let ws = map shape_of c.args.words.now in
+    let is = c.requires.1.1.0 in
+    let at = map_at shape_of c.args.words.now 2 c.index-words-2.result c.index-words-2.is in
+    on_ok_weaker c.emit_change.result (λ h. grown_changed c.args.change (chars c.args.name.now) ws (shape_of c.index-words-2.result) _ _ _ is at (change_long c.args.change (chars c.args.name.now) ws is) c.in_ok-emit_word.ensures h) c.emit_change.ensures

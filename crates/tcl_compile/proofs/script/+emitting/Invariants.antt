@@ -29,6 +29,9 @@ decreases-emit_word l = 1000 * length (chars l.whole.now) + (2 * most_levels + 3
 abbrev pub decreases-emit_plain : goal.decreases-emit_plain
 decreases-emit_plain l = 1000 * length (chars l.whole.now) + (2 * most_levels + 4)
 
+abbrev pub decreases-emit_changed : goal.decreases-emit_changed
+decreases-emit_changed l = 1000 * length (chars l.whole.now) + (2 * most_levels + 4)
+
 abbrev pub decreases-emit_gathered : goal.decreases-emit_gathered
 decreases-emit_gathered l = 1000 * length (chars l.whole.now) + (2 * most_levels + 4)
 

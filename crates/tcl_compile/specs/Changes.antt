@@ -1,0 +1,25 @@
+-- The commands that change a variable by a word's text.
+use Rattle.std.specs.Prelude.{◌≡◌, false, List, [], ◌∷◌}
+use Rattle.tcl_words.specs.Parts.{Shape}
+use Rattle.tcl_pages.specs.Texts.{Text}
+use Rattle.tcl_code.specs.Guards.{name_of}
+use Rattle.tcl_code.specs.Instructions.{Instruction, Write, Bump}
+use Rattle.tcl_code.specs.declared.inlined.Inlined.{Inlined}
+use Rattle.tcl_code.specs.declared.inlined.Inlined.TheVariants as inlined
+use Rattle.tcl_compile.specs.Inlining.{Says}
+use Rattle.tcl_compile.specs.declared.change.Change.{Change}
+use Rattle.tcl_compile.specs.declared.change.Change.TheVariants as change
+
+abbrev pub inlined_of : Change → Inlined
+inlined_of change.Set = inlined.Set
+inlined_of change.Incr = inlined.Incr
+
+-- by the text on top
+abbrev pub changing : Change → Text → Instruction
+changing change.Set name = Write name
+changing change.Incr name = Bump name
+
+-- the words are the command's name, the variable's, and one more
+abbrev pub IsChange : Change → Text → List Shape → Type 0
+IsChange k name (w0 ∷ w1 ∷ w ∷ []) = Says w0 (name_of (inlined_of k)) × Says w1 name × (w.expands ≡ false)
+IsChange k name _ = ⊥

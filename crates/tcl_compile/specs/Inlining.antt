@@ -1,0 +1,31 @@
+-- Words whose texts are literal.
+use Rattle.std.specs.Prelude.{◌≡◌, ℕ, ◌+◌, ◌≤◌, false, List, [], ◌∷◌, length}
+use Rattle.tcl_chars.specs.declared.numbers.Dialect.{Dialect}
+use Rattle.tcl_words.specs.Parts.{Shape}
+use Rattle.tcl_pages.specs.Texts.{Text}
+use Rattle.tcl_meaning.specs.Completions.{Completion}
+use Rattle.tcl_meaning.specs.Effects.{Prog, Gives, exec}
+use Rattle.tcl_meaning.specs.Script.{Run}
+use Rattle.tcl_meaning.specs.State.{State}
+use Rattle.tcl_meaning.specs.Substitution.{pieces_text}
+use Rattle.tcl_meaning.specs.Tasks.{Task}
+use Rattle.tcl_meaning.specs.Value.{Has}
+use Rattle.tcl_code.specs.Instructions.{Instruction}
+use Rattle.tcl_code.specs.Machine.{Stack, with_result, result_at, spot}
+use Rattle.tcl_code.specs.Parts.{Keeps, HasAt, Lands}
+
+-- a word that is one, and has the same text in every state
+pub record Says (w : Shape) (t : Text) : Type 0 where
+  pub one : w.expands ≡ false
+  pub text : (dialect : Dialect) (d : ℕ) (s : State) → exec (Run dialect) (pieces_text d w.pieces) s ≡ Gives (Has t) s
+
+abbrev pub AllSay : List Shape → List Text → Type 0
+AllSay [] [] = Unit {0}
+AllSay (w ∷ ws) (t ∷ ts) = Says w t × AllSay ws ts
+AllSay _ _ = ⊥
+
+-- Behind a guard, these instructions do what a page does, in place of the script's last completion.
+module _ (dialect : Dialect) where
+  pub record Makes (c : List Instruction) (f : ℕ → Prog Task Completion) : Type 0 where
+    pub from : (code : List Instruction) (at : ℕ) (last : Completion) (stack : Stack) (d : ℕ) (s : State) → HasAt code at c → Lands dialect code stack.loops (spot at (with_result last stack) d) s (result_at (at + length c) stack d) (exec (Run dialect) (f d) s)
+    pub keeps : Keeps c

@@ -1,0 +1,100 @@
+//! The commands that change a variable by a word's text, inlined.
+
+ghost use Rattle.std.specs.Prelude.{◌≡◌, ◌++◌, ◌∷◌, [], IfSome, OnOk, length, map};
+ghost use Rattle.std.specs.Str.{chars};
+ghost use Rattle.tcl_code.specs.Guards.{name_of};
+ghost use Rattle.tcl_code.specs.Instructions.{Call, Guard, Skip, Under};
+ghost use Rattle.tcl_words.specs.Parts.{shape_of};
+ghost use Rattle.tcl_compile.specs.Changes.{IsChange, changing, inlined_of};
+ghost use Rattle.tcl_compile.specs.Inlining.{Says};
+
+use std::alloc::AllocError;
+use tcl_code::{CodeBuilder, Inlined, Instr};
+use tcl_words::{Piece, Word};
+
+/// What changes a variable.
+#[derive(Clone, Copy)]
+pub(crate) enum Change {
+    Set,
+    Incr,
+}
+
+impl Change {
+    // The command.
+    fn page(self) -> Inlined
+        ensures { result ≡ inlined_of self }
+    {
+        match self {
+            Change::Set => Inlined::Set,
+            Change::Incr => Inlined::Incr,
+        }
+    }
+
+    // Its name.
+    fn name(self) -> &'static str
+        ensures { chars result.now ≡ name_of (inlined_of self) }
+    {
+        match self {
+            Change::Set => "set",
+            Change::Incr => "incr",
+        }
+    }
+}
+
+// The text of a word that is literal.
+fn literal<'a>(word: &Word<'a>) -> Option<&'a str>
+    ensures { IfSome result (λ t. Says (shape_of word.now) (chars t.now)) }
+{
+    if word.expands || word.pieces.len() != 1 {
+        return None;
+    }
+    match &word.pieces[0] {
+        Piece::Text(span) => Some(span.text),
+        _ => None,
+    }
+}
+
+// The change of a name.
+fn change_named(name: &str) -> Option<Change>
+    ensures { IfSome result (λ change. chars name.now ≡ name_of (inlined_of change)) }
+{
+    if name == "set" {
+        Some(Change::Set)
+    } else if name == "incr" {
+        Some(Change::Incr)
+    } else {
+        None
+    }
+}
+
+// The change that a command of three words makes, and the variable's name, where both are literal.
+pub(crate) fn change_of<'a>(words: &[Word<'a>]) -> Option<(Change, &'a str)>
+    ensures { IfSome result (λ x. IsChange x.0 (chars x.1.now) (map shape_of words.now)) }
+{
+    if words.len() != 3 || words[2].expands {
+        return None;
+    }
+    let head = literal(&words[0])?;
+    let name = literal(&words[1])?;
+    let change = change_named(head)?;
+    Some((change, name))
+}
+
+// The change by the text on top, and the general call beside it.
+pub(crate) fn emit_change(
+    code: &mut CodeBuilder,
+    change: Change,
+    name: &str,
+) -> Result<(), AllocError>
+    ensures { OnOk result (code.new ≡ code.old ++ Guard (inlined_of change) 2 ∷ changing change (chars name.now) ∷ Skip 3 ∷ Under (name_of (inlined_of change)) ∷ Under (chars name.now) ∷ Call 3 ∷ []) }
+{
+    code.emit(Instr::Guard(change.page(), 2))?;
+    match change {
+        Change::Set => code.write(name)?,
+        Change::Incr => code.bump(name)?,
+    }
+    code.emit(Instr::Skip(3))?;
+    code.under(change.name())?;
+    code.under(name)?;
+    code.emit(Instr::Call(3))
+}
