@@ -16,6 +16,16 @@ fn files(rt: HostRuntime) {
         (&["-budget", "9223372036854775808", "a"], None),
         (&["-budget", "", "a"], None),
         (&["-budget"], None),
+        (&["-slice", "5", "a"], Some(2)),
+        (&["-budget", "7", "-slice", "5", "a", "b"], Some(4)),
+        (&["-slice", "5", "-budget", "3", "a"], Some(2)),
+        (&["-slice", "5", "-slice", "3"], Some(2)),
+        (&["-slice", "9223372036854775807", "a"], Some(2)),
+        (&["-slice", "9223372036854775808", "a"], None),
+        (&["-slice", "0", "a"], None),
+        (&["-slice", "5"], None),
+        (&["-budget", "7", "-slice"], None),
+        (&["a", "-slice", "5"], Some(0)),
     ] {
         assert!(rt; file_word(words) == place, "{} words", words.len());
     }
@@ -53,7 +63,7 @@ fn scripts_run(rt: HostRuntime) {
     }
 }
 
-static USAGE: &str = "usage: tclint ?-budget N? ?file arg ...?\n";
+static USAGE: &str = "usage: tclint ?-budget N? ?-slice N? ?file arg ...?\n";
 
 #[test]
 fn bad_words_and_files(rt: HostRuntime) {
