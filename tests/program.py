@@ -8,7 +8,7 @@ import time
 
 import casefile
 
-USAGE = b"usage: tclint ?-budget N? ?file arg ...?\n"
+USAGE = b"usage: tclint ?-budget N? ?-slice N? ?file arg ...?\n"
 IO_FAULT = b"read or write failed\n"
 SECONDS = 60
 TOP = os.path.dirname(os.path.dirname(os.path.realpath(__file__)))
@@ -128,6 +128,21 @@ usage_check("budget-empty-alone", ["-budget", ""])
 usage_check("budget-one-too-many-alone", ["-budget", "9223372036854775808"])
 usage_check("budget-word", ["-budget", "x", "script.tcl"])
 usage_check("budget-empty", ["-budget", "", "script.tcl"])
+for given, budget in ("slice", []), ("slice-behind-budget", ["-budget", "5"]):
+    usage_check(f"{given}-alone", [*budget, "-slice"])
+    usage_check(f"{given}-file-forgotten", [*budget, "-slice", "5"])
+    usage_check(f"{given}-number-forgotten", [*budget, "-slice", "script.tcl"])
+    usage_check(f"{given}-number-forgotten-argument", [*budget, "-slice", "script.tcl", "x"])
+    usage_check(f"{given}-zero", [*budget, "-slice", "0", "script.tcl"])
+    usage_check(f"{given}-zeros", [*budget, "-slice", "000", "script.tcl"])
+    usage_check(f"{given}-empty", [*budget, "-slice", "", "script.tcl"])
+    usage_check(f"{given}-negative", [*budget, "-slice", "-1", "script.tcl"])
+    usage_check(f"{given}-signed", [*budget, "-slice", "+1", "script.tcl"])
+    usage_check(f"{given}-hexadecimal", [*budget, "-slice", "0x10", "script.tcl"])
+    usage_check(f"{given}-one-too-many", [*budget, "-slice", "9223372036854775808", "script.tcl"])
+    usage_check(f"{given}-before-file", [*budget, "-slice", "0", "nosuch.tcl"])
+usage_check("slice-behind-bad-budget", ["-budget", "x", "-slice", "5", "script.tcl"])
+usage_check("slice-between", ["-budget", "-slice", "5", "script.tcl"])
 usage_check("budget-negative", ["-budget", "-1", "script.tcl"])
 usage_check("budget-signed", ["-budget", "+1", "script.tcl"])
 usage_check("budget-space", ["-budget", " 1", "script.tcl"])
@@ -140,6 +155,24 @@ usage_check("budget-file-forgotten", ["-budget", "script.tcl"])
 usage_check("before-file", ["-budget", "x", "nosuch.tcl"])
 usage_check("word-not-utf8", [b"\xff"])
 usage_check("word-not-utf8-behind-file", ["script.tcl", b"\xff"])
+
+
+@check("usage/slice-twice")
+def _(tested, room):
+    write(room, "puts [list $argv0 $argv]\n", "-slice")
+    expect(tested.run(["-slice", "5", "-slice", "6"], room), 0, b"-slice 6\n")
+
+
+@check("usage/slice-before-budget")
+def _(tested, room):
+    write(room, "puts [list $argv0 $argv]\n", "-budget")
+    expect(tested.run(["-slice", "5", "-budget", "0", "f"], room), 0, b"-budget {0 f}\n")
+
+
+@check("usage/slice-behind-file")
+def _(tested, room):
+    write(room, "puts [list $argv0 $argv]\n")
+    expect(tested.run(["script.tcl", "-slice", "0"], room), 0, b"script.tcl {-slice 0}\n")
 
 
 def unreadable_check(name, path, message=None):
