@@ -10,7 +10,7 @@ ghost use Rattle.tcl_channels.specs.Works.{WorksIn};
 ghost use Rattle.tcl_chars.specs.Texts.{text_of};
 ghost use Rattle.tcl_meaning.specs.Beginnings.{OutputsBegin};
 ghost use Rattle.tcl_meaning.specs.Channels as spec;
-ghost use Rattle.tcl_vars.specs.Ends.{EndsDone};
+ghost use Rattle.tcl_steps.specs.Ends.{EndsDone};
 
 use crate::ends::{closed, halted};
 use crate::names::input_named;
@@ -21,9 +21,8 @@ use tcl_chan::device::{Input, Output};
 use tcl_chan::world::World;
 use tcl_chars::message;
 use tcl_frames::Frames;
-use tcl_steps::{Completion, Fault};
+use tcl_steps::{Completion, Fault, Stop, assign};
 use tcl_values::Value;
-use tcl_vars::{Stop, assign};
 
 // The variable that `gets` is told to set, where the channel of a name is an input.
 fn told(alloc: Global, channel: &str, name: Option<RcStr>) -> Result<Option<RcStr>, Stop>

@@ -3,6 +3,7 @@ pub mod Commands
 pub mod Emits
 pub mod Expressions
 pub mod Failing
+pub mod KeptLemmas
 pub mod Leaves
 pub mod Operators
 pub mod Parsing

@@ -1,4 +1,5 @@
 pub mod Emitted
 pub mod Fragments
+pub mod Kept
 pub mod Trees
 pub mod Within

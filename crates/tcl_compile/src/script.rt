@@ -79,7 +79,7 @@ fn emit_command(
     }
 }
 
-// So many pieces are joined.
+// Emits that `count` pieces are joined.
 fn emit_join(code: &mut CodeBuilder, count: usize) -> Result<(), AllocError>
     ensures { OnOk result (code.new ≡ code.old ++ Join count ∷ []) }
 {
@@ -87,7 +87,7 @@ fn emit_join(code: &mut CodeBuilder, count: usize) -> Result<(), AllocError>
     code.emit(Instr::Join(count))
 }
 
-// The command of so many words.
+// Emits the call of a command of `count` words.
 fn emit_call(code: &mut CodeBuilder, count: usize) -> Result<(), AllocError>
     ensures { OnOk result (code.new ≡ code.old ++ Call count ∷ []) }
 {

@@ -1,13 +1,14 @@
 -- What is owed, by the command that owes it.
-use Rattle.std.proofs.Common.{◌≡◌, List, Result, sym, subst}
+use Rattle.std.proofs.Common.{◌≡◌, List, Option, Result, sym, subst}
 use Rattle.std.specs.declared.alloc.AllocError.{AllocError}
 use Rattle.tcl_chars.specs.declared.numbers.Dialect.TheVariants as dialect
-use Rattle.tcl_control.specs.Asked.{IsAsked}
+use Rattle.tcl_steps.specs.Asked.{IsAsked}
 use Rattle.tcl_frames.specs.Standing.{Standing}
 use Rattle.tcl_meaning.specs.Asking.{Asks}
 use Rattle.tcl_meaning.specs.Completions.{Completion, code_now}
 use Rattle.tcl_meaning.specs.Control.{after_if_test, after_while_body, after_for_start, after_for_body, after_for_next}
 use Rattle.tcl_meaning.specs.Pages.{owed}
+use Rattle.tcl_meaning.specs.Trying.{finish, after_finally}
 use Rattle.tcl_pages.specs.Texts.{Text}
 use Rattle.tcl_steps.specs.Views.{owes_of, others_of}
 use Rattle.tcl_steps.specs.declared.step.Others.{Others}
@@ -16,8 +17,8 @@ use Rattle.tcl_steps.specs.declared.step.Scope.{Scope}
 use Rattle.tcl_steps.specs.declared.step.Owes.{Owes}
 use Rattle.tcl_steps.specs.declared.step.Owes.TheVariants as owes
 use Rattle.tcl_steps.specs.declared.step.Loop.{Loop}
-use Rattle.tcl_vars.specs.Ends.{DoesAsk}
-use Rattle.tcl_engine.proofs.Answering.{asks_over}
+use Rattle.tcl_steps.specs.Ends.{DoesAsk}
+use Rattle.tcl_steps.proofs.AskLemmas.{asks_over}
 
 abbrev Asked : Type 0
 Asked = Result (Step Scope Owes Loop) AllocError
@@ -41,6 +42,14 @@ module _ (o : Owes) (c : Completion) (r : Asked) (f : Standing) where
   pub for_body : (test next body : Text) → o ≡ owes.ForBody test next body → IsAsked r (after_for_body dialect.Tcl86 test next body c) → DoesAsk (owed dialect.Tcl86 (owes_of o) c) f r f
   unfolding owed
   for_body test next body is asks = owed_by (owes.ForBody test next body) is asks
+
+  pub handling : (finally : Option Text) → o ≡ owes.Handling finally → IsAsked r (finish finally c) → DoesAsk (owed dialect.Tcl86 (owes_of o) c) f r f
+  unfolding owed
+  handling finally is asks = owed_by (owes.Handling finally) is asks
+
+  pub finishing : (before : Completion) → o ≡ owes.Finishing before → IsAsked r (after_finally before (code_now c) c) → DoesAsk (owed dialect.Tcl86 (owes_of o) c) f r f
+  unfolding owed
+  finishing before is asks = owed_by (owes.Finishing before) is asks
 
   pub for_next : (test next body : Text) → o ≡ owes.ForNext test next body → IsAsked r (after_for_next dialect.Tcl86 test next body (code_now c) c) → DoesAsk (owed dialect.Tcl86 (owes_of o) c) f r f
   unfolding owed

@@ -5,7 +5,7 @@ ghost use Rattle.tcl_engine.specs.Answered.{Answered};
 ghost use Rattle.tcl_engine.specs.Kinds.{IsOverChannels};
 ghost use Rattle.tcl_meaning.specs.Pages.{page_asks};
 ghost use Rattle.tcl_meaning.specs.State.{Commands};
-ghost use Rattle.tcl_vars.specs.Comes.{state_of};
+ghost use Rattle.tcl_steps.specs.Comes.{state_of};
 ghost use Rattle.tcl_vm.specs.Engines.{is_io};
 
 use crate::lifts::worked;

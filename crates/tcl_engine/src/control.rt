@@ -1,6 +1,6 @@
 //! Commands that ask at once.
 ghost use Rattle.tcl_chars.specs.declared.numbers.Dialect.TheVariants as dialect;
-ghost use Rattle.tcl_control.specs.Asked.{IsAsked};
+ghost use Rattle.tcl_steps.specs.Asked.{IsAsked};
 ghost use Rattle.tcl_engine.specs.Kinds.{IsAtOnce};
 ghost use Rattle.tcl_meaning.specs.Pages.{page_asks};
 
@@ -8,7 +8,7 @@ use std::alloc::{AllocError, Global};
 use tcl_chars::Dialect;
 use tcl_control::{
     break_page, catch_page, continue_page, error_page, eval_page, expr_page, for_page, if_page,
-    return_page, switch_page, while_page,
+    return_page, switch_page, throw_page, try_page, while_page,
 };
 use tcl_each::{dict_for_page, foreach_page, lmap_page};
 use tcl_meaning::Page;
@@ -44,6 +44,8 @@ pub(crate) fn at_once(
         Page::Error => error_page(alloc, words),
         Page::Break => break_page(alloc, words),
         Page::Continue => continue_page(alloc, words),
+        Page::Throw => throw_page(alloc, words),
+        Page::Try => try_page(alloc, Dialect::Tcl86, words),
         _ => unreachable!(),
     }
 }

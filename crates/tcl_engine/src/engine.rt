@@ -44,7 +44,10 @@ impl<V: Devices> Engine for Host<'_, '_, '_, '_, V> {
         'walk: loop {
             match self.instruct(activation)? {
                 Instructed::Moved => {}
-                Instructed::Spent => *paid += 1,
+                Instructed::Spent => {
+                    let _most = activation.most_paid();
+                    *paid += 1;
+                }
                 Instructed::Turned => return Ok(Progress::Turned),
                 Instructed::Calls(count) => match self.call(activation, count)? {
                     Step::Done(completion) => {
@@ -58,7 +61,7 @@ impl<V: Devices> Engine for Host<'_, '_, '_, '_, V> {
                     step => return Ok(Progress::Asks(step)),
                 },
                 Instructed::Over(completion) => return Ok(Progress::Over(completion)),
-                Instructed::Broke => return Err(Stop::Budget),
+                Instructed::Broke => return Ok(Progress::Unpaid),
             }
         }
     }

@@ -4,7 +4,7 @@ ghost use Rattle.tcl_engine.specs.Kinds.{IsOverFrames};
 ghost use Rattle.tcl_frames.specs.Standing.{Standing};
 ghost use Rattle.tcl_meaning.specs.Asking.{Asks};
 ghost use Rattle.tcl_meaning.specs.Pages.{page_asks};
-ghost use Rattle.tcl_vars.specs.Ends.{Does, DoesAsk};
+ghost use Rattle.tcl_steps.specs.Ends.{Does, DoesAsk};
 
 use std::alloc::{AllocError, Global};
 use tcl_arrays::{array_set, array_unset};

@@ -2,14 +2,14 @@
 ghost use Rattle.tcl_chars.specs.declared.numbers.Dialect.TheVariants as dialect;
 ghost use Rattle.tcl_meaning.specs.Pages.{owed};
 ghost use Rattle.tcl_steps.specs.Views.{owes_of};
-ghost use Rattle.tcl_vars.specs.Ends.{DoesAsk};
+ghost use Rattle.tcl_steps.specs.Ends.{DoesAsk};
 
 use crate::frames::done;
 use std::alloc::{AllocError, Global};
 use tcl_chars::Dialect;
 use tcl_control::{
-    after_for_body, after_for_next, after_for_start, after_for_test, after_if_test,
-    after_while_body, after_while_test,
+    after_finally, after_for_body, after_for_next, after_for_start, after_for_test, after_if_test,
+    after_try, after_while_body, after_while_test, finish,
 };
 use tcl_each::after_each;
 use tcl_frames::Frames;
@@ -45,5 +45,8 @@ pub(crate) fn after(
         Owes::ForBody { test, next, body } => after_for_body(alloc, test, next, body, completion),
         Owes::ForNext { test, next, body } => after_for_next(alloc, test, next, body, completion),
         Owes::EachBody(each) => after_each(alloc, each, completion),
+        Owes::Trying(handlers) => after_try(alloc, frames, handlers, completion),
+        Owes::Handling(finally) => finish(finally, completion),
+        Owes::Finishing(before) => after_finally(before, completion),
     }
 }

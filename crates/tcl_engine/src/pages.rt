@@ -6,7 +6,7 @@ ghost use Rattle.tcl_engine.specs.Kinds.{IsOverCommands};
 ghost use Rattle.tcl_frames.specs.Standing.{Standing};
 ghost use Rattle.tcl_meaning.specs.Pages.{page_asks};
 ghost use Rattle.tcl_meaning.specs.State.{Channels};
-ghost use Rattle.tcl_vars.specs.Comes.{state_of};
+ghost use Rattle.tcl_steps.specs.Comes.{state_of};
 ghost use Rattle.tcl_vm.specs.Engines.{is_io};
 
 use crate::lifts::done_in;

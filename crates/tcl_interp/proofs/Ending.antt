@@ -16,7 +16,7 @@ use Rattle.tcl_meaning.specs.Tasks.{Script}
 use Rattle.tcl_meaning.proofs.Frames.{outcome_stays}
 use Rattle.tcl_meaning.proofs.Onward.{outputs_same}
 use Rattle.tcl_meaning.proofs.Runs.{outcome_goes}
-use Rattle.tcl_vars.specs.Comes.{state_of}
+use Rattle.tcl_steps.specs.Comes.{state_of}
 use Rattle.tcl_vm.specs.Machines.{Follows}
 use Rattle.tcl_vm.specs.declared.engine.Stop.{Stop}
 use Rattle.tcl_vm.specs.declared.engine.Stop.TheVariants as stop
@@ -32,7 +32,7 @@ topped got = on_got got (λ c after. Gives (top c) after)
 
 -- ---- what agrees is a part
 
-agrees_part : {A : Type 0} (got real : Got A) → Agrees got real → IsPart (channels_of real) got
+pub agrees_part : {A : Type 0} (got real : Got A) → Agrees got real → IsPart (channels_of real) got
 agrees_part (Gives a s) real h = subst (λ (r : Got _). OutputsBegin (channels_of real) (channels_of r)) (sym h) (outputs_same (channels_of real))
 agrees_part (Broke x) real h = subst (λ (r : Got _). OutputsBegin (channels_of real) (channels_of r)) (sym h) (outputs_same (channels_of real))
 agrees_part (Exits n x) real h = subst (λ (r : Got _). OutputsBegin (channels_of real) (channels_of r)) (sym h) (outputs_same (channels_of real))
@@ -64,6 +64,7 @@ ends_part (outcome.Exit status) got r f h = agrees_part got (Exits status r) h
 ends_part outcome.Memory got r f h = h
 ends_part outcome.Io got r f h = h
 ends_part outcome.Failed got r f h = absurd h
+ends_part outcome.Over got r f h = absurd h
 
 -- ---- the end of a run
 
@@ -98,12 +99,13 @@ module _ (g : Frame) (cs : Commands) (f : Standing) (cs' : Commands) (c : Channe
   ends_by (Ok e) (outcome.Exit status) got stay h is = absurd is
   ends_by (Ok e) outcome.Io got stay h is = absurd is
   ends_by (Ok e) outcome.Failed got stay h is = absurd is
+  ends_by (Ok e) outcome.Over got stay h is = absurd is
   ends_by (Err stop.Budget) o got stay h is = subst (λ x. Ends x (topped got) behind) (sym is) (broke got behind h)
   ends_by (Err (stop.Exit n)) o got stay h is = subst (λ x. Ends x (topped got) behind) (sym is) (exited got n behind h)
   ends_by (Err stop.Memory) o got stay h is = subst (λ x. Ends x (topped got) behind) (sym is) (topped_part c got h)
   ends_by (Err stop.Io) o got stay h is = subst (λ x. Ends x (topped got) behind) (sym is) (topped_part c got h)
 
-one_dialect : (d : Dialect) → dialect.Tcl86 ≡ d
+pub one_dialect : (d : Dialect) → dialect.Tcl86 ≡ d
 one_dialect dialect.Tcl86 = refl
 
 -- An evaluation ends as the definition says, from what the interpreter shows.

@@ -3,8 +3,10 @@ ghost use Rattle.std.specs.Prelude.{◌≡◌, IfOk, false, is_err, option_map, 
 ghost use Rattle.std.specs.Str.{chars};
 ghost use Rattle.tcl_chan.specs.Characters.{input_chars};
 ghost use Rattle.tcl_chan.specs.Worlds.{stdout, stderr, SameDevices, SameInput};
-ghost use Rattle.tcl_channels.specs.Leaves.{failures_of};
+ghost use Rattle.tcl_channels.specs.Leaves.{Counted, Failures, failures_of};
 ghost use Rattle.tcl_chars.specs.declared.numbers.Dialect.TheVariants.{Tcl86};
+ghost use Rattle.tcl_meaning.specs.Completions.{Completion};
+ghost use Rattle.tcl_meaning.specs.Effects.{Got};
 ghost use Rattle.tcl_meaning.specs.Frames.{global_frame};
 ghost use Rattle.tcl_meaning.specs.Pages.{first_commands};
 ghost use Rattle.tcl_meaning.specs.Run.{argument_variables, first_channels, run_script, run_with_args};
@@ -49,6 +51,32 @@ pub fn flush_both<R: Input, W: Output, E: Output>(
     first
 }
 
+/// Flushes both outputs once a script has ended, unless memory was refused or a device failed.
+pub(crate) fn finish<R: Input, W: Output, E: Output>(
+    interp: &mut Interp,
+    world: &mut World<'_, '_, '_, R, W, E>,
+    ended: Outcome,
+) -> Outcome
+    requires { interp.old.failed ≡ outcome_fails ended }
+    ensures ends { (got : Got Completion) → Ends ended got (remains_at R.to_come W.written E.written interp.old world.old)
+        → Ends result got (remains_at R.to_come W.written E.written interp.new world.new) }
+    ensures fails { interp.new.failed ≡ outcome_fails result }
+    ensures devices { SameDevices world.old world.new }
+    ensures failures { (before : Failures) → Counted (outcome_is_io ended) before (failures_of R.failed_calls W.failed_calls E.failed_calls world.old)
+        → RunCounted (outcome_is_io result) before (failures_of R.failed_calls W.failed_calls E.failed_calls world.new) }
+{
+    if outcome_fails(&ended) {
+        return ended;
+    }
+    match flush_both(world) {
+        Ok(()) => ended,
+        Err(_) => {
+            interp.fail();
+            Outcome::Io
+        }
+    }
+}
+
 // Evaluates a script and flushes both outputs.
 fn run_in<R: Input, W: Output, E: Output>(
     interp: &mut Interp,
@@ -63,17 +91,27 @@ fn run_in<R: Input, W: Output, E: Output>(
     ensures devices { SameDevices world.old world.new }
     ensures failures { RunCounted (outcome_is_io result) (failures_of R.failed_calls W.failed_calls E.failed_calls world.old) (failures_of R.failed_calls W.failed_calls E.failed_calls world.new) }
 {
-    let outcome = interp.eval(world, script, budget);
-    if outcome_fails(&outcome) {
-        return outcome;
-    }
-    match flush_both(world) {
-        Ok(()) => outcome,
-        Err(_) => {
-            interp.fail();
-            Outcome::Io
-        }
-    }
+    let ended = interp.eval(world, script, budget);
+    finish(interp, world, ended)
+}
+
+/// An interpreter of a dialect whose variables hold the arguments: `argv0` the first of them, or nothing where there is none, `argv`
+/// the list of the others and `argc` their count.
+///
+/// # Errors
+/// A growth was refused.
+pub(crate) fn prepared_in(
+    alloc: Global,
+    dialect: Dialect,
+    args: &[&str],
+) -> Result<Interp, AllocError>
+    ensures dialect { IfOk result (λ interp. interp.dialect ≡ dialect) }
+    ensures globals { IfOk result (λ interp. interp.globals ≡ global_frame (argument_variables (each (λ arg. chars arg.now) args.now))) }
+    ensures commands { IfOk result (λ interp. interp.commands ≡ first_commands) }
+    ensures sound { IfOk result (λ interp. interp.failed ≡ false) }
+{
+    let variables = argument_variables(alloc, args)?;
+    Interp::over(alloc, dialect, variables)
 }
 
 /// An interpreter whose variables hold the arguments: `argv0` the first of them, or nothing where there is none, `argv` the list
@@ -87,8 +125,7 @@ pub fn prepared(alloc: Global, args: &[&str]) -> Result<Interp, AllocError>
     ensures commands { IfOk result (λ interp. interp.commands ≡ first_commands) }
     ensures sound { IfOk result (λ interp. interp.failed ≡ false) }
 {
-    let variables = argument_variables(alloc, args)?;
-    Interp::over(alloc, Dialect::Tcl86, variables)
+    prepared_in(alloc, Dialect::Tcl86, args)
 }
 
 /// Runs a script: `argv0` holds the first of the arguments, or nothing where there is none, `argv` the list of the others and

@@ -1,2 +1,5 @@
+pub mod BareWord
+pub mod BracedWord
 pub mod ListCalls
 pub mod ListWords
+pub mod OneCommand

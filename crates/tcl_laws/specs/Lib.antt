@@ -1,2 +1,4 @@
 pub mod ListCalls
 pub mod ListWords
+pub mod OneCommand
+pub mod SameBrace

@@ -1,7 +1,24 @@
-//! A written list as a script: each law is the contract of a function that does nothing.
+//! A written list as a command and as a script: each law is the contract of a function that does nothing.
 
 ghost use Rattle.tcl_laws.specs.ListWords.{ExpandsToElements, NextWordsAreElements, WordsAreElements};
 ghost use Rattle.tcl_laws.specs.ListCalls.{AskedListIsCalled, EvalIsCalled, ListIsCalled, ListThenRest, ListingIsCalled};
+ghost use Rattle.tcl_laws.specs.OneCommand.{NextCommand, OneCommand};
+ghost use Rattle.tcl_laws.specs.SameBrace.{SameBraceCloses};
+
+/// The brace that closes an element in braces is the one that would close a word in braces.
+pub fn same_brace_closes()
+    ensures { SameBraceCloses }
+{}
+
+/// What is written of one element or more is one command, whose words are these elements.
+pub fn one_command()
+    ensures { OneCommand }
+{}
+
+/// So it is where a command's end follows it, also inside brackets.
+pub fn next_command()
+    ensures { NextCommand }
+{}
 
 /// What is written of one element or more is one command, whose words are its elements in every state.
 pub fn words_are_elements()

@@ -16,10 +16,10 @@ use Rattle.tcl_interp.specs.declared.host.Outcome.{Outcome}
 use Rattle.tcl_interp.specs.declared.host.Outcome.TheVariants as outcome
 use Rattle.tcl_interp.specs.declared.report.Report.{Report}
 use Rattle.tcl_interp.proofs.Ending.{begun_part}
-use Rattle.tcl_session.specs.Ends.{Tells, end_is_io}
-use Rattle.tcl_session.specs.Session.{session}
-use Rattle.tcl_session.specs.declared.end.SessionEnd.{SessionEnd}
-use Rattle.tcl_session.specs.declared.end.SessionEnd.TheVariants as end
+use Rattle.tcl_shell.specs.Ends.{Tells, end_is_io}
+use Rattle.tcl_shell.specs.Session.{session}
+use Rattle.tcl_shell.specs.declared.end.SessionEnd.{SessionEnd}
+use Rattle.tcl_shell.specs.declared.end.SessionEnd.TheVariants as end
 use Rattle.tcl_shell.specs.Lines.{Said, SaidIf, unreadable, not_utf8}
 use Rattle.tcl_shell.specs.Program.{Devices, IsTold, Ran, RanSession, RunsAsked, RunsWords, RunsFile, channels_at, failures_told, file_name, status_of, outcome_by, outcome_line}
 use Rattle.tcl_shell.specs.declared.words.Request.{Request}

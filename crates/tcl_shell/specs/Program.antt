@@ -16,10 +16,10 @@ use Rattle.tcl_interp.specs.Report.{Reports}
 use Rattle.tcl_interp.specs.declared.host.Outcome.{Outcome}
 use Rattle.tcl_interp.specs.declared.host.Outcome.TheVariants as outcome
 use Rattle.tcl_interp.specs.declared.report.Report.{Report}
-use Rattle.tcl_session.specs.Ends.{Tells}
-use Rattle.tcl_session.specs.Session.{session}
-use Rattle.tcl_session.specs.declared.end.SessionEnd.{SessionEnd}
-use Rattle.tcl_session.specs.declared.end.SessionEnd.TheVariants as end
+use Rattle.tcl_shell.specs.Ends.{Tells}
+use Rattle.tcl_shell.specs.Session.{session}
+use Rattle.tcl_shell.specs.declared.end.SessionEnd.{SessionEnd}
+use Rattle.tcl_shell.specs.declared.end.SessionEnd.TheVariants as end
 use Rattle.tcl_shell.specs.Lines.{Told, told, Said, SaidIf, usage_line, unreadable, not_utf8, message_line, budget_spent, out_of_memory, broken}
 use Rattle.tcl_shell.specs.declared.words.Request.{Request}
 
@@ -59,6 +59,7 @@ status_of (outcome.Exit status) = status
 status_of outcome.Memory = 3
 status_of outcome.Io = 4
 status_of outcome.Failed = 4
+status_of outcome.Over = 4
 
 -- the line of an error with this message, where the status tells one
 abbrev pub error_line : ℕ → List ℕ → Option (List ℕ)
@@ -73,6 +74,7 @@ outcome_line (outcome.Exit status) = None
 outcome_line outcome.Memory = Some out_of_memory
 outcome_line outcome.Io = Some broken
 outcome_line outcome.Failed = Some broken
+outcome_line outcome.Over = Some broken
 
 -- The outcome of a run that ends as a session does. A session that ended by itself is told as `exit 0` is.
 abbrev pub outcome_by : SessionEnd → Outcome
@@ -98,7 +100,7 @@ pub record Ran {R W E : Type 0} (got : Got Completion) (status : ℕ) (old new :
   pub report : Report
   pub is_told : IsTold (Reports report got) report.outcome status old new
 
--- A session with so many units ends as its definition says, and is told.
+-- A session with this budget ends as its definition says, and is told.
 pub record RanSession {R W E : Type 0} (budget status : ℕ) (old new : Devices R W E) : Type 0 where
   pub end : SessionEnd
   pub is_told : IsTold (Tells end (session (channels_at old) budget)) (outcome_by end) status old new
@@ -129,7 +131,7 @@ RunsAsked budget None words file status old new = RanSession budget status old n
 RunsAsked budget (Some place) words file status old new = RunsFile budget (drop place words) file status old new
 
 -- What the program does for what its words ask, the words in UTF-8, and its file: the status that it answers, and the devices
--- before and after.
+-- before and after. What it does is the same with every slice.
 abbrev pub RunsWords : {R W E : Type 0} → Option Request → List (List ℕ) → Option (List ℕ) → ℕ → Devices R W E → Devices R W E → Type 0
 RunsWords None words file status old new = Refused usage_line status old new
 RunsWords (Some request) words file status old new = RunsAsked request.budget request.file words file status old new

@@ -7,13 +7,14 @@ ghost use Rattle.tcl_shell.specs.Lines.{told, SaidIf, usage_line};
 ghost use Rattle.tcl_shell.specs.Program.{RanSession, Refused, RunsWords, RunsFile, devices, outcome_by, outcome_line, status_of};
 ghost use Rattle.tcl_shell.specs.Words.{request_of};
 
+use crate::end::SessionEnd;
 use crate::lines::{Line, say};
+use crate::run::session;
 use crate::words::read_request;
 use std::alloc::{AllocError, Global};
 use tcl_chan::device::{Input, Output};
-use tcl_chars::{begins, push, split_first};
-use tcl_interp::{Outcome, Report, run};
-use tcl_session::{SessionEnd, session};
+use tcl_chars::{Dialect, begins, push, split_first};
+use tcl_interp::{Config, Outcome, Report, run_sliced};
 
 // Is the character the CR of a CR LF, where this follows it?
 #[tactic(auto, using(crate::proofs::JoinedNewlines::return_is))]
@@ -66,14 +67,14 @@ fn tell<R: Input, W: Output, E: Output>(
             say(alloc, reader, out, err, Line::Memory);
             3
         }
-        Outcome::Io | Outcome::Failed => {
+        Outcome::Io | Outcome::Failed | Outcome::Over => {
             say(alloc, reader, out, err, Line::Broken);
             4
         }
     }
 }
 
-// Runs the file that the first of the words names, if it could be read, with these words and a budget.
+// Runs the file that the first of the words names, if it could be read, with these words and a budget that is handed out in slices.
 fn run_file<R: Input, W: Output, E: Output>(
     alloc: Global,
     words: &[&str],
@@ -82,6 +83,7 @@ fn run_file<R: Input, W: Output, E: Output>(
     out: &mut W,
     err: &mut E,
     budget: u64,
+    slice: u64,
 ) -> u8
     requires { 0 < length words.now }
     ensures { RunsFile budget (map (λ word. word.now) words.now) (option_map (λ bytes. bytes.now) file.entry) result
@@ -100,14 +102,19 @@ fn run_file<R: Input, W: Output, E: Output>(
     let Ok(script) = joined_lines(alloc, text) else {
         return tell(alloc, reader, out, err, Outcome::Memory);
     };
-    let Report { outcome, interp: _ } = run(
+    let config = Config {
+        dialect: Dialect::Tcl86,
+    };
+    let Report { outcome, interp: _ } = run_sliced(
         alloc,
+        config,
         script.as_str(),
         words,
         reader,
         out,
         err,
         budget,
+        slice,
     );
     tell(alloc, reader, out, err, outcome)
 }
@@ -187,5 +194,6 @@ pub fn tool<R: Input, W: Output, E: Output>(
         out,
         err,
         request.budget,
+        request.slice,
     )
 }

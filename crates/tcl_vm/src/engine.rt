@@ -1,6 +1,6 @@
 //! What a machine runs over: codes, pages, and what scripts keep.
 
-ghost use Rattle.std.specs.Prelude.{◌≡◌, ◌≤◌, ◌<◌, ◌+◌, ◌^◌, ℕ, Bool, false, OnOk, OnErr, IfOk};
+ghost use Rattle.std.specs.Prelude.{◌≡◌, ◌≤◌, Bool, false, OnOk, OnErr, IfOk};
 ghost use Rattle.tcl_chars.specs.declared.numbers.Dialect.{Dialect};
 ghost use Rattle.tcl_meaning.specs.Asking.{questions_owed, questions};
 ghost use Rattle.tcl_meaning.specs.Completions.{too_deep};
@@ -71,6 +71,8 @@ pub enum Progress<S, O, L> {
     Asks(Step<S, O, L>),
     /// The code has ended.
     Over(Completion),
+    /// A unit is wanting, and the code stands where it goes on.
+    Unpaid,
 }
 
 /// What a machine runs over: codes, pages, and what scripts keep.
@@ -96,15 +98,14 @@ pub trait Engine {
     /// What calls leave of what the definition doesn't see, as the devices; in the last of them a device failed or not.
     ghost leaves: { Bool → Self → Self → Type 0 };
 
-    /// Instructions, and the commands that they call, until a unit has paid for a turn back, a command asks for something, or the
-    /// code has ended. The commands that units pay for on the way are counted until they are called.
+    /// Instructions, and the commands that they call, until a unit has paid for a turn back, a command asks for something, the
+    /// code has ended, or a unit is wanting. The commands that units pay for on the way are counted until they are called.
     fn step(
         &mut self,
         activation: &mut Self::Activation,
         paid: &mut u64,
     ) -> Result<Progress<Self::Scope, Self::Owes, Self::Loop>, Stop>
-        requires fits { (n : ℕ) × FitsHere (views.running activation.old) n × (n ≤ paid.old) }
-        requires room { (shown self.old).units + paid.old < 2 ^ 64 }
+        requires { FitsHere (views.running activation.old) paid.old }
         ensures makes { Strides dialect views result (position (views.running activation.old) paid.old (shown self.old)) (position (views.running activation.new) paid.new (shown self.new)) }
         ensures frames { IfOk result (λ _. SameFrames (shown self.old) (shown self.new)) }
         ensures leaves { leaves (is_io result) self.old self.new };

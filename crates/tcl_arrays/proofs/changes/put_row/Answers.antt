@@ -8,7 +8,7 @@ use Rattle.tcl_frames.specs.Standing.{applied, store_of}
 use Rattle.tcl_frames.specs.declared.edit.Edit.TheVariants as edit
 use Rattle.tcl_meaning.specs.Arrays.{no_array}
 use Rattle.tcl_values.specs.Kept.{texts}
-use Rattle.tcl_vars.proofs.VariableLemmas.{refused_by}
+use Rattle.tcl_steps.proofs.VariableLemmas.{refused_by}
 use Rattle.tcl_arrays.proofs.changes.put_row.Goals as goal
 
 pub returns-then-len-ne0 : goal.returns-then-len-ne0

@@ -1,5 +1,5 @@
 use Rattle.tcl_chars.specs.declared.numbers.Dialect.TheVariants as dialect
-use Rattle.tcl_engine.proofs.Owing.{if_test, while_body, for_start, for_body, for_next}
+use Rattle.tcl_engine.proofs.Owing.{if_test, while_body, for_start, for_body, for_next, handling, finishing}
 use Rattle.tcl_engine.proofs.owed.after.Goals as goal
 
 pub returns-in-IfTest : goal.returns-in-IfTest
@@ -16,3 +16,9 @@ returns-in-ForBody c = let a = c.in-ForBody in for_body c.args.owes c.args.compl
 
 pub returns-in-ForNext : goal.returns-in-ForNext
 returns-in-ForNext c = let a = c.in-ForNext in for_next c.args.owes c.args.completion c.after_for_next.result c.args.frames.now a.test a.next a.body a.is (c.after_for_next.ensures dialect.Tcl86)
+
+pub returns-in-Handling : goal.returns-in-Handling
+returns-in-Handling c = let a = c.in-Handling in handling c.args.owes c.args.completion c.finish.result c.args.frames.now a.finally a.is c.finish.ensures
+
+pub returns-in-Finishing : goal.returns-in-Finishing
+returns-in-Finishing c = let a = c.in-Finishing in finishing c.args.owes c.args.completion c.after_finally.result c.args.frames.now a.before a.is c.after_finally.ensures

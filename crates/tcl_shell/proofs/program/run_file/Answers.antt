@@ -25,7 +25,7 @@ pub returns : goal.returns
 returns g c =
     let tells = c.tell-2.ensures in
     let text = c.in-Ok.ensures.cases in
-    let new = c.run-outcome.new in
+    let new = c.run_sliced-outcome.new in
     let script = ap chars c.as_str.ensures.value ∙ c.in-Ok-joined_lines.ensures ∙ ap (λ t. joined_newlines (chars t)) text.0 in
-    read_file c.args.budget c.args.words.now c.args.file _ _ c.in-Some.bytes _ _ c.run-outcome.result (devices g.R.Input.to_come g.R.Input.failed_calls g.W.Output.written g.W.Output.failed_calls g.E.Output.written g.E.Output.failed_calls new.reader new.out new.err) c.in-Some.is text.1 script
-    (ap (told g.R.Input.to_come g.R.Input.failed_calls) tells.input) (ap (told g.W.Output.written g.W.Output.failed_calls) tells.out) c.run-outcome.ensures.report c.run-outcome.ensures.failures tells.status tells.says
+    read_file c.args.budget c.args.words.now c.args.file _ _ c.in-Some.bytes _ _ c.run_sliced-outcome.result (devices g.R.Input.to_come g.R.Input.failed_calls g.W.Output.written g.W.Output.failed_calls g.E.Output.written g.E.Output.failed_calls new.reader new.out new.err) c.in-Some.is text.1 script
+    (ap (told g.R.Input.to_come g.R.Input.failed_calls) tells.input) (ap (told g.W.Output.written g.W.Output.failed_calls) tells.out) c.run_sliced-outcome.ensures.report c.run_sliced-outcome.ensures.failures tells.status tells.says

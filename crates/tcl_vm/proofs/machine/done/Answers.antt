@@ -2,7 +2,7 @@ use Rattle.std.proofs.Common.{Err, refl, ap, ◌∙◌}
 use Rattle.std.proofs.lemmas.Result.{err_from_is_err_and}
 use Rattle.tcl_vm.proofs.Advancing.{makes_err}
 use Rattle.tcl_vm.proofs.Answering.{on_failed}
-use Rattle.tcl_vm.proofs.Making.{refused_same, done_made}
+use Rattle.tcl_vm.proofs.Making.{refused_same, done_made, done_later, failed_later}
 use Rattle.tcl_vm.specs.Engines.{completion_of}
 use Rattle.tcl_vm.specs.Machines.{machine_of}
 use Rattle.tcl_vm.specs.declared.engine.Stop.TheVariants as stop
@@ -17,11 +17,13 @@ returns-in_err-answer-clause-makes g c =
 pub returns-in_ok-answer-clause-makes : goal.returns-in_ok-answer-clause-makes
 returns-in_ok-answer-clause-makes g c = record {
   turned = done_made g.E.Engine.dialect g.E.Engine.views c.args.machine.now c.answer.new.activation (g.E.Engine.shown c.args.engine.now) c.args.completion (c.is_ok.ensures.is c.if-is_ok.true) c.in_ok-answer.ensures;
+  later = done_later g.E.Engine.dialect g.E.Engine.views c.args.machine.now c.answer.new.activation (g.E.Engine.shown c.args.engine.now) c.args.completion (c.is_ok.ensures.is c.if-is_ok.true) c.in_ok-answer.ensures;
   unwinds = unwinds_same _ _ refl (frames_as _ _ refl);
 }
 
 pub returns-else-is_ok-clause-makes : goal.returns-else-is_ok-clause-makes
 returns-else-is_ok-clause-makes g c = record {
   turned = on_failed g.E.Engine.dialect (machine_of g.E.Engine.views c.args.machine.now) c.args.machine.now.paid (g.E.Engine.shown c.args.engine.now) (completion_of c.args.completion) (c.is_ok.ensures.other c.if-is_ok.false);
+  later = failed_later g.E.Engine.dialect g.E.Engine.views (machine_of g.E.Engine.views c.args.machine.now) c.args.machine.now.paid (g.E.Engine.shown c.args.engine.now) (completion_of c.args.completion) (c.is_ok.ensures.other c.if-is_ok.false);
   unwinds = unwinds_same _ _ refl (frames_as _ _ refl);
 }

@@ -1,7 +1,7 @@
 use Rattle.std.proofs.Common.{rules, ◌≡◌, [], ◌∷◌, ◌++◌, Err, ap, ◌∙◌}
 use Rattle.std.proofs.lemmas.Result.{err_from_is_err_and}
 use Rattle.tcl_vm.proofs.Advancing.{makes_err}
-use Rattle.tcl_vm.proofs.Making.{back_can, back_made, back_stops, back_unwinds}
+use Rattle.tcl_vm.proofs.Making.{back_can, back_made, back_later, back_stops, back_unwinds}
 use Rattle.tcl_vm.proofs.machine.end.Goals as goal
 
 pub returns-in_err-next-in-Some-clause-makes : goal.returns-in_err-next-in-Some-clause-makes
@@ -16,6 +16,7 @@ returns-in_ok-next-in-Some-clause-makes g c =
     let e : c.args.machine.now.callers.items ≡ c.pop.new.self.items ++ c.in-Some.waiting ∷ [] = search rules in
     record {
       turned = back_made g.E.Engine.dialect g.E.Engine.views c.args.machine.now c.pop.new.self.items c.in-Some.waiting (g.E.Engine.shown c.args.engine.now) _ _ c.args.completion e c.undo.ensures.undone c.in_ok-next-in-Some.ensures.onward c.in_ok-next-in-Some.next c.in_ok-next-in-Some.ensures.answers c.in_ok-next-in-Some.ensures.fewer c.in_ok-next-in-Some.ensures.free;
+      later = back_later g.E.Engine.dialect g.E.Engine.views c.args.machine.now c.pop.new.self.items c.in-Some.waiting (g.E.Engine.shown c.args.engine.now) _ _ c.args.completion e c.undo.ensures.undone c.in_ok-next-in-Some.ensures.onward c.in_ok-next-in-Some.next c.in_ok-next-in-Some.ensures.answers c.in_ok-next-in-Some.ensures.fewer c.in_ok-next-in-Some.ensures.free;
       unwinds = back_unwinds g.E.Engine.views c.args.machine.now c.pop.new.self.items c.in-Some.waiting (g.E.Engine.shown c.args.engine.now) _ _ e c.undo.ensures.undone c.in_ok-next-in-Some.ensures.frames _ _ _ _ _;
     }
 

@@ -2,12 +2,12 @@ use Rattle.std.proofs.Common.{Err, ap, ◌∙◌, arith}
 use Rattle.std.proofs.lemmas.Result.{err_from_is_err_and}
 use Rattle.tcl_meaning.specs.Completions.{nothing}
 use Rattle.tcl_vm.proofs.Advancing.{makes_err}
-use Rattle.tcl_vm.proofs.Making.{refused_same, evaluate_made, evaluate_unwinds}
+use Rattle.tcl_vm.proofs.Making.{refused_same, evaluate_made, evaluate_later, evaluate_unwinds}
 use Rattle.tcl_vm.specs.declared.engine.Stop.TheVariants as stop
 use Rattle.tcl_vm.proofs.machine.evaluate.Goals as goal
 
 pub expression-requires : goal.expression-requires
-expression-requires g c = let f = (c.requires.by.2.then_fits nothing).deep in let e = c.depth-depth.ensures in omega arith
+expression-requires g c = let f = (c.requires.by.0.then_fits nothing).deep in let e = c.depth-depth.ensures in omega arith
 
 pub returns-in_err-activation-clause-makes : goal.returns-in_err-activation-clause-makes
 returns-in_err-activation-clause-makes g c =
@@ -21,9 +21,10 @@ returns-in_err-begin-clause-makes g c =
 
 pub returns-clause-makes : goal.returns-clause-makes
 returns-clause-makes g c =
-    let f = (c.requires.by.2.then_fits nothing).deep in
+    let f = (c.requires.by.0.then_fits nothing).deep in
     let e = c.depth-depth.ensures in
     record {
       turned = evaluate_made g.E.Engine.dialect g.E.Engine.views c.args.machine.now c.begin.new.self c.in_ok-activation.activation c.args.text c.args.owes c.stay-undone.result c.depth-depth.result (g.E.Engine.shown c.args.engine.now) _ e (omega arith) c.in_ok-activation.ensures.begins c.in_ok-activation.ensures.same c.stay-undone.ensures c.in_ok-begin.ensures.current c.in_ok-begin.ensures.callers c.in_ok-begin.ensures.paid;
+      later = evaluate_later g.E.Engine.dialect g.E.Engine.views c.args.machine.now c.begin.new.self c.in_ok-activation.activation c.args.text c.args.owes c.stay-undone.result c.depth-depth.result (g.E.Engine.shown c.args.engine.now) _ e (omega arith) c.in_ok-activation.ensures.begins c.in_ok-activation.ensures.same c.stay-undone.ensures c.in_ok-begin.ensures.current c.in_ok-begin.ensures.callers c.in_ok-begin.ensures.paid;
       unwinds = evaluate_unwinds g.E.Engine.views c.args.machine.now c.begin.new.self c.args.owes c.stay-undone.result (g.E.Engine.shown c.args.engine.now) _ c.in_ok-activation.ensures.same c.stay-undone.ensures c.in_ok-begin.ensures.callers _ _ _ _;
     }

@@ -3,7 +3,7 @@ use Rattle.std.proofs.lemmas.Result.{err_from_is_err_and}
 use Rattle.tcl_vm.specs.Engines.{completion_of}
 use Rattle.tcl_vm.specs.Turns.{On, Begun, Used}
 use Rattle.tcl_vm.specs.declared.machine.Made.TheVariants as made
-use Rattle.tcl_vm.proofs.Going.{keeps_turned, keeps_over, keeps_stops, ends_err, made_as, stops_as}
+use Rattle.tcl_vm.proofs.Going.{keeps_turned, keeps_over, keeps_stops, keeps_held, ends_err, made_as, stops_as}
 use Rattle.tcl_vm.proofs.machine.go.Goals as goal
 
 pub returns-in_err-completion-clause-ends : goal.returns-in_err-completion-clause-ends
@@ -18,7 +18,7 @@ returns-in-Over-clause-ends g c =
 
 pub on-preserved : goal.on-preserved
 on-preserved g c =
-    let t = made_as g.E.Engine.dialect g.E.Engine.views c.in_ok-completion.field-0 (made.On c.in-On.next) _ _ _ c.in-On.is c.in_ok-completion.ensures.makes in
+    let t = made_as g.E.Engine.dialect g.E.Engine.views c.in_ok-completion.field-0 (made.On c.in-On.turn) _ _ _ c.in-On.is c.in_ok-completion.ensures.makes in
     let l = t.turned.less c.on.invariant.keeps.fits in
     record {
       keeps = keeps_turned g.E.Engine.dialect On _ _ _ c.on.invariant.keeps t;
@@ -29,7 +29,7 @@ on-preserved g c =
 
 pub begun-preserved : goal.begun-preserved
 begun-preserved g c =
-    let t = made_as g.E.Engine.dialect g.E.Engine.views c.in_ok-completion.field-0 (made.Begun c.in-Begun.next) _ _ _ c.in-Begun.is c.in_ok-completion.ensures.makes in
+    let t = made_as g.E.Engine.dialect g.E.Engine.views c.in_ok-completion.field-0 (made.Begun c.in-Begun.turn) _ _ _ c.in-Begun.is c.in_ok-completion.ensures.makes in
     let l = t.turned.less c.on.invariant.keeps.fits in
     record {
       keeps = keeps_turned g.E.Engine.dialect Begun _ _ _ c.on.invariant.keeps t;
@@ -39,7 +39,7 @@ begun-preserved g c =
 
 pub used-preserved : goal.used-preserved
 used-preserved g c =
-    let t = made_as g.E.Engine.dialect g.E.Engine.views c.in_ok-completion.field-0 (made.Used c.in-Used.next) _ _ _ c.in-Used.is c.in_ok-completion.ensures.makes in
+    let t = made_as g.E.Engine.dialect g.E.Engine.views c.in_ok-completion.field-0 (made.Used c.in-Used.turn) _ _ _ c.in-Used.is c.in_ok-completion.ensures.makes in
     record {
       keeps = keeps_turned g.E.Engine.dialect Used _ _ _ c.on.invariant.keeps t;
       leaves = g.met.E.Engine.leaves_then false _ _ _ c.on.invariant.leaves c.in_ok-completion.ensures.leaves;
@@ -52,3 +52,11 @@ returns-in_err-completion-clause-leaves g c =
 
 pub returns-in-Over-clause-leaves : goal.returns-in-Over-clause-leaves
 returns-in-Over-clause-leaves g c = g.met.E.Engine.leaves_then false _ _ _ c.on.invariant.leaves c.in_ok-completion.ensures.leaves
+
+pub returns-in-Unpaid-clause-ends : goal.returns-in-Unpaid-clause-ends
+returns-in-Unpaid-clause-ends g c =
+    let t = made_as g.E.Engine.dialect g.E.Engine.views c.in_ok-completion.field-0 (made.Unpaid c.in-Unpaid.turn) _ _ _ c.in-Unpaid.is c.in_ok-completion.ensures.makes in
+    keeps_held g.E.Engine.dialect _ _ _ c.on.invariant.keeps t
+
+pub returns-in-Unpaid-clause-leaves : goal.returns-in-Unpaid-clause-leaves
+returns-in-Unpaid-clause-leaves g c = g.met.E.Engine.leaves_then false _ _ _ c.on.invariant.leaves c.in_ok-completion.ensures.leaves

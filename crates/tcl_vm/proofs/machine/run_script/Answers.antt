@@ -1,7 +1,7 @@
 use Rattle.std.proofs.Common.{Err, refl, ap, ◌∙◌, arith}
 use Rattle.std.proofs.lemmas.Result.{err_from_is_err_and}
 use Rattle.tcl_vm.proofs.Advancing.{makes_err}
-use Rattle.tcl_vm.proofs.Making.{refused_same, refused_entered, run_made, run_unwinds, deep_made, deep_stops}
+use Rattle.tcl_vm.proofs.Making.{refused_same, refused_entered, run_made, run_later, run_unwinds, deep_made, deep_later, deep_stops}
 use Rattle.tcl_vm.specs.declared.engine.Stop.TheVariants as stop
 use Rattle.tcl_vm.proofs.Unwinding.{unwinds_same}
 use Rattle.tcl_vm.proofs.machine.run_script.Goals as goal
@@ -20,6 +20,7 @@ returns-in_err-next-clause-makes g c =
 pub returns-then-depth-ge1000-clause-makes : goal.returns-then-depth-ge1000-clause-makes
 returns-then-depth-ge1000-clause-makes g c = record {
   turned = deep_made g.E.Engine.dialect g.E.Engine.views c.args.machine.now (g.E.Engine.shown c.args.engine.now) _ c.args.scope c.args.text c.args.owes c.depth-depth.result c.in_ok-completion.completion c.depth-depth.ensures c.if-depth-ge1000.true c.in_ok-completion.ensures c.in_ok-next.ensures.onward c.in_ok-next.next c.in_ok-next.ensures.answers c.in_ok-next.ensures.fewer c.in_ok-next.ensures.free;
+  later = deep_later g.E.Engine.dialect g.E.Engine.views c.args.machine.now (g.E.Engine.shown c.args.engine.now) _ c.args.scope c.args.text c.args.owes c.depth-depth.result c.in_ok-completion.completion c.depth-depth.ensures c.if-depth-ge1000.true c.in_ok-completion.ensures c.in_ok-next.ensures.onward c.in_ok-next.next c.in_ok-next.ensures.answers c.in_ok-next.ensures.fewer c.in_ok-next.ensures.free;
   unwinds = unwinds_same _ _ refl c.in_ok-next.ensures.frames;
 }
 
@@ -41,5 +42,6 @@ returns-in_err-begin-clause-makes g c =
 pub returns-clause-makes : goal.returns-clause-makes
 returns-clause-makes g c = record {
   turned = run_made g.E.Engine.dialect g.E.Engine.views c.args.machine.now c.begin.new.self c.in_ok-activation.activation c.args.scope c.args.text c.args.owes c.in_ok-undone.undone c.depth-depth.result (g.E.Engine.shown c.args.engine.now) _ _ c.depth-depth.ensures (let z = c.if-depth-ge1000.false in omega arith) c.in_ok-activation.ensures.begins c.in_ok-activation.ensures.same c.in_ok-undone.ensures.undone c.in_ok-undone.ensures.entered c.in_ok-begin.ensures.current c.in_ok-begin.ensures.callers c.in_ok-begin.ensures.paid;
+  later = run_later g.E.Engine.dialect g.E.Engine.views c.args.machine.now c.begin.new.self c.in_ok-activation.activation c.args.scope c.args.text c.args.owes c.in_ok-undone.undone c.depth-depth.result (g.E.Engine.shown c.args.engine.now) _ _ c.depth-depth.ensures (let z = c.if-depth-ge1000.false in omega arith) c.in_ok-activation.ensures.begins c.in_ok-activation.ensures.same c.in_ok-undone.ensures.undone c.in_ok-undone.ensures.entered c.in_ok-begin.ensures.current c.in_ok-begin.ensures.callers c.in_ok-begin.ensures.paid;
   unwinds = run_unwinds g.E.Engine.views c.args.machine.now c.begin.new.self c.args.scope c.args.owes c.in_ok-undone.undone (g.E.Engine.shown c.args.engine.now) _ _ c.in_ok-activation.ensures.same c.in_ok-undone.ensures.undone c.in_ok-undone.ensures.entered c.in_ok-undone.ensures.can c.in_ok-begin.ensures.callers _ _ _ _;
 }

@@ -6,7 +6,7 @@ use Rattle.tcl_engine.specs.Hosts.{shown}
 use Rattle.tcl_vm.specs.Engines.{position}
 use Rattle.tcl_vm.proofs.Unwinding.{frames_trans}
 use Rattle.tcl_vm.proofs.Walking.{walks_on, fits_on, call_paid}
-use Rattle.tcl_engine.proofs.Leading.{done_as, called_of, code_without, step_as, nearer, frames_on, moved_on, spent_on, turned_stride, over_stride, broke_stride, refused_stride, asks_stride, stopped_stride, unanswered_stride, answered_on}
+use Rattle.tcl_engine.proofs.Leading.{done_as, called_of, code_without, step_as, nearer, frames_on, moved_on, spent_on, turned_stride, over_stride, broke_stride, stays_as, paid_counts, refused_stride, asks_stride, stopped_stride, unanswered_stride, answered_on}
 use Rattle.tcl_engine.proofs.engine.HostEngine.step.Goals as goal
 
 pub returns-in_err-instruct-clause-makes : goal.returns-in_err-instruct-clause-makes
@@ -22,12 +22,9 @@ pub walk-preserved-in-Moved : goal.walk-preserved-in-Moved
 walk-preserved-in-Moved g c =
     let d = (done_as dialect.Tcl86 c.walk.activation c.instruct.new.activation (shown g.V.Devices.channels c.walk.self) c.instruct.new.self.units _ _ c.in-Moved.is c.in_ok-instruct.ensures.done) in
     let h = moved_on dialect.Tcl86 c.walk.activation c.instruct.new.activation c.walk.paid c.instruct.new.self.units (shown g.V.Devices.channels c.walk.self) (shown g.V.Devices.channels c.instruct.new.self) c.in_ok-instruct.ensures.code c.in_ok-instruct.ensures.state d in
-    let u = d.1 in
-    let room = c.walk.invariant.room in
     record {
       fits = (fits_on dialect.Tcl86 (position c.walk.activation c.walk.paid (shown g.V.Devices.channels c.walk.self)) (position c.instruct.new.activation c.walk.paid (shown g.V.Devices.channels c.instruct.new.self)) h c.walk.invariant.fits).0;
       walks = walks_on dialect.Tcl86 _ _ _ c.walk.invariant.walks h;
-      room = omega (u, room, arith);
       leaves = leaving.leaves_then g.V.Devices.leaves g.met.V.Devices.leaves_then false _ _ _ c.walk.invariant.leaves c.in_ok-instruct.ensures.leaves;
     }
 
@@ -39,12 +36,9 @@ pub walk-preserved-in-Spent : goal.walk-preserved-in-Spent
 walk-preserved-in-Spent g c =
     let d = (done_as dialect.Tcl86 c.walk.activation c.instruct.new.activation (shown g.V.Devices.channels c.walk.self) c.instruct.new.self.units _ _ c.in-Spent.is c.in_ok-instruct.ensures.done) in
     let h = spent_on dialect.Tcl86 c.walk.activation c.instruct.new.activation c.walk.paid c.instruct.new.self.units (shown g.V.Devices.channels c.walk.self) (shown g.V.Devices.channels c.instruct.new.self) c.in_ok-instruct.ensures.code c.in_ok-instruct.ensures.state d in
-    let u = d.2 in
-    let room = c.walk.invariant.room in
     record {
       fits = (fits_on dialect.Tcl86 (position c.walk.activation c.walk.paid (shown g.V.Devices.channels c.walk.self)) (position c.instruct.new.activation (c.walk.paid + 1) (shown g.V.Devices.channels c.instruct.new.self)) h c.walk.invariant.fits).0;
       walks = walks_on dialect.Tcl86 _ _ _ c.walk.invariant.walks h;
-      room = omega (u, room, arith);
       leaves = leaving.leaves_then g.V.Devices.leaves g.met.V.Devices.leaves_then false _ _ _ c.walk.invariant.leaves c.in_ok-instruct.ensures.leaves;
     }
 
@@ -94,14 +88,9 @@ walk-preserved g c =
     let calls = (called_of _ c.in-Calls.count c.instruct.new.activation c.call.new.activation _ _ c.call.ensures.taken (done_as dialect.Tcl86 c.walk.activation c.instruct.new.activation (shown g.V.Devices.channels c.walk.self) c.instruct.new.self.units _ _ c.in-Calls.is c.in_ok-instruct.ensures.done)) in
     let k = step_as dialect.Tcl86 _ _ _ _ _ c.in-Done.is c.in_ok-step-in-Calls.ensures.answered in
     let h = answered_on dialect.Tcl86 c.walk.activation c.call.new.activation c.walk.paid c.instruct.new.self.units (shown g.V.Devices.channels c.walk.self) (shown g.V.Devices.channels c.instruct.new.self) (code_without c.in-Calls.count c.walk.activation c.instruct.new.activation c.call.new.activation c.call.ensures.taken c.in_ok-instruct.ensures.code) c.in_ok-instruct.ensures.state _ (shown g.V.Devices.channels c.call.new.self) c.answer.new.self c.in-Done.completion calls k (c.is_ok.ensures.is c.if-is_ok.true) c.in_ok-answer-in-Done.ensures (call_paid dialect.Tcl86 (position c.walk.activation c.walk.paid (shown g.V.Devices.channels c.walk.self)) _ _ calls.0 c.walk.invariant.fits) in
-    let u = calls.1 in
-    let v = k.free in
-    let w = ap (λ x. x.units) c.in_ok-instruct.ensures.state in
-    let room = c.walk.invariant.room in
     record {
       fits = (fits_on dialect.Tcl86 (position c.walk.activation c.walk.paid (shown g.V.Devices.channels c.walk.self)) (position c.answer.new.self (c.walk.paid - 1) (shown g.V.Devices.channels c.call.new.self)) h c.walk.invariant.fits).0;
       walks = walks_on dialect.Tcl86 _ _ _ c.walk.invariant.walks h;
-      room = omega (u, v, w, room, arith);
       leaves = leaving.leaves_then g.V.Devices.leaves g.met.V.Devices.leaves_then false _ _ _ (leaving.leaves_then g.V.Devices.leaves g.met.V.Devices.leaves_then false _ _ _ c.walk.invariant.leaves c.in_ok-instruct.ensures.leaves) c.in_ok-step-in-Calls.ensures.leaves;
     }
 
@@ -112,4 +101,14 @@ pub returns-in-Over-clause-frames : goal.returns-in-Over-clause-frames
 returns-in-Over-clause-frames g c = frames_on dialect.Tcl86 _ _ _ c.instruct.new.self.units c.walk.invariant.walks c.in_ok-instruct.ensures.state
 
 pub returns-in-Broke-clause-makes : goal.returns-in-Broke-clause-makes
-returns-in-Broke-clause-makes g c = broke_stride dialect.Tcl86 c.walk.activation c.instruct.new.activation c.walk.paid c.instruct.new.self.units (shown g.V.Devices.channels c.walk.self) (shown g.V.Devices.channels c.instruct.new.self) c.in_ok-instruct.ensures.code c.in_ok-instruct.ensures.state _ c.walk.invariant.walks (done_as dialect.Tcl86 c.walk.activation c.instruct.new.activation (shown g.V.Devices.channels c.walk.self) c.instruct.new.self.units _ _ c.in-Broke.is c.in_ok-instruct.ensures.done)
+returns-in-Broke-clause-makes g c = broke_stride dialect.Tcl86 c.walk.activation c.instruct.new.activation c.walk.paid c.instruct.new.self.units (shown g.V.Devices.channels c.walk.self) (shown g.V.Devices.channels c.instruct.new.self) c.in_ok-instruct.ensures.code c.in_ok-instruct.ensures.state _ c.walk.invariant.walks (done_as dialect.Tcl86 c.walk.activation c.instruct.new.activation (shown g.V.Devices.channels c.walk.self) c.instruct.new.self.units _ _ c.in-Broke.is c.in_ok-instruct.ensures.done) (stays_as _ _ _ c.in-Broke.is c.in_ok-instruct.ensures.stays)
+
+pub returns-in-Broke-clause-frames : goal.returns-in-Broke-clause-frames
+returns-in-Broke-clause-frames g c = frames_on dialect.Tcl86 _ _ _ c.instruct.new.self.units c.walk.invariant.walks c.in_ok-instruct.ensures.state
+
+pub overflow_add-paid : goal.overflow_add-paid
+overflow_add-paid g c =
+    let h = spent_on dialect.Tcl86 c.walk.activation c.instruct.new.activation c.walk.paid c.instruct.new.self.units (shown g.V.Devices.channels c.walk.self) (shown g.V.Devices.channels c.instruct.new.self) c.in_ok-instruct.ensures.code c.in_ok-instruct.ensures.state (done_as dialect.Tcl86 c.walk.activation c.instruct.new.activation (shown g.V.Devices.channels c.walk.self) c.instruct.new.self.units _ _ c.in-Spent.is c.in_ok-instruct.ensures.done) in
+    let f = (fits_on dialect.Tcl86 (position c.walk.activation c.walk.paid (shown g.V.Devices.channels c.walk.self)) (position c.instruct.new.activation (c.walk.paid + 1) (shown g.V.Devices.channels c.instruct.new.self)) h c.walk.invariant.fits).0 in
+    let k = paid_counts c.instruct.new.activation (c.walk.paid + 1) c.most_paid-most.result f c.most_paid-most.ensures in
+    omega (k, arith)

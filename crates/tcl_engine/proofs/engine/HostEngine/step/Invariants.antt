@@ -1,4 +1,4 @@
-use Rattle.std.proofs.Common.{ℕ, ◌+◌, ◌-◌, ◌<◌, ◌^◌, false, length}
+use Rattle.std.proofs.Common.{ℕ, ◌+◌, ◌-◌, false, length}
 use Rattle.tcl_chars.specs.declared.numbers.Dialect.TheVariants as dialect
 use Rattle.tcl_engine.specs.Hosts.{shown, HostLeaves}
 use Rattle.tcl_vm.specs.Engines.{Walks, position}
@@ -9,7 +9,6 @@ abbrev pub invariant-walk : goal.invariant-walk
 invariant-walk g l = record {
   fits : FitsAt dialect.Tcl86 (position l.activation l.paid (shown g.V.Devices.channels l.self));
   walks : Walks dialect.Tcl86 (position l.fn.activation l.fn.paid (shown g.V.Devices.channels l.fn.self)) (position l.activation l.paid (shown g.V.Devices.channels l.self));
-  room : l.self.units + l.paid < 2 ^ 64;
   leaves : HostLeaves g.V.Devices.leaves false l.fn.self l.self;
 }
 
