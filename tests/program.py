@@ -26,10 +26,11 @@ class Result:
 
 
 class Program:
-    """A program under test."""
+    """A program under test, with what it finds in its environment beyond the usual."""
 
-    def __init__(self, path):
+    def __init__(self, path, settings=None):
         self.path = os.path.abspath(path) if os.path.exists(path) else path
+        self.settings = settings or {}
 
     def is_there(self):
         return subprocess.run(["sh", "-c", 'command -v "$0"', self.path], stdout=subprocess.DEVNULL).returncode == 0
@@ -42,7 +43,7 @@ class Program:
         return subprocess.Popen(
             [*by, self.path, *words],
             cwd=cwd,
-            env=dict(os.environ, LC_ALL="C.UTF-8"),
+            env=dict(os.environ, LC_ALL="C.UTF-8", **self.settings),
             stdin=subprocess.PIPE,
             stdout=stdout,
             stderr=stderr,
@@ -630,6 +631,28 @@ def _(tested, room):
     closed = by_shell('exec "$0" "$@" <&-')
     expect(run_text(tested, room, "puts a\n", by=closed), 0, b"a\n")
 
+
+def device_check(name, text, redirection, status, stdout=b"", stderr=IO_FAULT, words=()):
+    @check(f"devices/{name}")
+    def _(tested, room):
+        by = by_shell(f'exec "$0" "$@" {redirection}')
+        expect(tested.run([*words, write(room, text)], room, by=by), status, stdout, stderr)
+
+
+# the script's file may get the number of a stream that is closed: nothing of it is read or written as the stream
+device_check("input-closed-and-asked", "puts a\ngets stdin l\nputs $l\n", "<&-", 4, b"a\n")
+device_check("input-closed-and-read", "puts a\nputs [read stdin]\n", "<&-", 4, b"a\n")
+device_check("input-for-writing-alone", "puts a\ngets stdin l\n", "0>/dev/null", 4, b"a\n")
+device_check("input-is-a-folder-and-read", "puts a; catch {read stdin}; puts b", "<.", 4, b"a\n")
+device_check("input-is-a-folder-and-unasked", "puts a\n", "<.", 0, b"a\n", b"")
+device_check("input-is-a-folder-in-slices", "puts a; catch {gets stdin}; puts b", "<.", 4, b"a\n", words=["-slice", "1"])
+device_check("output-closed-and-nothing-to-write", "set x 1\n", ">&-", 0, stderr=b"")
+device_check("output-closed-and-errors-written", "puts stderr a\nputs b\n", ">&-", 4, stderr=b"a\n" + IO_FAULT)
+device_check("output-for-reading-alone", "puts a\n", "1</dev/null", 4)
+device_check("output-full-in-slices", "catch {puts a}; puts stderr no", ">/dev/full", 4, words=["-slice", "1"])
+device_check("errors-closed-in-slices", "puts a; catch {puts stderr b}; puts c", "2>&-", 4, b"a\n", b"", ["-slice", "1"])
+device_check("all-closed", "puts a\n", "<&- >&- 2>&-", 4, stderr=b"")
+device_check("all-closed-and-none-used", "set x 1\n", "<&- >&- 2>&-", 0, stderr=b"")
 
 # ---- memory
 
