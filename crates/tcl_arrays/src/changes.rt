@@ -59,7 +59,7 @@ fn finished(alloc: Global, done: Result<(), Fault>) -> Result<Completion, AllocE
 ///
 /// # Errors
 ///
-/// `AllocError` where a growth was refused; some of the elements may be there then.
+/// `AllocError` where a growth was refused; the array is as it was then.
 pub fn array_set(
     alloc: Global,
     frames: &mut Frames,

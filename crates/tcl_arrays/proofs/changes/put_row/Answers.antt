@@ -33,5 +33,5 @@ returns-in_ok-about-in-Err-Refused c =
           (set_refused s name (texts c.items.result.now) c.in-Err-Refused.field-0-0 even
           (sym (fill_is s name c.items.result) ∙ refused_by (edit_change s name (edit.Put c.items.result)) c.in-Err-Refused.field-0 c.in-Err-Refused.field-0-0 c.in-Err-Refused.field-0-is (c.in-Err-Refused.ensures.refused cs)))
           ∙ ap Err (sym c.in_ok-about-in-Err-Refused.ensures),
-      rw c.in-Err-Refused.field-0-is at c.in-Err-Refused.ensures.same,
+      c.in-Err-Refused.ensures.same,
     )
