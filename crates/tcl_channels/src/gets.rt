@@ -24,6 +24,9 @@ use tcl_frames::Frames;
 use tcl_steps::{Completion, Fault, Stop, assign};
 use tcl_values::Value;
 
+// How many bytes a long line has at least.
+const LONG: usize = 32;
+
 // The variable that `gets` is told to set, where the channel of a name is an input.
 fn told(alloc: Global, channel: &str, name: Option<RcStr>) -> Result<Option<RcStr>, Stop>
     ensures { Orders (λ into. gets_into (option_map text_of into)) (from_input (chars channel.now) (gets_into (option_map text_of name))) result }
@@ -65,13 +68,23 @@ fn line_said(alloc: Global, line: &Option<RcStr>) -> Result<Value, AllocError>
     }
 }
 
+// The value of a line. What a long one is read as, as a list or as a dictionary, is kept for all who hold it.
+fn line_value(alloc: Global, line: RcStr) -> Result<Value, AllocError>
+    ensures { IfOk result (λ v. v ≡ text_of line) }
+{
+    if line.as_str().len() < LONG {
+        return Ok(Value::of_text(line));
+    }
+    Value::of_literal(alloc, line)
+}
+
 // The text of a line, which is empty where nothing was left.
 #[tactic(auto, using(crate::proofs::WordLemmas::no_chars))]
 fn line_text(alloc: Global, line: Option<RcStr>) -> Result<Value, AllocError>
     ensures { IfOk result (λ v. v ≡ or_empty (option_map text_of line)) }
 {
     match line {
-        Some(text) => Ok(Value::of_text(text)),
+        Some(text) => line_value(alloc, text),
         None => Ok(Value::of_text(message(alloc, "")?)),
     }
 }
