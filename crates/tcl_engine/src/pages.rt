@@ -1,6 +1,6 @@
 //! Commands over the command table.
 ghost use Rattle.std.specs.Prelude.{◌≡◌, ℕ, false};
-ghost use Rattle.tcl_chars.specs.declared.numbers.Dialect.TheVariants as dialect;
+ghost use Rattle.tcl_chars.specs.declared.numbers.Dialect.{Dialect};
 ghost use Rattle.tcl_engine.specs.Answered.{Answered};
 ghost use Rattle.tcl_engine.specs.Kinds.{IsOverCommands};
 ghost use Rattle.tcl_frames.specs.Standing.{Standing};
@@ -27,7 +27,7 @@ pub(crate) fn over_commands(
     words: &mut [Value],
 ) -> Result<Step<Scope, Owes, Loop>, Stop>
     requires { IsOverCommands page }
-    ensures answered { (f : Standing) (channels : Channels) (units : ℕ) → Answered (page_asks dialect.Tcl86 page words.old) (state_of table.old channels units f) result (state_of table.new channels units f) }
+    ensures answered { (dialect : Dialect) (f : Standing) (channels : Channels) (units : ℕ) → Answered (page_asks dialect page words.old) (state_of table.old channels units f) result (state_of table.new channels units f) }
     ensures quiet { is_io result ≡ false }
 {
     match page {

@@ -1,7 +1,6 @@
 -- What a host's script comes to, by what the machine made of it.
 use Rattle.std.proofs.Common.{◌≡◌, ℕ, false, Result, Ok, Err, refl, sym, ap, subst, ◌∙◌, inl, inr}
 use Rattle.tcl_chars.specs.declared.numbers.Dialect.{Dialect}
-use Rattle.tcl_chars.specs.declared.numbers.Dialect.TheVariants as dialect
 use Rattle.tcl_pages.specs.Texts.{Text}
 use Rattle.tcl_frames.specs.Standing.{Standing, store_of}
 use Rattle.tcl_meaning.specs.Agreement.{Agrees, IsPart}
@@ -105,18 +104,15 @@ module _ (g : Frame) (cs : Commands) (f : Standing) (cs' : Commands) (c : Channe
   ends_by (Err stop.Memory) o got stay h is = subst (λ x. Ends x (topped got) behind) (sym is) (topped_part c got h)
   ends_by (Err stop.Io) o got stay h is = subst (λ x. Ends x (topped got) behind) (sym is) (topped_part c got h)
 
-pub one_dialect : (d : Dialect) → dialect.Tcl86 ≡ d
-one_dialect dialect.Tcl86 = refl
-
 -- An evaluation ends as the definition says, from what the interpreter shows.
-pub run_ends : (shows : Shows) (frames : Standing) (table : Commands) (before : Channels) (budget : ℕ) (script : Text) (f : Standing) (cs : Commands) (c : Channels) (left : ℕ) (r : Result Completion Stop) (o : Outcome)
-    → IsAtTop frames → frame_at frames.frames 0 ≡ shows.globals → table ≡ shows.commands
-    → Follows r (Run dialect.Tcl86 (Script 1 nothing script) (state_of table before budget frames)) (state_of cs c left f) → IsOutcomeOf o r left
+pub run_ends : (dialect : Dialect) (shows : Shows) (frames : Standing) (table : Commands) (before : Channels) (budget : ℕ) (script : Text) (f : Standing) (cs : Commands) (c : Channels) (left : ℕ) (r : Result Completion Stop) (o : Outcome)
+    → dialect ≡ shows.dialect → IsAtTop frames → frame_at frames.frames 0 ≡ shows.globals → table ≡ shows.commands
+    → Follows r (Run dialect (Script 1 nothing script) (state_of table before budget frames)) (state_of cs c left f) → IsOutcomeOf o r left
     → Ends o (run_script shows.dialect script (record { store = kept_by shows; channels = before; units = budget })) (record { globals = frame_at f.frames 0; commands = cs; channels = c })
-run_ends shows frames table before budget script f cs c left r o at_top globals commands h is =
+run_ends dialect shows frames table before budget script f cs c left r o numbers at_top globals commands h is =
     let s : State = record { store = kept_by shows; channels = before; units = budget } in
     let same : state_of table before budget frames ≡ s =
     ap (λ k. state_of table before budget k) at_top ∙ ap (λ g. state_of table before budget (standing_at g)) globals ∙ ap (λ t. state_of t before budget (standing_at shows.globals)) commands in
     let follows : Follows r (Run shows.dialect (Script 1 nothing script) s) (state_of cs c left f) =
-    subst (λ d. Follows r (Run d (Script 1 nothing script) s) (state_of cs c left f)) (one_dialect shows.dialect) (subst (λ k. Follows r (Run dialect.Tcl86 (Script 1 nothing script) k) (state_of cs c left f)) same h) in
+    subst (λ d. Follows r (Run d (Script 1 nothing script) s) (state_of cs c left f)) numbers (subst (λ k. Follows r (Run dialect (Script 1 nothing script) k) (state_of cs c left f)) same h) in
     ends_by shows.globals shows.commands f cs c left r o (Run shows.dialect (Script 1 nothing script) s) (outcome_stays (plan shows.dialect) (Script 1 nothing script) s) follows is

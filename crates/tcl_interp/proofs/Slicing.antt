@@ -28,7 +28,7 @@ use Rattle.tcl_interp.specs.Pausing.{RunShows, Starts, PartEnds, machine_at}
 use Rattle.tcl_interp.specs.Slices.{InSlices}
 use Rattle.tcl_interp.specs.declared.host.Outcome.{Outcome}
 use Rattle.tcl_interp.specs.declared.host.Outcome.TheVariants as outcome
-use Rattle.tcl_interp.proofs.Ending.{run_ends, one_dialect}
+use Rattle.tcl_interp.proofs.Ending.{run_ends}
 use Rattle.tcl_interp.proofs.Parts.{part_made}
 
 -- ---- one part more
@@ -147,9 +147,8 @@ module _ (interp : Shows) (text : Text) (before : RunShows) (channels : Channels
       → HostEnds o (run_script interp.dialect text (record { store = record { frames = interp.globals ∷ []; active = 0; commands = interp.commands }; channels = channels; units = budget }))
       (record { globals = frame_at after.frames.frames 0; commands = after.commands; channels = channels' })
   told budget left x o h is =
-      run_ends interp before.frames before.commands channels budget text after.frames after.commands channels' left x o
-      (starts.frames ∙ ap (λ (f : Standing). standing_at (frame_at f.frames 0)) (sym starts.frames)) (ap (λ (f : Standing). frame_at f.frames 0) starts.frames) starts.commands
-      (subst (λ d. Follows x (Run d (Script 1 nothing text) (state_of before.commands channels budget before.frames)) (state_of after.commands channels' left after.frames)) (sym (one_dialect before.dialect)) h) is
+      run_ends before.dialect interp before.frames before.commands channels budget text after.frames after.commands channels' left x o starts.dialect
+      (starts.frames ∙ ap (λ (f : Standing). standing_at (frame_at f.frames 0)) (sym starts.frames)) (ap (λ (f : Standing). frame_at f.frames 0) starts.frames) starts.commands h is
 
   pub last_told : (d : RunShows) (channels'' : Channels) (budget rest : ℕ) (o : Outcome) → InSlices before.dialect (machine_at before channels 0) (machine_at d channels'' 0) budget rest
       → PartEnds before.dialect o (machine_at d channels'' rest) (machine_at after channels' units)

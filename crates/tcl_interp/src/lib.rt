@@ -14,6 +14,6 @@ mod vars;
 pub use host::{Config, HostFault, HostVar, Outcome, VarFault};
 pub use interp::Interp;
 pub use pausing::Run;
-pub use report::{Report, flush_both, prepared, run};
+pub use report::{Report, flush_both, prepared, run, run_with};
 pub use slices::run_sliced;
 pub use stage::Stage;

@@ -15,7 +15,7 @@ ghost use Rattle.tcl_interp.specs.declared.stage.Stage.TheVariants as stage;
 use crate::host::{Config, Outcome};
 use crate::interp::Interp;
 use crate::pausing::Run;
-use crate::report::{Report, finish, prepared_in};
+use crate::report::{Report, finish, prepared};
 use std::alloc::Global;
 use tcl_chan::device::{Input, Output};
 use tcl_chan::world::World;
@@ -112,14 +112,14 @@ pub fn run_sliced<R: Input, W: Output, E: Output>(
     ensures failures { RunCounted (outcome_is_io result.outcome) (failures_at R.failed_calls W.failed_calls E.failed_calls reader.old out.old err.old)
         (failures_at R.failed_calls W.failed_calls E.failed_calls reader.new out.new err.new) }
 {
-    let Ok(prepared) = prepared_in(alloc, config.dialect, args) else {
+    let Ok(made) = prepared(alloc, config, args) else {
         return Report {
             outcome: Outcome::Memory,
             interp: None,
         };
     };
     let mut world = World::new(alloc, reader, out, err);
-    let (mut interp, ended) = run_slices(prepared, &mut world, script, budget, slice);
+    let (mut interp, ended) = run_slices(made, &mut world, script, budget, slice);
     let outcome = finish(&mut interp, &mut world, ended);
     Report {
         outcome,

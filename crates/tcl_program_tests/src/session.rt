@@ -190,7 +190,7 @@ fn refuses(alloc: Global) -> Result<bool, AllocError> {
     let mut out = MemoryOutput::new(alloc, 64)?;
     let mut err = MemoryOutput::new(alloc, 64)?;
     let status = refuse_words(alloc, &mut input, &mut out, &mut err);
-    let usage = b"usage: tclint ?-budget N? ?-slice N? ?file arg ...?\n".as_slice();
+    let usage = b"usage: tclint ?-tcl9? ?-budget N? ?-slice N? ?file arg ...?\n".as_slice();
     Ok(status == 5 && out.bytes() == b"".as_slice() && err.bytes() == usage)
 }
 

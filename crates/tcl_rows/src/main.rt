@@ -18,7 +18,9 @@ fn show_all(rt: &HostRuntime) -> io::Result<()> {
         println!(rt; "== {name}\n{shown}{parted}")?;
     }
     let shown = rows::show_failing(rt.alloc())?;
-    println!(rt; "== an output that fails\n{shown}")
+    println!(rt; "== an output that fails\n{shown}")?;
+    let shown = rows::show_dialects(rt.alloc())?;
+    println!(rt; "== numbers in both dialects{shown}")
 }
 
 fn main(rt: HostRuntime) -> ExitCode {

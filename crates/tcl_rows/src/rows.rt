@@ -6,7 +6,7 @@ use tcl_chan::faulty::FaultyOutput;
 use tcl_chan::memory::{MemoryInput, MemoryOutput};
 use tcl_chan::world::World;
 use tcl_chars::Dialect;
-use tcl_interp::{Config, Interp, Outcome, Report, run};
+use tcl_interp::{Config, Interp, Outcome, Report, run, run_with};
 
 /// More units than any row spends.
 pub(crate) const UNITS: u64 = 1000;
@@ -115,4 +115,38 @@ pub(crate) fn show_failing(alloc: Global) -> Result<String, AllocError> {
     let ends = ends(alloc, &mut interp, &mut input, &mut out, &mut err)?;
     let bytes = out.inner().bytes().len();
     format!(in alloc; "{ends}\n{bytes} bytes")
+}
+
+// How a script ends in an interpreter of a dialect.
+fn ends_in(alloc: Global, dialect: Dialect, script: &str) -> Result<String, AllocError> {
+    let mut input = MemoryInput::new(INPUT);
+    let mut out = MemoryOutput::new(alloc, CAPACITY)?;
+    let mut err = MemoryOutput::new(alloc, CAPACITY)?;
+    let Report { outcome, interp: _ } = run_with(
+        alloc,
+        Config { dialect },
+        script,
+        &[],
+        &mut input,
+        &mut out,
+        &mut err,
+        UNITS,
+    );
+    told(alloc, &outcome)
+}
+
+/// How scripts over numbers end, with those of Tcl 8.6 and with those of Tcl 9.
+pub(crate) fn show_dialects(alloc: Global) -> Result<String, AllocError> {
+    let mut shown = String::new(alloc);
+    for script in [
+        "expr {010 + 1}",
+        "expr {08 + 1}",
+        "lsort -integer {010 9}",
+        "format %d 010",
+    ] {
+        let old = ends_in(alloc, Dialect::Tcl86, script)?;
+        let new = ends_in(alloc, Dialect::Tcl9, script)?;
+        write!(shown, "\n{script}: {old}; in Tcl 9: {new}")?;
+    }
+    Ok(shown)
 }

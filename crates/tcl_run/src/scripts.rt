@@ -1,7 +1,6 @@
 //! A run of a script.
 ghost use Rattle.std.specs.Prelude.{◌≡◌, IfOk};
 ghost use Rattle.std.specs.Str.{chars};
-ghost use Rattle.tcl_chars.specs.declared.numbers.Dialect.TheVariants as dialect;
 ghost use Rattle.tcl_meaning.specs.Completions.{nothing};
 ghost use Rattle.tcl_meaning.specs.Script.{Run};
 ghost use Rattle.tcl_meaning.specs.Tasks.{Script};
@@ -41,7 +40,7 @@ pub fn run<V: Devices>(
     units: &mut u64,
     script: &str,
 ) -> Result<Completion, Stop>
-    ensures follows { Follows result (Run dialect.Tcl86 (Script 1 nothing (chars script.now)) (state_of table.old (V.channels devices.old) units.old frames.old)) (state_of table.new (V.channels devices.new) units.new frames.new) }
+    ensures follows { Follows result (Run codes.old (Script 1 nothing (chars script.now)) (state_of table.old (V.channels devices.old) units.old frames.old)) (state_of table.new (V.channels devices.new) units.new frames.new) }
     ensures onward { Onward (state_of table.old (V.channels devices.old) units.old frames.old) (state_of table.new (V.channels devices.new) units.new frames.new) }
     ensures leaves { V.leaves (is_io result) devices.old devices.new }
     ensures dialect { codes.new ≡ codes.old }
@@ -88,7 +87,7 @@ pub fn resume<V: Devices>(
 ) -> Result<Completion, Stop>
     requires fits { Fits (seen host_views paused.old (state_of table.old (V.channels devices.old) units.old frames.old)) }
     requires unwinds { Unwinds (seen host_views paused.old (state_of table.old (V.channels devices.old) units.old frames.old)) }
-    ensures ends { Ends dialect.Tcl86 result (seen host_views paused.old (state_of table.old (V.channels devices.old) units.old frames.old)) (seen host_views paused.new (state_of table.new (V.channels devices.new) units.new frames.new)) }
+    ensures ends { Ends codes.old result (seen host_views paused.old (state_of table.old (V.channels devices.old) units.old frames.old)) (seen host_views paused.new (state_of table.new (V.channels devices.new) units.new frames.new)) }
     ensures leaves { V.leaves (is_io result) devices.old devices.new }
     ensures dialect { codes.new ≡ codes.old }
 {

@@ -25,7 +25,6 @@ use Rattle.tcl_meaning.proofs.Onward.{outputs_same, outputs_trans, out_more, out
 use Rattle.tcl_meaning.proofs.Runs.{outcome_goes}
 use Rattle.tcl_meaning.specs.Frames.{global_frame}
 use Rattle.tcl_meaning.specs.Pages.{first_commands}
-use Rattle.tcl_chars.specs.declared.numbers.Dialect.TheVariants.{Tcl86}
 use Rattle.tcl_chan.specs.Worlds.{SameDevices, SameOutputs}
 use Rattle.tcl_chan.specs.declared.reading.Reader.{Reader}
 use Rattle.tcl_chan.specs.declared.world.World.{World}
@@ -347,7 +346,7 @@ tells_so e got globals commands c out err p q h = record {
 }
 
 -- the session that an interpreter begins
-pub begins_so : (shows : Shows) (budget : ℕ) (c c' : Channels) → shows.dialect ≡ Tcl86 → shows.globals ≡ global_frame (args_put (literal "tclint") []) → shows.commands ≡ first_commands
-    → c.input ≡ c'.input → c.met_end ≡ c'.met_end → c.out ≡ c'.out → c.err ≡ c'.err → turns shows.dialect most_texts (over (kept_by shows) c budget) ≡ session c' budget
-begins_so shows budget c c' d g k input met out err =
+pub begins_so : (dialect : Dialect) (shows : Shows) (budget : ℕ) (c c' : Channels) → shows.dialect ≡ dialect → shows.globals ≡ global_frame (args_put (literal "tclint") []) → shows.commands ≡ first_commands
+    → c.input ≡ c'.input → c.met_end ≡ c'.met_end → c.out ≡ c'.out → c.err ≡ c'.err → turns shows.dialect most_texts (over (kept_by shows) c budget) ≡ session dialect c' budget
+begins_so dialect shows budget c c' d g k input met out err =
     λ i. turns (d i) most_texts (over (store_at (g i) (k i)) (record { input = input i; met_end = met i; out = out i; err = err i }) budget)

@@ -5,7 +5,7 @@ use Rattle.std.specs.Str.{chars, IsUtf8}
 use Rattle.tcl_chan.specs.Characters.{input_chars}
 use Rattle.tcl_chan.specs.Newlines.{joined_newlines}
 use Rattle.tcl_channels.specs.Leaves.{Failures}
-use Rattle.tcl_chars.specs.declared.numbers.Dialect.TheVariants.{Tcl86}
+use Rattle.tcl_chars.specs.declared.numbers.Dialect.{Dialect}
 use Rattle.tcl_meaning.specs.Completions.{Completion}
 use Rattle.tcl_meaning.specs.Effects.{Got}
 use Rattle.tcl_meaning.specs.Run.{first_channels, run_with_args}
@@ -100,10 +100,10 @@ pub record Ran {R W E : Type 0} (got : Got Completion) (status : ℕ) (old new :
   pub report : Report
   pub is_told : IsTold (Reports report got) report.outcome status old new
 
--- A session with this budget ends as its definition says, and is told.
-pub record RanSession {R W E : Type 0} (budget status : ℕ) (old new : Devices R W E) : Type 0 where
+-- A session in this dialect and with this budget ends as its definition says, and is told.
+pub record RanSession {R W E : Type 0} (dialect : Dialect) (budget status : ℕ) (old new : Devices R W E) : Type 0 where
   pub end : SessionEnd
-  pub is_told : IsTold (Tells end (session (channels_at old) budget)) (outcome_by end) status old new
+  pub is_told : IsTold (Tells end (session dialect (channels_at old) budget)) (outcome_by end) status old new
 
 -- The words or the file are refused with a line, and nothing else happens.
 pub record Refused {R W E : Type 0} (line : List ℕ) (status : ℕ) (old new : Devices R W E) : Type 0 where
@@ -117,21 +117,21 @@ abbrev pub file_name : List (List ℕ) → List ℕ
 file_name [] = []
 file_name (name ∷ words) = name
 
--- What the program does for the words from the file's name on, in UTF-8, and the bytes of the file, if it could be read.
-abbrev pub RunsFile : {R W E : Type 0} → ℕ → List (List ℕ) → Option (List ℕ) → ℕ → Devices R W E → Devices R W E → Type 0
-RunsFile budget words None status old new = Refused (unreadable (file_name words)) status old new
-RunsFile budget words (Some bytes) status old new =
-    (IsUtf8 bytes → Ran (run_with_args Tcl86 (joined_newlines (chars bytes)) (map chars words) (channels_at old) budget) status old new)
+-- What the program does in a dialect for the words from the file's name on, in UTF-8, and the bytes of the file, if it could be read.
+abbrev pub RunsFile : {R W E : Type 0} → Dialect → ℕ → List (List ℕ) → Option (List ℕ) → ℕ → Devices R W E → Devices R W E → Type 0
+RunsFile dialect budget words None status old new = Refused (unreadable (file_name words)) status old new
+RunsFile dialect budget words (Some bytes) status old new =
+    (IsUtf8 bytes → Ran (run_with_args dialect (joined_newlines (chars bytes)) (map chars words) (channels_at old) budget) status old new)
     × ((IsUtf8 bytes → ⊥) → Refused (not_utf8 (file_name words)) status old new)
 
 -- What the program does for its words, in UTF-8: it runs the file whose name stands at a place among them, or a session where no
 -- file is asked for.
-abbrev pub RunsAsked : {R W E : Type 0} → ℕ → Option ℕ → List (List ℕ) → Option (List ℕ) → ℕ → Devices R W E → Devices R W E → Type 0
-RunsAsked budget None words file status old new = RanSession budget status old new
-RunsAsked budget (Some place) words file status old new = RunsFile budget (drop place words) file status old new
+abbrev pub RunsAsked : {R W E : Type 0} → Dialect → ℕ → Option ℕ → List (List ℕ) → Option (List ℕ) → ℕ → Devices R W E → Devices R W E → Type 0
+RunsAsked dialect budget None words file status old new = RanSession dialect budget status old new
+RunsAsked dialect budget (Some place) words file status old new = RunsFile dialect budget (drop place words) file status old new
 
 -- What the program does for what its words ask, the words in UTF-8, and its file: the status that it answers, and the devices
 -- before and after. What it does is the same with every slice.
 abbrev pub RunsWords : {R W E : Type 0} → Option Request → List (List ℕ) → Option (List ℕ) → ℕ → Devices R W E → Devices R W E → Type 0
 RunsWords None words file status old new = Refused usage_line status old new
-RunsWords (Some request) words file status old new = RunsAsked request.budget request.file words file status old new
+RunsWords (Some request) words file status old new = RunsAsked request.dialect request.budget request.file words file status old new

@@ -3,7 +3,6 @@ use Rattle.std.specs.Prelude.{ℕ, zero, suc, ◌-◌, ◌^◌, ℤ, pos, negsuc
 use Rattle.tcl_chars.specs.Characters.{newline}
 use Rattle.tcl_chars.specs.Texts.{literal}
 use Rattle.tcl_chars.specs.declared.numbers.Dialect.{Dialect}
-use Rattle.tcl_chars.specs.declared.numbers.Dialect.TheVariants.{Tcl86}
 use Rattle.tcl_words.specs.Complete.{is_complete}
 use Rattle.tcl_pages.specs.Texts.{Text}
 use Rattle.tcl_meaning.specs.Completions.{Completion, code_number}
@@ -88,6 +87,6 @@ module _ (dialect : Dialect) where
 abbrev pub most_texts : ℕ
 most_texts = 2 ^ 63 - 1
 
--- A session over these channels, with this budget.
-abbrev pub session : Channels → ℕ → Got (Unit {0})
-session channels budget = turns Tcl86 most_texts (record { store = first_store (args_put (literal "tclint") []); channels = channels; units = budget })
+-- A session in a dialect over these channels, with this budget.
+abbrev pub session : Dialect → Channels → ℕ → Got (Unit {0})
+session dialect channels budget = turns dialect most_texts (record { store = first_store (args_put (literal "tclint") []); channels = channels; units = budget })

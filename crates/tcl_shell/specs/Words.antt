@@ -1,9 +1,11 @@
--- The program's words: `?-budget N? ?-slice N? ?file arg ...?`.
+-- The program's words: `?-tcl9? ?-budget N? ?-slice N? ?file arg ...?`.
 use Rattle.std.specs.Prelude.{ℕ, zero, suc, ◌+◌, ◌-◌, ◌^◌, List, [], ◌∷◌, Option, Some, None, if◌then◌else◌}
 use Rattle.tcl_chars.specs.Texts.{literal, same_text}
 use Rattle.tcl_chars.specs.Whole.{decimal_of}
 use Rattle.tcl_chars.specs.declared.numbers.Decimal.{Decimal}
 use Rattle.tcl_chars.specs.declared.numbers.Decimal.TheVariants as decimal
+use Rattle.tcl_chars.specs.declared.numbers.Dialect.{Dialect}
+use Rattle.tcl_chars.specs.declared.numbers.Dialect.TheVariants.{Tcl86, Tcl9}
 use Rattle.tcl_shell.specs.declared.words.Request.{Request}
 
 -- a budget: decimal digits, at most 2^63 - 1
@@ -28,36 +30,46 @@ slice_of word = unless_zero (budget_of word)
 abbrev pub most_budget : ℕ
 most_budget = 2 ^ 63 - 1
 
--- With a slice, the file that stands there is asked for.
-abbrev pub sliced_file : (budget place : ℕ) → Option ℕ → Option Request
-sliced_file budget place None = None
-sliced_file budget place (Some slice) = Some (record { budget = budget; slice = slice; file = Some place })
+-- The file that stands at a place is asked for. `-tcl9` is no file: the option stands in front of all others, once.
+abbrev pub with_file : Dialect → (budget slice place : ℕ) → List ℕ → Option Request
+with_file dialect budget slice place word =
+    if same_text word (literal "-tcl9") then None else Some (record { dialect = dialect; budget = budget; slice = slice; file = Some place })
+
+-- with a slice, if it is one
+abbrev pub sliced_file : Dialect → (budget place : ℕ) → List ℕ → Option ℕ → Option Request
+sliced_file dialect budget place word None = None
+sliced_file dialect budget place word (Some slice) = with_file dialect budget slice place word
 
 -- what the words behind `-slice` ask, which stand at a place: there is a file
-abbrev pub sliced : (budget place : ℕ) → List (List ℕ) → Option Request
-sliced budget place [] = None
-sliced budget place (number ∷ []) = None
-sliced budget place (number ∷ file ∷ args) = sliced_file budget (place + 1) (slice_of number)
+abbrev pub sliced : Dialect → (budget place : ℕ) → List (List ℕ) → Option Request
+sliced dialect budget place [] = None
+sliced dialect budget place (number ∷ []) = None
+sliced dialect budget place (number ∷ file ∷ args) = sliced_file dialect budget (place + 1) file (slice_of number)
 
 -- What the words at a place ask, behind a budget: a session where there are none, else the file; a slice of 0 is the whole budget.
-abbrev pub asked : (budget place : ℕ) → List (List ℕ) → Option Request
-asked budget place [] = Some (record { budget = budget; slice = 0; file = None })
-asked budget place (word ∷ words) = if same_text word (literal "-slice") then sliced budget (place + 1) words else Some (record { budget = budget; slice = 0; file = Some place })
+abbrev pub asked : Dialect → (budget place : ℕ) → List (List ℕ) → Option Request
+asked dialect budget place [] = Some (record { dialect = dialect; budget = budget; slice = 0; file = None })
+asked dialect budget place (word ∷ words) = if same_text word (literal "-slice") then sliced dialect budget (place + 1) words else with_file dialect budget 0 place word
 
 -- with a budget, if it is one
-abbrev pub asked_with : Option ℕ → List (List ℕ) → Option Request
-asked_with None words = None
-asked_with (Some budget) words = asked budget 2 words
+abbrev pub asked_with : Dialect → ℕ → Option ℕ → List (List ℕ) → Option Request
+asked_with dialect place None words = None
+asked_with dialect place (Some budget) words = asked dialect budget place words
 
--- what the words behind `-budget` ask
-abbrev pub budgeted : List (List ℕ) → Option Request
-budgeted [] = None
-budgeted (number ∷ words) = asked_with (budget_of number) words
+-- what the words behind `-budget` ask, which stand at a place
+abbrev pub budgeted : Dialect → ℕ → List (List ℕ) → Option Request
+budgeted dialect place [] = None
+budgeted dialect place (number ∷ words) = asked_with dialect (place + 1) (budget_of number) words
 
--- What the words ask, if they are the program's usage.
+-- what the words at a place ask, in a dialect
+abbrev pub asked_in : Dialect → ℕ → List (List ℕ) → Option Request
+asked_in dialect place [] = asked dialect most_budget place []
+asked_in dialect place (word ∷ words) = if same_text word (literal "-budget") then budgeted dialect (place + 1) words else asked dialect most_budget place (word ∷ words)
+
+-- What the words ask, if they are the program's usage: in the dialect of Tcl 9 behind `-tcl9`, else in that of Tcl 8.6.
 unfoldable pub request_of : List (List ℕ) → Option Request
-request_of [] = asked most_budget 0 []
-request_of (word ∷ words) = if same_text word (literal "-budget") then budgeted words else asked most_budget 0 (word ∷ words)
+request_of [] = asked_in Tcl86 0 []
+request_of (word ∷ words) = if same_text word (literal "-tcl9") then asked_in Tcl9 1 words else asked_in Tcl86 0 (word ∷ words)
 
 -- where the file stands, if one is asked for
 abbrev pub file_of : Option Request → Option ℕ

@@ -11,5 +11,5 @@ mod words;
 
 pub use end::SessionEnd;
 pub use program::{refuse_words, tool};
-pub use run::session;
+pub use run::{session, session_with};
 pub use words::file_word;

@@ -68,7 +68,7 @@ fn put_line<R: Input, W: Output, E: Output>(
     match line {
         Line::Usage => world.puts(
             Out::Stderr,
-            "usage: tclint ?-budget N? ?-slice N? ?file arg ...?\n",
+            "usage: tclint ?-tcl9? ?-budget N? ?-slice N? ?file arg ...?\n",
         ),
         Line::Unread(name) => put_three(world, "couldn't read file \"", name, "\"\n"),
         Line::NotUtf8(name) => put_three(world, "file \"", name, "\" is not UTF-8\n"),

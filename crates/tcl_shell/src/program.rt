@@ -9,11 +9,11 @@ ghost use Rattle.tcl_shell.specs.Words.{request_of};
 
 use crate::end::SessionEnd;
 use crate::lines::{Line, say};
-use crate::run::session;
+use crate::run::session_with;
 use crate::words::read_request;
 use std::alloc::{AllocError, Global};
 use tcl_chan::device::{Input, Output};
-use tcl_chars::{Dialect, begins, push, split_first};
+use tcl_chars::{begins, push, split_first};
 use tcl_interp::{Config, Outcome, Report, run_sliced};
 
 // Is the character the CR of a CR LF, where this follows it?
@@ -77,6 +77,7 @@ fn tell<R: Input, W: Output, E: Output>(
 // Runs the file that the first of the words names, if it could be read, with these words and a budget that is handed out in slices.
 fn run_file<R: Input, W: Output, E: Output>(
     alloc: Global,
+    config: Config,
     words: &[&str],
     file: Option<&[u8]>,
     reader: &mut R,
@@ -86,7 +87,7 @@ fn run_file<R: Input, W: Output, E: Output>(
     slice: u64,
 ) -> u8
     requires { 0 < length words.now }
-    ensures { RunsFile budget (map (λ word. word.now) words.now) (option_map (λ bytes. bytes.now) file.entry) result
+    ensures { RunsFile config.dialect budget (map (λ word. word.now) words.now) (option_map (λ bytes. bytes.now) file.entry) result
         (devices R.to_come R.failed_calls W.written W.failed_calls E.written E.failed_calls reader.old out.old err.old)
         (devices R.to_come R.failed_calls W.written W.failed_calls E.written E.failed_calls reader.new out.new err.new) }
 {
@@ -101,9 +102,6 @@ fn run_file<R: Input, W: Output, E: Output>(
     };
     let Ok(script) = joined_lines(alloc, text) else {
         return tell(alloc, reader, out, err, Outcome::Memory);
-    };
-    let config = Config {
-        dialect: Dialect::Tcl86,
     };
     let Report { outcome, interp: _ } = run_sliced(
         alloc,
@@ -135,16 +133,17 @@ fn outcome_by(end: SessionEnd) -> Outcome
 // Runs a session, with a budget.
 fn run_session<R: Input, W: Output, E: Output>(
     alloc: Global,
+    config: Config,
     reader: &mut R,
     out: &mut W,
     err: &mut E,
     budget: u64,
 ) -> u8
-    ensures { RanSession budget result
+    ensures { RanSession config.dialect budget result
         (devices R.to_come R.failed_calls W.written W.failed_calls E.written E.failed_calls reader.old out.old err.old)
         (devices R.to_come R.failed_calls W.written W.failed_calls E.written E.failed_calls reader.new out.new err.new) }
 {
-    let end = session(alloc, reader, out, err, budget);
+    let end = session_with(alloc, config, reader, out, err, budget);
     tell(alloc, reader, out, err, outcome_by(end))
 }
 
@@ -183,11 +182,15 @@ pub fn tool<R: Input, W: Output, E: Output>(
     let Some(request) = read_request(words) else {
         return refuse_words(alloc, reader, out, err);
     };
+    let config = Config {
+        dialect: request.dialect,
+    };
     let Some(place) = request.file else {
-        return run_session(alloc, reader, out, err, request.budget);
+        return run_session(alloc, config, reader, out, err, request.budget);
     };
     run_file(
         alloc,
+        config,
         &words[place..],
         file,
         reader,

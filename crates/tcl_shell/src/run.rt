@@ -4,6 +4,7 @@ ghost use Rattle.tcl_chan.specs.Characters.{input_chars};
 ghost use Rattle.tcl_chan.specs.Worlds.{SameDevices};
 ghost use Rattle.tcl_channels.specs.Leaves.{Counted, Failures, failures_of};
 ghost use Rattle.tcl_channels.specs.Shown.{channels_of};
+ghost use Rattle.tcl_chars.specs.declared.numbers.Dialect.TheVariants.{Tcl86};
 ghost use Rattle.tcl_meaning.specs.Beginnings.{OutputsBegin};
 ghost use Rattle.tcl_meaning.specs.Effects.{Got};
 ghost use Rattle.tcl_meaning.specs.Frames.{Frame};
@@ -21,7 +22,8 @@ use crate::tell::tell;
 use std::alloc::Global;
 use tcl_chan::device::{Input, Output};
 use tcl_chan::world::World;
-use tcl_interp::{Interp, flush_both, prepared};
+use tcl_chars::Dialect;
+use tcl_interp::{Config, Interp, flush_both, prepared};
 
 // How many texts are evaluated at most.
 const MOST_TEXTS: u64 = 0x7fff_ffff_ffff_ffff;
@@ -102,6 +104,28 @@ fn close<R: Input, W: Output, E: Output>(
 /// behind it its result, if it isn't empty, or its error's message to standard error. The empty text ends the session, and so
 /// does having evaluated 2^63 - 1 texts. Scripts read the same input, behind the lines taken. Unless memory was refused or a
 /// device failed, both outputs are flushed at the end. How far the reader was read ahead isn't promised.
+pub fn session_with<R: Input, W: Output, E: Output>(
+    alloc: Global,
+    config: Config,
+    reader: &mut R,
+    out: &mut W,
+    err: &mut E,
+    budget: u64,
+) -> SessionEnd
+    ensures tells { Tells result (session config.dialect (first_channels (option_map input_chars (R.to_come reader.old)) (W.written out.old) (E.written err.old)) budget)
+        (W.written out.new) (E.written err.new) }
+    ensures failures { RunCounted (end_is_io result) (failures_at R.failed_calls W.failed_calls E.failed_calls reader.old out.old err.old)
+        (failures_at R.failed_calls W.failed_calls E.failed_calls reader.new out.new err.new) }
+{
+    let Ok(mut interp) = prepared(alloc, config, &["tclint"]) else {
+        return SessionEnd::Memory;
+    };
+    let mut world = World::new(alloc, reader, out, err);
+    let end = turns(alloc, &mut interp, &mut world, budget);
+    close(&mut world, end)
+}
+
+/// Evaluates the texts of the input as `session_with` does, with the numbers of Tcl 8.6.
 pub fn session<R: Input, W: Output, E: Output>(
     alloc: Global,
     reader: &mut R,
@@ -109,15 +133,13 @@ pub fn session<R: Input, W: Output, E: Output>(
     err: &mut E,
     budget: u64,
 ) -> SessionEnd
-    ensures tells { Tells result (session (first_channels (option_map input_chars (R.to_come reader.old)) (W.written out.old) (E.written err.old)) budget)
+    ensures tells { Tells result (session Tcl86 (first_channels (option_map input_chars (R.to_come reader.old)) (W.written out.old) (E.written err.old)) budget)
         (W.written out.new) (E.written err.new) }
     ensures failures { RunCounted (end_is_io result) (failures_at R.failed_calls W.failed_calls E.failed_calls reader.old out.old err.old)
         (failures_at R.failed_calls W.failed_calls E.failed_calls reader.new out.new err.new) }
 {
-    let Ok(mut interp) = prepared(alloc, &["tclint"]) else {
-        return SessionEnd::Memory;
+    let config = Config {
+        dialect: Dialect::Tcl86,
     };
-    let mut world = World::new(alloc, reader, out, err);
-    let end = turns(alloc, &mut interp, &mut world, budget);
-    close(&mut world, end)
+    session_with(alloc, config, reader, out, err, budget)
 }

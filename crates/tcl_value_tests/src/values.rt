@@ -64,6 +64,24 @@ fn reads(alloc: Global, start: &str, want: Whole) -> Result<bool, Fault> {
     Ok(read.whole(alloc, Dialect::Tcl86)? == want)
 }
 
+/// Is the text read as these in Tcl 8.6, in Tcl 9 and in Tcl 8.6 again, and left as it is?
+fn reads_by_turns(alloc: Global, start: &str, old: Whole, new: Whole) -> Result<bool, Fault> {
+    let mut read = value(alloc, start)?;
+    let first = read.whole(alloc, Dialect::Tcl86)?;
+    let second = read.whole(alloc, Dialect::Tcl9)?;
+    let third = read.whole(alloc, Dialect::Tcl86)?;
+    let left = text(alloc, read)?;
+    Ok(first == old && second == new && third == old && left.as_str() == start)
+}
+
+/// A text as the number whose decimal text it is, or that it is none.
+fn of_decimal(alloc: Global, start: &str) -> Result<RcStr, Fault> {
+    match Value::of_decimal(start) {
+        Some(number) => text(alloc, number),
+        None => Ok(RcStr::from_str(alloc, "none")?),
+    }
+}
+
 /// A text that was read as a number.
 fn read(alloc: Global, start: &str) -> Result<RcStr, Fault> {
     let mut read = value(alloc, start)?;
@@ -248,6 +266,37 @@ fn numbers_are_read(rt: HostRuntime) {
     ] {
         assert!(rt; holds(reads(alloc, spelling, want)), "{spelling}");
         assert!(rt; is(read(alloc, spelling), spelling), "{spelling}");
+    }
+}
+
+#[test]
+fn a_text_is_a_number_of_the_dialect_that_asks(rt: HostRuntime) {
+    for (start, old, new) in [
+        ("010", Whole::Number(8), Whole::Number(10)),
+        ("-010", Whole::Number(-8), Whole::Number(-10)),
+        ("08", Whole::Not, Whole::Number(8)),
+        ("0o10", Whole::Number(8), Whole::Number(8)),
+        ("12", Whole::Number(12), Whole::Number(12)),
+    ] {
+        assert!(rt;
+            holds(reads_by_turns(rt.alloc(), start, old, new)),
+            "{start}"
+        );
+    }
+}
+
+#[test]
+fn decimal_texts_are_numbers(rt: HostRuntime) {
+    for (start, want) in [
+        ("12", "12"),
+        ("-9223372036854775808", "-9223372036854775808"),
+        ("010", "none"),
+        ("+5", "none"),
+        ("-0", "none"),
+        ("9223372036854775808", "none"),
+        ("", "none"),
+    ] {
+        assert!(rt; is(of_decimal(rt.alloc(), start), want), "{start}");
     }
 }
 

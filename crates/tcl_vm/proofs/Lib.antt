@@ -1,6 +1,7 @@
 pub mod Adding
 pub mod Advancing
 pub mod Answering
+mod Dialects
 pub mod Fitting
 pub mod Forward
 pub mod Going

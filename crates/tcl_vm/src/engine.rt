@@ -88,7 +88,8 @@ pub trait Engine {
     /// A loop before its next turn.
     type Loop: Drop;
 
-    ghost dialect: { Dialect };
+    /// Which texts are numbers.
+    ghost dialect: { Self → Dialect };
 
     ghost views: { Views Self.Activation Self.Undone Self.Scope Self.Owes Self.Loop };
 
@@ -106,7 +107,7 @@ pub trait Engine {
         paid: &mut u64,
     ) -> Result<Progress<Self::Scope, Self::Owes, Self::Loop>, Stop>
         requires { FitsHere (views.running activation.old) paid.old }
-        ensures makes { Strides dialect views result (position (views.running activation.old) paid.old (shown self.old)) (position (views.running activation.new) paid.new (shown self.new)) }
+        ensures makes { Strides (dialect self.old) views result (position (views.running activation.old) paid.old (shown self.old)) (position (views.running activation.new) paid.new (shown self.new)) }
         ensures frames { IfOk result (λ _. SameFrames (shown self.old) (shown self.new)) }
         ensures leaves { leaves (is_io result) self.old self.new };
 
@@ -129,14 +130,14 @@ pub trait Engine {
     /// The code of a script, at its beginning.
     fn script(&mut self, text: Value, depth: u64) -> Result<Self::Activation, AllocError>
         requires { depth ≤ most_depth }
-        ensures begins { IfOk result (λ a. BeginsAs (Means dialect) text depth (views.running a)) }
+        ensures begins { IfOk result (λ a. BeginsAs (Means (dialect self.old)) text depth (views.running a)) }
         ensures same { shown self.new ≡ shown self.old }
         ensures leaves { leaves false self.old self.new };
 
     /// The code of an expression, at its beginning.
     fn expression(&mut self, text: Value, depth: u64) -> Result<Self::Activation, AllocError>
         requires { depth ≤ most_depth }
-        ensures begins { IfOk result (λ a. BeginsAs (MeansExpr dialect) text depth (views.running a)) }
+        ensures begins { IfOk result (λ a. BeginsAs (MeansExpr (dialect self.old)) text depth (views.running a)) }
         ensures same { shown self.new ≡ shown self.old }
         ensures leaves { leaves false self.old self.new };
 
@@ -164,7 +165,7 @@ pub trait Engine {
         owes: Self::Owes,
         completion: Completion,
     ) -> Result<Step<Self::Scope, Self::Owes, Self::Loop>, Stop>
-        ensures answers { Answers views (does (owed dialect (views.owes owes) (completion_of completion)) (shown self.old)) result (shown self.new) }
+        ensures answers { Answers views (does (owed (dialect self.old) (views.owes owes) (completion_of completion)) (shown self.old)) result (shown self.new) }
         ensures fewer { IfOk result (λ step. questions (step_of views step) ≤ questions_owed (views.owes owes)) }
         ensures onward { Onward (shown self.old) (shown self.new) }
         ensures free { IfOk result (λ _. (shown self.new).units ≡ (shown self.old).units) }
@@ -192,4 +193,7 @@ pub trait Engine {
 
     /// What calls leave in which no device failed, and one after them, they leave together.
     ghost leaves_then: { (io : Bool) (a b c : Self) → leaves false a b → leaves io b c → leaves io a c };
+
+    /// No call changes which texts are numbers.
+    ghost dialect_left: { (io : Bool) (a b : Self) → leaves io a b → dialect b ≡ dialect a };
 }

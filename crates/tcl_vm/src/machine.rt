@@ -101,7 +101,7 @@ pub(crate) fn advance<E: Engine>(
     machine: &mut Machine<E::Activation, E::Undone, E::Owes>,
 ) -> Result<Made<E::Scope, E::Owes, E::Loop>, Stop>
     requires { Fits (config_of E.views turn.Next machine.old (E.shown engine.old)) }
-    ensures makes { Makes E.dialect E.views result (config_of E.views turn.Next machine.old (E.shown engine.old)) machine.new (E.shown engine.new) }
+    ensures makes { Makes (E.dialect engine.old) E.views result (config_of E.views turn.Next machine.old (E.shown engine.old)) machine.new (E.shown engine.new) }
     ensures leaves { E.leaves (is_io result) engine.old engine.new }
 {
     match engine.step(&mut machine.current, &mut machine.paid)? {
@@ -123,7 +123,7 @@ pub(crate) fn done<E: Engine>(
     completion: Completion,
 ) -> Result<Made<E::Scope, E::Owes, E::Loop>, Stop>
     requires { Fits (config_of E.views (turn.Asking (step.Done completion)) machine.old (E.shown engine.old)) }
-    ensures makes { Makes E.dialect E.views result (config_of E.views (turn.Asking (step.Done completion)) machine.old (E.shown engine.old)) machine.new (E.shown engine.new) }
+    ensures makes { Makes (E.dialect engine.old) E.views result (config_of E.views (turn.Asking (step.Done completion)) machine.old (E.shown engine.old)) machine.new (E.shown engine.new) }
     ensures leaves { E.leaves (is_io result) engine.old engine.new }
 {
     if completion.is_ok() {
@@ -144,7 +144,7 @@ pub(crate) fn run_script<E: Engine>(
     owes: E::Owes,
 ) -> Result<Made<E::Scope, E::Owes, E::Loop>, Stop>
     requires { Fits (config_of E.views (turn.Asking (step.Run scope text owes)) machine.old (E.shown engine.old)) }
-    ensures makes { Makes E.dialect E.views result (config_of E.views (turn.Asking (step.Run scope text owes)) machine.old (E.shown engine.old)) machine.new (E.shown engine.new) }
+    ensures makes { Makes (E.dialect engine.old) E.views result (config_of E.views (turn.Asking (step.Run scope text owes)) machine.old (E.shown engine.old)) machine.new (E.shown engine.new) }
     ensures leaves { E.leaves (is_io result) engine.old engine.new }
 {
     let depth = engine.depth(&machine.current);
@@ -168,7 +168,7 @@ pub(crate) fn evaluate<E: Engine>(
     owes: E::Owes,
 ) -> Result<Made<E::Scope, E::Owes, E::Loop>, Stop>
     requires { Fits (config_of E.views (turn.Asking (step.Evaluate text owes)) machine.old (E.shown engine.old)) }
-    ensures makes { Makes E.dialect E.views result (config_of E.views (turn.Asking (step.Evaluate text owes)) machine.old (E.shown engine.old)) machine.new (E.shown engine.new) }
+    ensures makes { Makes (E.dialect engine.old) E.views result (config_of E.views (turn.Asking (step.Evaluate text owes)) machine.old (E.shown engine.old)) machine.new (E.shown engine.new) }
     ensures leaves { E.leaves (is_io result) engine.old engine.new }
 {
     let depth = engine.depth(&machine.current);
@@ -186,7 +186,7 @@ pub(crate) fn pay<E: Engine>(
     turns: E::Loop,
 ) -> Result<Made<E::Scope, E::Owes, E::Loop>, Stop>
     requires { Fits (config_of E.views (turn.Asking (step.Pay turns)) machine.old (E.shown engine.old)) }
-    ensures makes { Makes E.dialect E.views result (config_of E.views (turn.Asking (step.Pay turns)) machine.old (E.shown engine.old)) machine.new (E.shown engine.new) }
+    ensures makes { Makes (E.dialect engine.old) E.views result (config_of E.views (turn.Asking (step.Pay turns)) machine.old (E.shown engine.old)) machine.new (E.shown engine.new) }
     ensures leaves { E.leaves (is_io result) engine.old engine.new }
 {
     if !engine.spend() {
@@ -204,7 +204,7 @@ pub(crate) fn ask<E: Engine>(
     asked: Step<E::Scope, E::Owes, E::Loop>,
 ) -> Result<Made<E::Scope, E::Owes, E::Loop>, Stop>
     requires { Fits (config_of E.views (turn.Asking asked) machine.old (E.shown engine.old)) }
-    ensures makes { Makes E.dialect E.views result (config_of E.views (turn.Asking asked) machine.old (E.shown engine.old)) machine.new (E.shown engine.new) }
+    ensures makes { Makes (E.dialect engine.old) E.views result (config_of E.views (turn.Asking asked) machine.old (E.shown engine.old)) machine.new (E.shown engine.new) }
     ensures leaves { E.leaves (is_io result) engine.old engine.new }
 {
     match asked {
@@ -224,7 +224,7 @@ pub(crate) fn end<E: Engine>(
 ) -> Result<Made<E::Scope, E::Owes, E::Loop>, Stop>
     requires fits { Fits (config_of E.views (turn.Ending completion) machine.old (E.shown engine.old)) }
     requires unwinds { Unwinds (config_of E.views (turn.Ending completion) machine.old (E.shown engine.old)) }
-    ensures makes { Makes E.dialect E.views result (config_of E.views (turn.Ending completion) machine.old (E.shown engine.old)) machine.new (E.shown engine.new) }
+    ensures makes { Makes (E.dialect engine.old) E.views result (config_of E.views (turn.Ending completion) machine.old (E.shown engine.old)) machine.new (E.shown engine.new) }
     ensures leaves { E.leaves (is_io result) engine.old engine.new }
 {
     match machine.callers.pop() {
@@ -248,7 +248,7 @@ pub(crate) fn make<E: Engine>(
 ) -> Result<Made<E::Scope, E::Owes, E::Loop>, Stop>
     requires fits { Fits (config_of E.views (now) machine.old (E.shown engine.old)) }
     requires unwinds { Unwinds (config_of E.views (now) machine.old (E.shown engine.old)) }
-    ensures makes { Makes E.dialect E.views result (config_of E.views (now) machine.old (E.shown engine.old)) machine.new (E.shown engine.new) }
+    ensures makes { Makes (E.dialect engine.old) E.views result (config_of E.views (now) machine.old (E.shown engine.old)) machine.new (E.shown engine.new) }
     ensures leaves { E.leaves (is_io result) engine.old engine.new }
 {
     match now {
@@ -266,7 +266,7 @@ pub(crate) fn go<E: Engine>(
 ) -> Result<Completion, Stop>
     requires fits { Fits (config_of E.views next.old machine.old (E.shown engine.old)) }
     requires unwinds { Unwinds (config_of E.views next.old machine.old (E.shown engine.old)) }
-    ensures ends { Ends E.dialect result (config_of E.views next.old machine.old (E.shown engine.old)) (config_of E.views next.new machine.new (E.shown engine.new)) }
+    ensures ends { Ends (E.dialect engine.old) result (config_of E.views next.old machine.old (E.shown engine.old)) (config_of E.views next.new machine.new (E.shown engine.new)) }
     ensures leaves { E.leaves (is_io result) engine.old engine.new }
 {
     let mut now = mem::replace(next, Turn::Next);
@@ -318,7 +318,7 @@ pub fn start<E: Engine>(
     depth: u64,
 ) -> Result<Paused<E::Activation, E::Undone, E::Scope, E::Owes, E::Loop>, AllocError>
     requires shallow { depth ≤ most_depth }
-    ensures begins { IfOk result (λ paused. Begins E.dialect script depth (seen E.views paused (E.shown engine.new))) }
+    ensures begins { IfOk result (λ paused. Begins (E.dialect engine.old) script depth (seen E.views paused (E.shown engine.new))) }
     ensures same { E.shown engine.new ≡ E.shown engine.old }
     ensures leaves { E.leaves false engine.old engine.new }
 {
@@ -334,7 +334,7 @@ pub fn resume<E: Engine>(
 ) -> Result<Completion, Stop>
     requires fits { Fits (seen E.views paused.old (E.shown engine.old)) }
     requires unwinds { Unwinds (seen E.views paused.old (E.shown engine.old)) }
-    ensures ends { Ends E.dialect result (seen E.views paused.old (E.shown engine.old)) (seen E.views paused.new (E.shown engine.new)) }
+    ensures ends { Ends (E.dialect engine.old) result (seen E.views paused.old (E.shown engine.old)) (seen E.views paused.new (E.shown engine.new)) }
     ensures leaves { E.leaves (is_io result) engine.old engine.new }
 {
     go(engine, &mut paused.machine, &mut paused.next)
@@ -349,7 +349,7 @@ pub fn run<E: Engine>(
     depth: u64,
 ) -> Result<Completion, Stop>
     requires shallow { depth ≤ most_depth }
-    ensures follows { Follows result (Run E.dialect (Script depth nothing script) (E.shown engine.old)) (E.shown engine.new) }
+    ensures follows { Follows result (Run (E.dialect engine.old) (Script depth nothing script) (E.shown engine.old)) (E.shown engine.new) }
     ensures onward { Onward (E.shown engine.old) (E.shown engine.new) }
     ensures leaves { E.leaves (is_io result) engine.old engine.new }
 {

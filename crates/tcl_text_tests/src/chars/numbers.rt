@@ -63,6 +63,26 @@ fn number_forms(rt: HostRuntime) {
     assert!(rt; all_read(&none, Whole::Not));
 }
 
+/// Does each text read as this in Tcl 9?
+fn all_read_in_tcl_9(texts: &[&str], want: Whole) -> bool {
+    texts
+        .iter()
+        .all(|text| read_whole(text, Dialect::Tcl9) == want)
+}
+
+#[test]
+fn number_forms_of_tcl_9(rt: HostRuntime) {
+    let eights = ["8", "08", "0o10", "0x8", "0b1000", "+008", " 08\n"];
+    let tens = ["10", "010", "+0010", " 010 ", "0o12", "0xa"];
+    let none = ["0o8", "0b2", "08a", "0 8", "0_8", "0x", "0o", ""];
+    assert!(rt; all_read_in_tcl_9(&["0", "00", "-000", "0o0"], Whole::Number(0)));
+    assert!(rt; all_read_in_tcl_9(&eights, Whole::Number(8)));
+    assert!(rt; all_read_in_tcl_9(&tens, Whole::Number(10)));
+    assert!(rt; all_read_in_tcl_9(&["-08", "-0o10"], Whole::Number(-8)));
+    assert!(rt; all_read_in_tcl_9(&none, Whole::Not));
+    assert!(rt; all_read_in_tcl_9(&["009223372036854775808"], Whole::TooLarge));
+}
+
 /// Does each text read as this?
 fn all_mean(texts: &[&str], want: Truth) -> bool {
     texts
