@@ -10,8 +10,6 @@ mod hosts;
 #[cfg(test)]
 mod large;
 #[cfg(test)]
-mod pausing;
-#[cfg(test)]
 mod runs;
 #[cfg(test)]
 mod scripts;
