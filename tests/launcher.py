@@ -23,14 +23,16 @@ BUILT = re.compile(
 
 
 class Checkout:
-    """A checkout with two crates, and with a release of them if it is wanted."""
+    """A checkout with two crates, and with a release of them if it is wanted. What is run in it is written by processes of their
+    own: a file that this process has open for writing is held, for a moment, by whatever another check starts just then, and
+    can't be run as long as it is."""
 
     def __init__(self, room, released=True):
         self.room, self.top = room, f"{room}/top"
         for folder in ("top/crates/low/src", "top/crates/tclint/src", "top/docs", "top/tests", "bin"):
             os.makedirs(f"{room}/{folder}")
         for file in ("tclint", "docs/GATE.md", "tests/sources"):
-            shutil.copy(f"{TOP}/{file}", f"{self.top}/{file}")
+            subprocess.run(["cp", f"{TOP}/{file}", f"{self.top}/{file}"], check=True)
         write(self.top, "# NAME: the crates that it stands on\nlow:\ntclint: low\n", "crates.txt")
         for crate, file in (("low", "lib"), ("tclint", "main")):
             write(self.top, "old\n", f"crates/{crate}/src/{file}.rt")
@@ -41,7 +43,8 @@ class Checkout:
 
     def script(self, name, text):
         os.makedirs(os.path.dirname(f"{self.room}/{name}"), exist_ok=True)
-        os.chmod(f"{self.room}/{write(self.room, text, name)}", 0o755)
+        words = ["sh", "-c", 'cat >"$0" && chmod 755 "$0"', f"{self.room}/{name}"]
+        subprocess.run(words, input=text.encode(), check=True)
 
     def sum(self, **environment):
         by = dict(os.environ, **environment)
