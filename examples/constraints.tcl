@@ -7,10 +7,10 @@
 
 # Ports: direction, name, I/O standard, and the pins, the lowest bit first.
 set ports {
-    in   clk     LVCMOS33  W5
+    in   clk     LVCMOS33  Y5
     in   rst_n   LVCMOS33  U18
-    in   switch  LVCMOS33  {V17 V16 W16 W17}
-    out  led     LVCMOS33  {U16 E19 U19 V19 W18 U15}
+    in   switch  LVCMOS33  {V17 V16 Y16 Y17}
+    out  led     LVCMOS33  {U16 E19 U19 V19 Y18 U15}
     out  tx      LVCMOS18  A18
     in   rx      LVCMOS18  B18
 }

@@ -60,7 +60,7 @@ set rows {
     {PSU-1 B 4998 {ok, after 2 s}}
     {{Scope "old"} 1 -12 {noise; see note}}
     {{Load 10R} {} 0 { two spaces in front}}
-    {Chamber T1 85 "first line\nsecond \"line\""}
+    {Chamber TA 85 "first line\nsecond \"line\""}
     {{} {} {} {}}
 }
 set text ""
