@@ -149,6 +149,8 @@ deep_check("expression-of-signs", "puts [expr {" + "- " * LEVELS + "7}]\n", "7")
 deep_check("expression-of-signs-too-deep", "puts [expr {" + "- " * (LEVELS + 1) + "7}]\n", None, TOO_NESTED)
 deep_check("brackets", "puts " + "[set x " * LEVELS + "7" + "]" * LEVELS + "\n", "7")
 deep_check("brackets-too-deep", "puts " + "[set x " * (LEVELS + 1) + "7" + "]" * (LEVELS + 1) + "\n", None, TOO_NESTED)
+deep_check("brackets-of-concat", "puts " + "[concat " * LEVELS + "x" + "]" * LEVELS + "\n", "x")
+deep_check("brackets-of-concat-too-deep", "puts " + "[concat " * (LEVELS + 1) + "x" + "]" * (LEVELS + 1) + "\n", None, TOO_NESTED)
 
 for name, character, fault in [
     ("brackets", "[", TOO_NESTED),
@@ -174,6 +176,11 @@ deep_check("list-element", BRACES + "puts [string length [lindex $l 0 0 0]]\n", 
 deep_check("list-each", BRACES + "foreach x $l {puts [string length $x]}\n", str(2 * (MANY - 1)))
 deep_check("list-kept", BRACES + "lappend l a; lset l 1 b; puts [string length $l],[lindex $l 1]\n", f"{2 * MANY + 2},b")
 deep_check("list-written", BRACES + "puts [string length [list $l]],[string length [lreverse $l]]\n", f"{2 * MANY + 2},{2 * MANY}")
+
+# values that were built so, of which one is copied, changed and dropped; each step writes the whole text, so that more take too long
+BUILT = "for {set i 1} {$i < 2000} {incr i} {set x [%s $x]}; set y $x; %s; set x 1; puts %s; unset y\n"
+deep_check("list-built", "set x {{}}; " + BUILT % ("list", "lset y 0 0 a", "[llength $y],[lindex $y 0 0]"), "1,a")
+deep_check("dictionary-built", "set x {k {}}; " + BUILT % ("dict create k", "dict set y k k a", "[dict size $y],[dict get $y k k]"), "1,a")
 
 
 def main():

@@ -8,7 +8,7 @@ import time
 
 import casefile
 
-USAGE = b"usage: tclint ?-budget N? ?file arg ...?\n"
+USAGE = b"usage: tclint ?-tcl9? ?-budget N? ?-slice N? ?file arg ...?\n"
 IO_FAULT = b"read or write failed\n"
 SECONDS = 60
 TOP = os.path.dirname(os.path.dirname(os.path.realpath(__file__)))
@@ -26,10 +26,11 @@ class Result:
 
 
 class Program:
-    """A program under test."""
+    """A program under test, with what it finds in its environment beyond the usual."""
 
-    def __init__(self, path):
+    def __init__(self, path, settings=None):
         self.path = os.path.abspath(path) if os.path.exists(path) else path
+        self.settings = settings or {}
 
     def is_there(self):
         return subprocess.run(["sh", "-c", 'command -v "$0"', self.path], stdout=subprocess.DEVNULL).returncode == 0
@@ -42,7 +43,7 @@ class Program:
         return subprocess.Popen(
             [*by, self.path, *words],
             cwd=cwd,
-            env=dict(os.environ, LC_ALL="C.UTF-8"),
+            env=dict(os.environ, LC_ALL="C.UTF-8", **self.settings),
             stdin=subprocess.PIPE,
             stdout=stdout,
             stderr=stderr,
@@ -128,6 +129,27 @@ usage_check("budget-empty-alone", ["-budget", ""])
 usage_check("budget-one-too-many-alone", ["-budget", "9223372036854775808"])
 usage_check("budget-word", ["-budget", "x", "script.tcl"])
 usage_check("budget-empty", ["-budget", "", "script.tcl"])
+BEFORE_SLICE = [
+    ("slice", []),
+    ("slice-behind-budget", ["-budget", "5"]),
+    ("slice-behind-tcl9", ["-tcl9"]),
+    ("slice-behind-tcl9-and-budget", ["-tcl9", "-budget", "5"]),
+]
+for given, before in BEFORE_SLICE:
+    usage_check(f"{given}-alone", [*before, "-slice"])
+    usage_check(f"{given}-file-forgotten", [*before, "-slice", "5"])
+    usage_check(f"{given}-number-forgotten", [*before, "-slice", "script.tcl"])
+    usage_check(f"{given}-number-forgotten-argument", [*before, "-slice", "script.tcl", "x"])
+    usage_check(f"{given}-zero", [*before, "-slice", "0", "script.tcl"])
+    usage_check(f"{given}-zeros", [*before, "-slice", "000", "script.tcl"])
+    usage_check(f"{given}-empty", [*before, "-slice", "", "script.tcl"])
+    usage_check(f"{given}-negative", [*before, "-slice", "-1", "script.tcl"])
+    usage_check(f"{given}-signed", [*before, "-slice", "+1", "script.tcl"])
+    usage_check(f"{given}-hexadecimal", [*before, "-slice", "0x10", "script.tcl"])
+    usage_check(f"{given}-one-too-many", [*before, "-slice", "9223372036854775808", "script.tcl"])
+    usage_check(f"{given}-before-file", [*before, "-slice", "0", "nosuch.tcl"])
+usage_check("slice-behind-bad-budget", ["-budget", "x", "-slice", "5", "script.tcl"])
+usage_check("slice-between", ["-budget", "-slice", "5", "script.tcl"])
 usage_check("budget-negative", ["-budget", "-1", "script.tcl"])
 usage_check("budget-signed", ["-budget", "+1", "script.tcl"])
 usage_check("budget-space", ["-budget", " 1", "script.tcl"])
@@ -138,8 +160,50 @@ usage_check("budget-very-large", ["-budget", "9" * 1000, "script.tcl"])
 usage_check("budget-other-digits", ["-budget", "\u0663", "script.tcl"])
 usage_check("budget-file-forgotten", ["-budget", "script.tcl"])
 usage_check("before-file", ["-budget", "x", "nosuch.tcl"])
+usage_check("budget-word-behind-tcl9", ["-tcl9", "-budget", "x", "script.tcl"])
+usage_check("budget-alone-behind-tcl9", ["-tcl9", "-budget"])
+usage_check("budget-file-forgotten-behind-tcl9", ["-tcl9", "-budget", "script.tcl"])
+BEFORE_TCL9 = [
+    ("tcl9", ["-tcl9"]),
+    ("budget", ["-budget", "5"]),
+    ("slice", ["-slice", "5"]),
+    ("budget-and-slice", ["-budget", "5", "-slice", "5"]),
+    ("tcl9-and-budget", ["-tcl9", "-budget", "5"]),
+    ("tcl9-and-slice", ["-tcl9", "-slice", "5"]),
+]
+for given, before in BEFORE_TCL9:
+    usage_check(f"tcl9-behind-{given}", [*before, "-tcl9"])
+    usage_check(f"tcl9-behind-{given}-before-file", [*before, "-tcl9", "script.tcl"])
+usage_check("tcl9-in-place-of-a-budget", ["-budget", "-tcl9", "script.tcl"])
+usage_check("tcl9-in-place-of-a-slice", ["-slice", "-tcl9", "script.tcl"])
+usage_check("tcl9-word-not-utf8", ["-tcl9", b"\xff"])
 usage_check("word-not-utf8", [b"\xff"])
 usage_check("word-not-utf8-behind-file", ["script.tcl", b"\xff"])
+
+
+@check("usage/slice-twice")
+def _(tested, room):
+    write(room, "puts [list $argv0 $argv]\n", "-slice")
+    expect(tested.run(["-slice", "5", "-slice", "6"], room), 0, b"-slice 6\n")
+
+
+@check("usage/slice-before-budget")
+def _(tested, room):
+    write(room, "puts [list $argv0 $argv]\n", "-budget")
+    expect(tested.run(["-slice", "5", "-budget", "0", "f"], room), 0, b"-budget {0 f}\n")
+
+
+@check("usage/slice-behind-file")
+def _(tested, room):
+    write(room, "puts [list $argv0 $argv]\n")
+    expect(tested.run(["script.tcl", "-slice", "0"], room), 0, b"script.tcl {-slice 0}\n")
+
+
+@check("usage/tcl9-behind-file")
+def _(tested, room):
+    write(room, "puts [list $argv0 $argv [expr {010}]]\n")
+    expect(tested.run(["script.tcl", "-tcl9"], room), 0, b"script.tcl -tcl9 8\n")
+    expect(tested.run(["-tcl9", "script.tcl", "-tcl9"], room), 0, b"script.tcl -tcl9 10\n")
 
 
 def unreadable_check(name, path, message=None):
@@ -156,6 +220,9 @@ unreadable_check("empty-name", "")
 unreadable_check("folder", "folder")
 unreadable_check("below-a-file", "script.tcl/x")
 unreadable_check("name-like-an-option", "-x")
+unreadable_check("name-like-tcl9", "-tcl8")
+unreadable_check("name-like-tcl9-in-capitals", "-TCL9")
+unreadable_check("name-like-tcl9-and-more", "-tcl90")
 unreadable_check("name-too-long", "x" * 5000)
 unreadable_check("name-past-ascii", "é €.tcl")
 
@@ -163,6 +230,11 @@ unreadable_check("name-past-ascii", "é €.tcl")
 @check("file/missing-after-budget")
 def _(tested, room):
     expect(tested.run(["-budget", "1", "nosuch.tcl"], room), 5, b"", b'couldn\'t read file "nosuch.tcl"\n')
+
+
+@check("file/missing-after-tcl9")
+def _(tested, room):
+    expect(tested.run(["-tcl9", "nosuch.tcl"], room), 5, b"", b'couldn\'t read file "nosuch.tcl"\n')
 
 
 def not_utf8_check(name, text):
@@ -379,6 +451,11 @@ session_check("budget-enough", b"set x 1\nset y 2\n", b"% 1\n% 2\n% ", words=["-
 session_check("budget-in-a-loop", b"set i 0\nwhile 1 {incr i}\n", b"% 0\n% ", b"budget spent\n", 2, ["-budget", "1000"])
 session_check("words", b"puts $argv0|$argv|$argc\n", b"% tclint||0\n% ")
 session_check("words-with-budget", b"puts $argv0|$argv|$argc\n", b"% tclint||0\n% ", words=["-budget", "9"])
+session_check("words-with-tcl9", b"puts $argv0|$argv|$argc|[expr 010]\n", b"% tclint||0|10\n% ", words=["-tcl9"])
+session_check("numbers", b"expr {010 + 1}\nset x 08\nincr x\n", b"% 9\n% 08\n% % ", b'expected integer but got "08"\n')
+session_check("numbers-with-tcl9", b"expr {010 + 1}\nset x 08\nincr x\n", b"% 11\n% 08\n% 9\n% ", words=["-tcl9"])
+session_check("budget-with-tcl9", b"expr 08\nset y 2\n", b"% 8\n% ", b"budget spent\n", 2, ["-tcl9", "-budget", "01"])
+session_check("empty-input-with-tcl9", b"", b"% ", words=["-tcl9"])
 session_check("input-taken-by-a-script", b"gets stdin l\ndata\nputs $l\n", b"% 4\n% data\n% ")
 session_check("input-taken-whole", b"puts [string length [read stdin]]\nab\nc", b"% 4\n% ")
 session_check("input-end-met-by-a-script", b"gets stdin l", b"% -1\n% ")
@@ -568,6 +645,7 @@ def status_stays_check(name, words, status, stdout):
 status_stays_check("message", ["script.tcl"], 1, b"a\n")
 status_stays_check("budget", ["-budget", "0", "script.tcl"], 2, b"")
 status_stays_check("usage", ["-budget"], 5, b"")
+status_stays_check("usage-of-tcl9", ["-tcl9", "-tcl9"], 5, b"")
 status_stays_check("file", ["nosuch.tcl"], 5, b"")
 status_stays_check("not-utf8", ["bytes.tcl"], 5, b"")
 
@@ -597,6 +675,28 @@ def _(tested, room):
     closed = by_shell('exec "$0" "$@" <&-')
     expect(run_text(tested, room, "puts a\n", by=closed), 0, b"a\n")
 
+
+def device_check(name, text, redirection, status, stdout=b"", stderr=IO_FAULT, words=()):
+    @check(f"devices/{name}")
+    def _(tested, room):
+        by = by_shell(f'exec "$0" "$@" {redirection}')
+        expect(tested.run([*words, write(room, text)], room, by=by), status, stdout, stderr)
+
+
+# the script's file may get the number of a stream that is closed: nothing of it is read or written as the stream
+device_check("input-closed-and-asked", "puts a\ngets stdin l\nputs $l\n", "<&-", 4, b"a\n")
+device_check("input-closed-and-read", "puts a\nputs [read stdin]\n", "<&-", 4, b"a\n")
+device_check("input-for-writing-alone", "puts a\ngets stdin l\n", "0>/dev/null", 4, b"a\n")
+device_check("input-is-a-folder-and-read", "puts a; catch {read stdin}; puts b", "<.", 4, b"a\n")
+device_check("input-is-a-folder-and-unasked", "puts a\n", "<.", 0, b"a\n", b"")
+device_check("input-is-a-folder-in-slices", "puts a; catch {gets stdin}; puts b", "<.", 4, b"a\n", words=["-slice", "1"])
+device_check("output-closed-and-nothing-to-write", "set x 1\n", ">&-", 0, stderr=b"")
+device_check("output-closed-and-errors-written", "puts stderr a\nputs b\n", ">&-", 4, stderr=b"a\n" + IO_FAULT)
+device_check("output-for-reading-alone", "puts a\n", "1</dev/null", 4)
+device_check("output-full-in-slices", "catch {puts a}; puts stderr no", ">/dev/full", 4, words=["-slice", "1"])
+device_check("errors-closed-in-slices", "puts a; catch {puts stderr b}; puts c", "2>&-", 4, b"a\n", b"", ["-slice", "1"])
+device_check("all-closed", "puts a\n", "<&- >&- 2>&-", 4, stderr=b"")
+device_check("all-closed-and-none-used", "set x 1\n", "<&- >&- 2>&-", 0, stderr=b"")
 
 # ---- memory
 

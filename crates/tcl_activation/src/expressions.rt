@@ -94,7 +94,7 @@ impl Stack {
         self.put(alloc, answer)
     }
 
-    /// A function of so many texts.
+    /// Applies a function to the top `count` texts.
     pub fn apply(
         &mut self,
         alloc: Global,

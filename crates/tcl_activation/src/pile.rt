@@ -25,7 +25,7 @@ impl<T> Model for Pile<T> {
 }
 
 impl<T: Drop> Pile<T> {
-    /// With nothing on it.
+    /// A pile with nothing on it.
     pub fn new(alloc: Global) -> Pile<T>
         ensures { result ≡ [] }
     {
@@ -34,7 +34,7 @@ impl<T: Drop> Pile<T> {
         }
     }
 
-    /// With nothing on it, and room for so many.
+    /// A pile with nothing on it, and room for `count` items.
     pub fn with_room(alloc: Global, count: u32) -> Result<Pile<T>, AllocError>
         ensures { IfOk result (λ p. p ≡ []) }
     {
@@ -71,7 +71,7 @@ impl<T: Drop> Pile<T> {
         self.items.append(items)
     }
 
-    /// Lends so many on top, which stand in the order in which they came.
+    /// Lends the top `count` items, in the order in which they came.
     pub fn top(&mut self, count: usize) -> &mut [T]
         requires { count ≤ length self.old }
         ensures* writes_back { sem 𝓛 (LendsTop T.row self.entry count result) }
@@ -81,7 +81,7 @@ impl<T: Drop> Pile<T> {
         self.items.slice_mut(left..)
     }
 
-    /// So many on top are taken away.
+    /// Drops the top `count` items.
     pub fn truncate(&mut self, count: usize)
         requires { count ≤ length self.old }
         ensures { self.new ≡ drop count self.old }
@@ -91,7 +91,7 @@ impl<T: Drop> Pile<T> {
     }
 
     #[tactic(auto, using(crate::proofs::Lifting::lifted))]
-    /// So many are taken from the top, and stand in the order in which they came.
+    /// Takes the top `count` items away and answers them, in the order in which they came.
     pub fn lift(&mut self, count: usize) -> Result<Vec<T>, AllocError>
         requires { count ≤ length self.old }
         ensures { IfOk result (λ v. Lifts count v.items self.old self.new) }

@@ -9,7 +9,7 @@ pub enum Progress {
     Spent,
     /// A unit has paid for a turn back.
     Turned,
-    /// The command of so many words is called, which lie on top of the texts and stay there.
+    /// A command is called: its words are this number of texts on top, and they stay there.
     Calls(usize),
     /// The code has ended so.
     Over(Completion),

@@ -81,7 +81,7 @@ impl Model for Results {
 }
 
 impl Results {
-    /// Of one script, which has run no command yet. There is room for so many scripts in brackets.
+    /// The results of one script, which has run no command yet. There is room for the scripts of `brackets` brackets.
     pub fn with_room(alloc: Global, brackets: u32) -> Result<Results, AllocError>
         ensures { IfOk result (λ results. results ≡ nothing ∷ []) }
     {
@@ -91,7 +91,7 @@ impl Results {
         })
     }
 
-    /// One more.
+    /// Adds the result of one more script.
     pub fn push(&mut self, last: Last) -> Result<(), AllocError>
         ensures { OnOk result (self.new ≡ last ∷ self.old) }
     {

@@ -65,7 +65,7 @@ pub struct Stack {
     pub depth: u32,
 }
 
-/// So many texts are taken from the top, the oldest first.
+/// Takes the top `count` texts away and answers them, the oldest first.
 #[tactic(auto, using(crate::proofs::Lifting::taken_lifted))]
 pub(crate) fn lifted(texts: &mut Pile<Value>, count: u32) -> Result<Vec<Value>, AllocError>
     requires { count ≤ length texts.old }

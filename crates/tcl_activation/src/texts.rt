@@ -85,7 +85,7 @@ impl Stack {
         self.read(alloc, frames, full)
     }
 
-    /// So many texts become one. One text alone stays as it is kept.
+    /// Joins the top `count` texts into one. One text alone stays as it is kept.
     #[tactic(auto, using(crate::proofs::Joining::one_goes))]
     pub fn join(&mut self, alloc: Global, count: u32) -> Result<(), AllocError>
         requires { count ≤ length self.old.texts }

@@ -24,7 +24,7 @@ pub enum Way {
     Over(Completion),
 }
 
-/// A unit is spent, if there is one.
+/// Spends a unit, if there is one, and tells whether there was.
 pub fn spend(units: &mut u64) -> bool
     ensures { Spends result units.old units.new }
 {
@@ -36,7 +36,7 @@ pub fn spend(units: &mut u64) -> bool
 }
 
 impl Stack {
-    /// Past instructions where the text on top has this truth value.
+    /// Takes the text on top: the code goes on past some instructions where it has the wanted truth value.
     pub fn skip_when(
         &mut self,
         alloc: Global,

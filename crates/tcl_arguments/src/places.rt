@@ -3,6 +3,7 @@
 ghost use Rattle.std.specs.Prelude.{◌≡◌, ◌+ℤ◌, pos};
 ghost use Rattle.std.specs.Str.{chars};
 ghost use Rattle.tcl_chars.specs.Answers.{Answers};
+ghost use Rattle.tcl_chars.specs.Index.{clamp};
 ghost use Rattle.tcl_pages.specs.Lists as spec;
 
 use std::alloc::Global;
@@ -20,22 +21,9 @@ pub fn index_of(alloc: Global, text: &str, count: usize, dialect: Dialect) -> Re
     Ok(place_of(position, count))
 }
 
-/// The place from 0 to `count` that is nearest.
-pub fn clamped(place: i128, count: usize) -> usize
-    ensures { result ≡ spec.clamped place count }
-{
-    if place < 0 {
-        return 0;
-    }
-    if place > i128::from(count as u64) {
-        return count;
-    }
-    place as usize
-}
-
 /// The place from 0 to `count` that is nearest to the one behind a place.
 pub fn behind(place: i128, count: usize) -> usize
-    ensures { result ≡ spec.clamped (place +ℤ pos 1) count }
+    ensures { result ≡ clamp (place +ℤ pos 1) count }
 {
     if place < 0 {
         return 0;

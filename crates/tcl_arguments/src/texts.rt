@@ -1,4 +1,4 @@
-//! The words as texts, of commands that take so many.
+//! The words of a command as texts, where it takes just this number of them.
 
 ghost use Rattle.std.specs.Prelude.{◌≡◌, ◌<◌, length, map, slice_get, IfOk, option_map};
 ghost use Rattle.std.specs.Str.{chars};

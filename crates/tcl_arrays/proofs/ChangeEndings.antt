@@ -15,8 +15,8 @@ use Rattle.tcl_meaning.specs.Value.{◌>>=◌, judged, make}
 use Rattle.tcl_meaning.specs.VariablePages.{array_set_page, array_unset_page, make_some}
 use Rattle.tcl_pages.specs.Answers.{Answer}
 use Rattle.tcl_pages.specs.Texts.{Text}
-use Rattle.tcl_vars.specs.Comes.{Comes, state_of}
-use Rattle.tcl_vars.specs.Ends.{Does, first_step}
+use Rattle.tcl_steps.specs.Comes.{Comes, state_of}
+use Rattle.tcl_steps.specs.Ends.{Does, first_step}
 
 -- ---- array set
 

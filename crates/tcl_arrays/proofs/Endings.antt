@@ -17,8 +17,8 @@ use Rattle.tcl_meaning.specs.VariablePages.{seen_page}
 use Rattle.tcl_meaning.specs.declared.page.SeenPage.{SeenPage}
 use Rattle.tcl_pages.specs.Answers.{Answer}
 use Rattle.tcl_pages.specs.Texts.{Text}
-use Rattle.tcl_vars.specs.Comes.{Comes, state_of}
-use Rattle.tcl_vars.specs.Ends.{Does, first_step}
+use Rattle.tcl_steps.specs.Comes.{Comes, state_of}
+use Rattle.tcl_steps.specs.Ends.{Does, first_step}
 
 -- what is done with an answer
 abbrev answered : Answer Text → Asks

@@ -6,7 +6,7 @@ ghost use Rattle.tcl_chars.specs.Texts.{text_of};
 ghost use Rattle.tcl_frames.specs.Standing.{store_of};
 ghost use Rattle.tcl_meaning.specs.Arrays as spec;
 ghost use Rattle.tcl_meaning.specs.VariablePages.{array_set_page, array_unset_page};
-ghost use Rattle.tcl_vars.specs.Ends.{Does};
+ghost use Rattle.tcl_steps.specs.Ends.{Does};
 
 use crate::arrays::names_in;
 use std::alloc::{AllocError, Global};
@@ -59,7 +59,7 @@ fn finished(alloc: Global, done: Result<(), Fault>) -> Result<Completion, AllocE
 ///
 /// # Errors
 ///
-/// `AllocError` where a growth was refused; some of the elements may be there then.
+/// `AllocError` where a growth was refused; the array is as it was then.
 pub fn array_set(
     alloc: Global,
     frames: &mut Frames,

@@ -6,7 +6,7 @@ ghost use Rattle.tcl_frames.specs.Standing.{store_of};
 ghost use Rattle.tcl_meaning.specs.SeenPages.{seen_answer};
 ghost use Rattle.tcl_meaning.specs.State.{Commands};
 ghost use Rattle.tcl_meaning.specs.VariablePages.{seen_page};
-ghost use Rattle.tcl_vars.specs.Ends.{Does};
+ghost use Rattle.tcl_steps.specs.Ends.{Does};
 
 use crate::arrays::{array_exists, array_get, array_names, array_size};
 use crate::frames::{info_exists, info_level, info_vars};

@@ -64,7 +64,7 @@ pub struct MemoryOutput {
 impl MemoryOutput {
     ghost use Rattle.tcl_chan.specs.Memories.{bytes_of, capacity_of, failures_of};
 
-    /// An output that can take so many bytes in all.
+    /// An output that can take `capacity` bytes in all.
     pub fn new(alloc: Global, capacity: usize) -> Result<MemoryOutput, AllocError>
         ensures empty { IfOk result (λ device. bytes_of device ≡ []) }
         ensures capacity { IfOk result (λ device. capacity_of device ≡ capacity) }

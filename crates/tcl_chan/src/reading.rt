@@ -104,8 +104,8 @@ impl Reader {
         first_char(rest, self.ended)
     }
 
-    // The text of so many characters or, where there are fewer, of all, how many of the held bytes it is, and whether there
-    // were fewer.
+    // The text of the next `count` characters, or of all that are left where there are fewer; how many of the held bytes it takes;
+    // and whether there were fewer.
     fn chars_ahead<R: Input>(
         &mut self,
         alloc: Global,
@@ -207,7 +207,7 @@ impl Reader {
         Ok(Some(text))
     }
 
-    /// Takes so many characters, or all that are left.
+    /// Takes `count` characters, or all that are left where there are fewer or no count is given.
     pub(crate) fn read<R: Input>(
         &mut self,
         alloc: Global,

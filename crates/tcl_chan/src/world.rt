@@ -168,7 +168,7 @@ impl<'input, 'out, 'err, R: Input, W: Output, E: Output> World<
         self.reader.gets(self.alloc, self.input)
     }
 
-    /// Takes so many characters of the input, or all that are left where it has fewer or no count is given (read(n)).
+    /// Takes `count` characters of the input, or all that are left where it has fewer or no count is given (read(n)).
     pub fn read(&mut self, count: Option<u64>) -> Result<RcStr<Global>, ChanFault>
         ensures text { IfSome (unread_of R.to_come self.old) (λ bytes. IfOk result (λ text.
             TakesText count bytes (met_end self.old) (rc_str_bytes text) (unread_of R.to_come self.new) (met_end self.new))) }

@@ -4,10 +4,10 @@ use Rattle.tcl_frames.specs.Standing.{Standing}
 use Rattle.tcl_meaning.specs.Asking.{Asks}
 use Rattle.tcl_meaning.specs.Completions.{Completion}
 use Rattle.tcl_steps.specs.declared.fault.Fault.{Fault}
-use Rattle.tcl_vars.specs.Ends.{EndsDone}
-use Rattle.tcl_vars.specs.declared.stop.Stop.{Stop}
-use Rattle.tcl_vars.specs.declared.stop.Stop.TheVariants as stop
-use Rattle.tcl_vars.proofs.FrameCounts.{comes_count}
+use Rattle.tcl_steps.specs.Ends.{EndsDone}
+use Rattle.tcl_steps.specs.declared.stop.Stop.{Stop}
+use Rattle.tcl_steps.specs.declared.stop.Stop.TheVariants as stop
+use Rattle.tcl_steps.proofs.FrameCounts.{comes_count}
 use Rattle.tcl_channels.specs.Orders.{Closed}
 
 pub closed_count : (page : Asks) (f g : Standing) (r : Result Completion Stop) (q : Result Completion Fault) → EndsDone page f r g → Closed r q → IfOk q (λ _. length g.frames ≡ length f.frames)

@@ -24,11 +24,11 @@ use Rattle.tcl_meaning.specs.Value.{Value, Has, Fails}
 use Rattle.tcl_meaning.specs.Variables.{set}
 use Rattle.tcl_pages.specs.Texts.{Text}
 use Rattle.tcl_steps.specs.declared.fault.Fault.{Fault}
-use Rattle.tcl_vars.proofs.Endings.{gives_on, has_on, fails_on}
-use Rattle.tcl_vars.specs.Comes.{Comes, state_of}
-use Rattle.tcl_vars.specs.Ends.{Ends, EndsDone, first_step}
-use Rattle.tcl_vars.specs.declared.stop.Stop.{Stop}
-use Rattle.tcl_vars.specs.declared.stop.Stop.TheVariants as stop
+use Rattle.tcl_steps.proofs.Endings.{gives_on, has_on, fails_on}
+use Rattle.tcl_steps.specs.Comes.{Comes, state_of}
+use Rattle.tcl_steps.specs.Ends.{Ends, EndsDone, first_step}
+use Rattle.tcl_steps.specs.declared.stop.Stop.{Stop}
+use Rattle.tcl_steps.specs.declared.stop.Stop.TheVariants as stop
 use Rattle.tcl_channels.proofs.ChannelLemmas.{outputs_stay}
 use Rattle.tcl_channels.proofs.TakeLemmas.{gets_works, broken_works}
 use Rattle.tcl_channels.specs.Orders.{from_input, gets_into, kept, line_said, Closed}

@@ -9,8 +9,8 @@ use Rattle.tcl_meaning.specs.Value.{Value, give, fail, judged, ◌>>=◌}
 use Rattle.tcl_pages.specs.Answers.{Answer}
 use Rattle.tcl_pages.specs.Texts.{Text}
 use Rattle.tcl_steps.specs.declared.fault.Fault.{Fault}
-use Rattle.tcl_vars.specs.declared.stop.Stop.{Stop}
-use Rattle.tcl_vars.specs.declared.stop.Stop.TheVariants as stop
+use Rattle.tcl_steps.specs.declared.stop.Stop.{Stop}
+use Rattle.tcl_steps.specs.declared.stop.Stop.TheVariants as stop
 use Rattle.tcl_channels.proofs.ChannelLemmas.{broken_at_once}
 use Rattle.tcl_channels.specs.Leaves.{is_io}
 use Rattle.tcl_channels.specs.Orders.{Orders, Tells, Halts, channel_at}

@@ -20,7 +20,7 @@ use Rattle.tcl_meaning.specs.Input.{Want, a_line, input_taken, left, meets_end}
 use Rattle.tcl_meaning.specs.State.{Channels, State, Store, with_input, with_channels}
 use Rattle.tcl_meaning.specs.Tasks.{Step, Done}
 use Rattle.tcl_pages.specs.Texts.{Text}
-use Rattle.tcl_vars.specs.Ends.{first_step}
+use Rattle.tcl_steps.specs.Ends.{first_step}
 use Rattle.tcl_chan.specs.declared.fault.ChanFault.{ChanFault}
 use Rattle.tcl_chan.specs.declared.fault.ChanFault.TheVariants as chan_fault
 use Rattle.tcl_steps.specs.Faults.{fault_by}

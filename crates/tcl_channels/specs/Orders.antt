@@ -13,8 +13,8 @@ use Rattle.tcl_pages.specs.Texts.{Text, count_text}
 use Rattle.tcl_steps.specs.declared.completion.Completion.{Completion}
 use Rattle.tcl_steps.specs.declared.fault.Fault.{Fault}
 use Rattle.tcl_steps.specs.declared.fault.Fault.TheVariants as fault
-use Rattle.tcl_vars.specs.declared.stop.Stop.{Stop}
-use Rattle.tcl_vars.specs.declared.stop.Stop.TheVariants as stop
+use Rattle.tcl_steps.specs.declared.stop.Stop.{Stop}
+use Rattle.tcl_steps.specs.declared.stop.Stop.TheVariants as stop
 use Rattle.tcl_channels.specs.Shown.{output_at}
 use Rattle.tcl_channels.specs.declared.names.Channel.{Channel as Named}
 use Rattle.tcl_channels.specs.declared.names.Channel.TheVariants as named
@@ -80,7 +80,7 @@ gets_into name = do
 
 -- ---- read
 
--- so many characters, or all
+-- a number of characters, or all
 abbrev pub want_of : Option ℕ → Want
 want_of None = everything
 want_of (Some n) = so_many n
@@ -93,7 +93,7 @@ read_from count newline = do
   t ← take_input (want_of count)
   done (normal (text_read newline t))
 
--- so many characters as a text says
+-- as many characters as a text says
 abbrev pub counted_page : Dialect → Text → Asks
 counted_page dialect count = do
   n ← judged (count_of dialect count)

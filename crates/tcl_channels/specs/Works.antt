@@ -9,8 +9,8 @@ use Rattle.tcl_meaning.specs.State.{Store, Channels, State, Commands}
 use Rattle.tcl_meaning.specs.Tasks.{Done}
 use Rattle.tcl_steps.specs.declared.fault.Fault.{Fault}
 use Rattle.tcl_steps.specs.declared.fault.Fault.TheVariants as fault
-use Rattle.tcl_vars.specs.Comes.{state_of}
-use Rattle.tcl_vars.specs.Ends.{first_step}
+use Rattle.tcl_steps.specs.Comes.{state_of}
+use Rattle.tcl_steps.specs.Ends.{first_step}
 use Rattle.tcl_channels.specs.Shown.{over}
 
 -- The page is done with this completion. Or it was broken off, as memory was refused or a device failed: then what was put out

@@ -4,7 +4,6 @@ ghost use Rattle.tcl_channels.specs.Leaves.{Leaves, is_io};
 ghost use Rattle.tcl_channels.specs.Leaving as leaving;
 ghost use Rattle.tcl_channels.specs.Shown.{channels_of};
 ghost use Rattle.tcl_channels.specs.Works.{WorksIn, WorksOver};
-ghost use Rattle.tcl_chars.specs.declared.numbers.Dialect.TheVariants as dialect;
 ghost use Rattle.tcl_meaning.specs.Beginnings.{OutputsBegin};
 ghost use Rattle.tcl_meaning.specs.Channels as spec;
 ghost use Rattle.tcl_meaning.specs.State.{Channels};
@@ -48,8 +47,13 @@ pub trait Devices {
         ensures leaves { leaves (is_io result) self.old self.new };
 
     /// `read channelId ?numChars?`, or `read -nonewline channelId`: takes characters of the input: read(n).
-    fn read(&mut self, alloc: Global, words: &mut [Value]) -> Result<Completion, Fault>
-        ensures works { WorksOver (spec.read_page dialect.Tcl86 words.old) (channels self.old) result (channels self.new) }
+    fn read(
+        &mut self,
+        alloc: Global,
+        dialect: Dialect,
+        words: &mut [Value],
+    ) -> Result<Completion, Fault>
+        ensures works { WorksOver (spec.read_page dialect words.old) (channels self.old) result (channels self.new) }
         ensures adds { OutputsBegin (channels self.old) (channels self.new) }
         ensures leaves { leaves (is_io result) self.old self.new };
 
@@ -89,8 +93,13 @@ impl<R: Input, W: Output, E: Output> Devices for World<'_, '_, '_, R, W, E> {
         gets_page(alloc, frames, self, words)
     }
 
-    fn read(&mut self, alloc: Global, words: &mut [Value]) -> Result<Completion, Fault> {
-        read_page(alloc, Dialect::Tcl86, self, words)
+    fn read(
+        &mut self,
+        alloc: Global,
+        dialect: Dialect,
+        words: &mut [Value],
+    ) -> Result<Completion, Fault> {
+        read_page(alloc, dialect, self, words)
     }
 
     fn eof(&self, alloc: Global, words: &mut [Value]) -> Result<Completion, Fault> {

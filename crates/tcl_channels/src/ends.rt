@@ -3,8 +3,7 @@ ghost use Rattle.std.specs.Prelude.{◌≡◌, false};
 ghost use Rattle.tcl_channels.specs.Leaves.{is_io};
 ghost use Rattle.tcl_channels.specs.Orders.{Closed, Halts};
 
-use tcl_steps::{Completion, Fault};
-use tcl_vars::Stop;
+use tcl_steps::{Completion, Fault, Stop};
 
 /// The script's error is the command's completion.
 pub(crate) fn halted(stop: Stop) -> Result<Completion, Fault>

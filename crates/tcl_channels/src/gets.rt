@@ -10,7 +10,7 @@ ghost use Rattle.tcl_channels.specs.Works.{WorksIn};
 ghost use Rattle.tcl_chars.specs.Texts.{text_of};
 ghost use Rattle.tcl_meaning.specs.Beginnings.{OutputsBegin};
 ghost use Rattle.tcl_meaning.specs.Channels as spec;
-ghost use Rattle.tcl_vars.specs.Ends.{EndsDone};
+ghost use Rattle.tcl_steps.specs.Ends.{EndsDone};
 
 use crate::ends::{closed, halted};
 use crate::names::input_named;
@@ -21,9 +21,11 @@ use tcl_chan::device::{Input, Output};
 use tcl_chan::world::World;
 use tcl_chars::message;
 use tcl_frames::Frames;
-use tcl_steps::{Completion, Fault};
+use tcl_steps::{Completion, Fault, Stop, assign};
 use tcl_values::Value;
-use tcl_vars::{Stop, assign};
+
+// How many bytes a long line has at least.
+const LONG: usize = 32;
 
 // The variable that `gets` is told to set, where the channel of a name is an input.
 fn told(alloc: Global, channel: &str, name: Option<RcStr>) -> Result<Option<RcStr>, Stop>
@@ -66,13 +68,23 @@ fn line_said(alloc: Global, line: &Option<RcStr>) -> Result<Value, AllocError>
     }
 }
 
+// The value of a line. What a long one is read as, as a list or as a dictionary, is kept for all who hold it.
+fn line_value(alloc: Global, line: RcStr) -> Result<Value, AllocError>
+    ensures { IfOk result (λ v. v ≡ text_of line) }
+{
+    if line.as_str().len() < LONG {
+        return Ok(Value::of_text(line));
+    }
+    Value::of_literal(alloc, line)
+}
+
 // The text of a line, which is empty where nothing was left.
 #[tactic(auto, using(crate::proofs::WordLemmas::no_chars))]
 fn line_text(alloc: Global, line: Option<RcStr>) -> Result<Value, AllocError>
     ensures { IfOk result (λ v. v ≡ or_empty (option_map text_of line)) }
 {
     match line {
-        Some(text) => Ok(Value::of_text(text)),
+        Some(text) => line_value(alloc, text),
         None => Ok(Value::of_text(message(alloc, "")?)),
     }
 }

@@ -22,11 +22,10 @@ use tcl_arguments::text_at;
 use tcl_chan::device::{Input, Output};
 use tcl_chan::world::World;
 use tcl_chars::{Dialect, Whole, message, read_whole, split_last};
-use tcl_steps::{Completion, Fault};
+use tcl_steps::{Completion, Fault, Stop};
 use tcl_values::Value;
-use tcl_vars::Stop;
 
-/// What `read` takes: so many characters, or all, with the newline at the end or without it.
+/// What `read` takes: a number of characters, or all, with the newline at the end or without it.
 #[derive(Drop)]
 pub(crate) struct Read {
     pub(crate) count: Option<u64>,
@@ -80,7 +79,7 @@ fn read_all(alloc: Global, channel: &str, newline: bool) -> Result<Read, Stop>
     })
 }
 
-// So many characters.
+// As many characters as a text says.
 fn counted(alloc: Global, dialect: Dialect, count: &str) -> Result<Read, Stop>
     ensures { Orders (λ read. read_from read.count read.newline) (counted_page dialect (chars count.now)) result }
 {
@@ -91,7 +90,7 @@ fn counted(alloc: Global, dialect: Dialect, count: &str) -> Result<Read, Stop>
     })
 }
 
-// So many characters of the channel of a name.
+// As many characters as a text says, of the channel of a name.
 fn read_some(alloc: Global, dialect: Dialect, channel: &str, count: &str) -> Result<Read, Stop>
     ensures { Orders (λ read. read_from read.count read.newline) (from_input (chars channel.now) (counted_page dialect (chars count.now))) result }
 {

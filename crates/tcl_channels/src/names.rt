@@ -8,8 +8,7 @@ ghost use Rattle.tcl_meaning.specs.Value.{judged};
 use std::alloc::{AllocError, Global};
 use tcl_chan::fault::Out;
 use tcl_chars::is_text;
-use tcl_steps::Completion;
-use tcl_vars::Stop;
+use tcl_steps::{Completion, Stop};
 
 /// The input of a script, or one of its outputs.
 pub(crate) enum Channel {

@@ -24,9 +24,8 @@ use tcl_chan::device::{Input, Output};
 use tcl_chan::fault::Out;
 use tcl_chan::world::World;
 use tcl_chars::{push, push_text};
-use tcl_steps::{Completion, Fault};
+use tcl_steps::{Completion, Fault, Stop};
 use tcl_values::Value;
-use tcl_vars::Stop;
 
 /// What `puts` writes, and where to.
 #[derive(Drop)]

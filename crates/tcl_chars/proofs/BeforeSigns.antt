@@ -12,7 +12,7 @@ use Rattle.tcl_chars.specs.Index.{has_space, to_sign}
 use Rattle.tcl_chars.specs.Place.{tail}
 use Rattle.tcl_chars.specs.Whole.{skip_space, is_only_space, sign_of, zero_radix, radix_behind_zero, radix_of, digits_len, numeral, signed, magnitude, whole_of}
 use Rattle.tcl_chars.specs.declared.numbers.Dialect.{Dialect}
-use Rattle.tcl_chars.specs.declared.numbers.Dialect.TheVariants.{Tcl86}
+use Rattle.tcl_chars.specs.declared.numbers.Dialect.TheVariants.{Tcl86, Tcl9}
 use Rattle.tcl_chars.specs.declared.numbers.Whole.TheVariants.{Number, Not}
 use Rattle.tcl_chars.proofs.Ends.{if_cond}
 use Rattle.tcl_chars.proofs.Figures.{whole_is}
@@ -97,6 +97,7 @@ cond_behind false x y u v r e f = f
 
 zero_radix_le : (dialect : Dialect) → zero_radix dialect ≤ 16
 zero_radix_le Tcl86 = omega arith
+zero_radix_le Tcl9 = omega arith
 
 radix_le : (dialect : Dialect) (cs : List ℕ) → (radix_of dialect cs).0 ≤ 16
 radix_le dialect [] = omega arith

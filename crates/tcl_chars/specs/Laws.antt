@@ -19,7 +19,7 @@ abbrev pub AllBlank : List ℕ → Type 0
 AllBlank [] = Unit {0}
 AllBlank (c ∷ cs) = (is_blank c ≡ true) × AllBlank cs
 
--- The character c behind a backslash, and the characters cs behind it, allow an escape of so many characters, the backslash
+-- The character c behind a backslash, and the characters cs behind it, allow an escape of this number of characters, the backslash
 -- among them: the character alone; a letter and digits; octal digits; a newline, and spaces and tabs.
 pub data IsEscape (c : ℕ) (cs : List ℕ) : ℕ → Type 0 where
   itself : IsEscape c cs 2

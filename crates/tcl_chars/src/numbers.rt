@@ -16,7 +16,10 @@ use std::rc::RcStr;
 /// Which texts are numbers.
 #[derive(Clone, Copy, Debug, PartialEq, Eq)]
 pub enum Dialect {
+    /// Of Tcl 8.6: digits behind a zero are octal.
     Tcl86,
+    /// Of Tcl 9: they are decimal, and `0o` alone begins an octal number.
+    Tcl9,
 }
 
 /// What a text says as a whole number.
@@ -97,6 +100,7 @@ fn zero_radix(dialect: Dialect) -> u32
 {
     match dialect {
         Dialect::Tcl86 => 8,
+        Dialect::Tcl9 => 10,
     }
 }
 

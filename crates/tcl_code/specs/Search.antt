@@ -13,7 +13,7 @@ abbrev pub EachTarget : (Target → Type 0) → List Target → Type 0
 EachTarget P [] = Unit {0}
 EachTarget P (k ∷ ks) = P k × EachTarget P ks
 
--- from a place in so many instructions, one leads inside
+-- an instruction that stands at this place of `count` instructions leads inside
 abbrev pub StaysInside : ℕ → ℕ → Instruction → Type 0
 StaysInside place count i = EachTarget (IsInside place count) (targets i) × EachTarget (IsInside place count) (inner_targets i)
 

@@ -84,7 +84,7 @@ impl Shape {
         }
     }
 
-    /// Is this the end of so many instructions, with nothing left?
+    /// Is this place the end of a code of `count` instructions, with nothing left?
     pub(crate) fn is_end(self, place: usize, count: usize) -> bool
         ensures { IsTrue result ↔ ((place ≡ count) × (self ≡ bare)) }
     {
@@ -117,7 +117,7 @@ impl Shape {
         }
     }
 
-    /// So many texts less, and then so many more.
+    /// With `less` texts taken away, and then `more` put there.
     fn with_texts(self, less: u32, more: u32) -> Result<Shape, AllocError>
         ensures { IfOk result (λ s. s ≡ with_texts less more self) }
     {

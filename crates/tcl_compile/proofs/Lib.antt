@@ -5,6 +5,7 @@ pub mod Expressions
 pub mod Guarded
 pub mod Failing
 pub mod Inlined
+pub mod KeptLemmas
 pub mod Leaves
 pub mod Looping
 pub mod Operators

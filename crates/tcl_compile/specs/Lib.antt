@@ -2,5 +2,6 @@ pub mod Changes
 pub mod Emitted
 pub mod Fragments
 pub mod Inlining
+pub mod Kept
 pub mod Trees
 pub mod Within

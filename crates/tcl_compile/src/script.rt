@@ -103,7 +103,7 @@ fn emit_changed(
     emit_change(code, change, name)
 }
 
-// So many pieces are joined.
+// Emits that `count` pieces are joined.
 fn emit_join(code: &mut CodeBuilder, count: usize) -> Result<(), AllocError>
     ensures { OnOk result (code.new ≡ code.old ++ Join count ∷ []) }
 {
@@ -111,7 +111,7 @@ fn emit_join(code: &mut CodeBuilder, count: usize) -> Result<(), AllocError>
     code.emit(Instr::Join(count))
 }
 
-// The command of so many words.
+// Emits the call of a command of `count` words.
 fn emit_call(code: &mut CodeBuilder, count: usize) -> Result<(), AllocError>
     ensures { OnOk result (code.new ≡ code.old ++ Call count ∷ []) }
 {

@@ -97,7 +97,7 @@ fn emit_call(
     emit_apply(code, function, arguments.len())
 }
 
-// A function of so many texts.
+// Emits a function of `count` texts.
 fn emit_apply(code: &mut CodeBuilder, function: Function, count: usize) -> Result<(), AllocError>
     ensures { OnOk result (code.new ≡ code.old ++ Apply function count ∷ []) }
 {

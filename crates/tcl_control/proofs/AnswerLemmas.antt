@@ -2,7 +2,7 @@
 use Rattle.std.proofs.Common.{◌≡◌, Bool, false, List, [], ◌∷◌, Some, Ok, Err, ap, ◌∙◌, refl}
 use Rattle.std.specs.Prelude.{Option}
 use Rattle.tcl_chars.specs.declared.numbers.Dialect.{Dialect}
-use Rattle.tcl_control.specs.Asked.{at_once}
+use Rattle.tcl_steps.specs.Asked.{at_once}
 use Rattle.tcl_control.specs.Switching.{body_among, body_behind, switch_body}
 use Rattle.tcl_list.specs.Elements.{elements_of}
 use Rattle.tcl_meaning.specs.Asking.{Asks, done}

@@ -1,7 +1,7 @@
 -- The words of an if(n), read from the left.
 use Rattle.std.proofs.Common.{◌≡◌, ℕ, ◌+◌, ◌<◌, ◌≤◌, Bool, true, false, true≢false, List, [], ◌∷◌, ◌++◌, Some, None, length, drop, sym, subst, ap, ◌∙◌, refl, arith}
 use Rattle.std.specs.Prelude.{Option, if◌then◌else◌}
-use Rattle.tcl_control.specs.Asked.{word}
+use Rattle.tcl_arguments.specs.WordAt.{word}
 use Rattle.tcl_chars.specs.Texts.{literal}
 use Rattle.tcl_control.specs.Choices.{body_offset, goes_on, one_body, last_of, with_last, with_clauses}
 use Rattle.tcl_meaning.specs.Control.{if_page, if_shaped}

@@ -6,7 +6,8 @@ use Rattle.std.specs.declared.rc.RcStr.{RcStr}
 use Rattle.tcl_chars.specs.Answers.{Stops}
 use Rattle.tcl_chars.specs.declared.fault.Fault.{Fault}
 use Rattle.tcl_chars.specs.declared.fault.Fault.TheVariants as fault
-use Rattle.tcl_control.specs.Asked.{at_once, word}
+use Rattle.tcl_steps.specs.Asked.{at_once}
+use Rattle.tcl_arguments.specs.WordAt.{word}
 use Rattle.tcl_chars.specs.Texts.{literal, text_of}
 use Rattle.tcl_chars.specs.declared.numbers.Dialect.{Dialect}
 use Rattle.tcl_meaning.specs.Asking.{Asks, usage}

@@ -1,6 +1,7 @@
 pub mod AnswerLemmas
 pub mod ChoiceLemmas
 pub mod ExitLemmas
+pub mod HandlerLemmas
 pub mod OptionJoins
 pub mod OptionSizes
 pub mod PageLemmas
@@ -9,3 +10,4 @@ pub mod SwitchChoices
 pub mod SwitchOptions
 pub mod SwitchPairs
 pub mod TestLemmas
+pub mod TryLemmas

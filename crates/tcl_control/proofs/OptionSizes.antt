@@ -9,8 +9,9 @@ use Rattle.tcl_list.proofs.Forward.{escape_shrinks}
 use Rattle.tcl_list.proofs.OneList.{reading_is_spelling}
 use Rattle.tcl_meaning.specs.Codes.{size_of}
 use Rattle.tcl_pages.specs.Answers.{Answer, ◌>>=◌}
-use Rattle.tcl_pages.specs.Dictionaries.{Pairs, put_key, put_keys, with_pair, in_pairs, pairs_of}
+use Rattle.tcl_pages.specs.Dictionaries.{Pairs, put_key, put_keys, in_pairs, pairs_of}
 use Rattle.tcl_pages.specs.Texts.{Text, same_text}
+use Rattle.tcl_pages.proofs.InPairs.{with_pair, pair_ahead}
 
 -- ---- elements
 
@@ -65,7 +66,7 @@ pairs_size [] ps e =
     let none : [] ≡ ps = cc in
     subst (λ qs. size_of qs ≤ 0) none (omega arith)
 pairs_size (k ∷ []) ps e = absurd cc
-pairs_size (k ∷ v ∷ es) ps e = first_pair k v (in_pairs es) ps (from_key es) e (λ more h. pairs_size es more h)
+pairs_size (k ∷ v ∷ es) ps e = first_pair k v (in_pairs es) ps (from_key es) (sym (pair_ahead _ k v es) ∙ e) (λ more h. pairs_size es more h)
 
 -- ---- a key that comes again
 

@@ -1,6 +1,6 @@
 -- What pages ask for, by the count of their words.
 use Rattle.std.proofs.Common.{◌≡◌, ◌≢◌, ◌≤◌, ◌<◌, List, [], ◌∷◌, length, drop, sym, ap, ◌∙◌, refl, arith}
-use Rattle.tcl_control.specs.Asked.{word}
+use Rattle.tcl_arguments.specs.WordAt.{word}
 use Rattle.tcl_chars.specs.Texts.{literal}
 use Rattle.tcl_chars.specs.declared.numbers.Dialect.{Dialect}
 use Rattle.tcl_control.specs.Codes.{options_given}
@@ -11,7 +11,7 @@ use Rattle.tcl_meaning.specs.Control.{while_page, while_next, for_page, eval_pag
 use Rattle.tcl_meaning.specs.Effects.{Here}
 use Rattle.tcl_meaning.specs.Tasks.{Run, Evaluate, Nothing, ForStart, Catching}
 use Rattle.tcl_meaning.specs.declared.code.Code.TheVariants as code
-use Rattle.tcl_pages.specs.Lists.{one_text, concat}
+use Rattle.tcl_pages.specs.Lists.{one_text}
 use Rattle.tcl_pages.specs.Texts.{Text}
 
 -- ---- while, for
@@ -85,16 +85,6 @@ eval_asks ws script h e = eval_is ws h ∙ sym (ap (λ z. ask (Run Here z Nothin
 
 pub expr_asks : (ws : List Text) (expr : Text) → length ws ≢ 0 → expr ≡ one_text ws → expr_page ws ≡ ask (Evaluate expr Nothing)
 expr_asks ws expr h e = expr_is ws h ∙ sym (ap (λ z. ask (Evaluate z Nothing)) e)
-
-pub one_is : (ws : List Text) → length ws ≡ 1 → one_text ws ≡ word ws 0
-one_is [] h = absurd (omega arith)
-one_is (a ∷ []) h = refl
-one_is (a ∷ b ∷ ws) h = absurd (omega arith)
-
-pub several_are : (ws : List Text) → length ws ≢ 1 → one_text ws ≡ concat ws
-several_are [] h = refl
-several_are (a ∷ []) h = absurd (h refl)
-several_are (a ∷ b ∷ ws) h = refl
 
 -- ---- break, continue
 

@@ -7,7 +7,7 @@ use Rattle.tcl_chars.specs.Texts.{literal}
 use Rattle.tcl_chars.specs.Messages.{whole_or}
 use Rattle.tcl_chars.specs.Whole.{whole_of}
 use Rattle.tcl_chars.specs.declared.numbers.Dialect.{Dialect}
-use Rattle.tcl_control.specs.Asked.{word}
+use Rattle.tcl_arguments.specs.WordAt.{word}
 use Rattle.tcl_control.specs.Returning.{pair_at, code_named}
 use Rattle.tcl_meaning.specs.Codes.{return_shape, with_option, kept, all_options, code_option, level_option, return_of, return_completion, code_word, bad_code_word}
 use Rattle.tcl_meaning.specs.Codes as codes

@@ -3,7 +3,7 @@ use Rattle.std.proofs.Common.{◌≡◌, ℕ, zero, suc, ◌+◌, ◌-◌, ◌<�
 use Rattle.std.specs.Prelude.{if◌then◌else◌}
 use Rattle.tcl_chars.specs.Place.{begins}
 use Rattle.tcl_chars.specs.Texts.{literal}
-use Rattle.tcl_control.specs.Asked.{word}
+use Rattle.tcl_arguments.specs.WordAt.{word}
 use Rattle.tcl_meaning.specs.Shapes.{Switch, switch_words, switch_option, is_word}
 use Rattle.tcl_pages.specs.Answers.{Answer, ◌>>=◌}
 use Rattle.tcl_pages.specs.Texts.{Text}

@@ -4,8 +4,10 @@ use Rattle.std.specs.Prelude.{Option, ◌||◌, if◌then◌else◌}
 use Rattle.tcl_chars.specs.Texts.{literal}
 use Rattle.tcl_chars.specs.Messages.{about}
 use Rattle.tcl_control.proofs.SwitchOptions.{word_behind, drop_one}
-use Rattle.tcl_control.specs.Asked.{word}
-use Rattle.tcl_control.specs.Switching.{pairs_in, checked, body_among, body_behind, switch_form}
+use Rattle.tcl_steps.proofs.WordLemmas.{no_pairs}
+use Rattle.tcl_arguments.specs.WordAt.{word}
+use Rattle.tcl_steps.specs.Pairs.{pairs_in}
+use Rattle.tcl_control.specs.Switching.{checked, body_among, body_behind, switch_form}
 use Rattle.tcl_list.specs.Elements.{elements_of}
 use Rattle.tcl_meaning.specs.Control.{switch_usage}
 use Rattle.tcl_meaning.specs.Shapes.{is_word, paired, with_pattern, odd_pattern, is_dash, no_body, last_checked, body_from, is_default, matches, chosen}
@@ -18,11 +20,6 @@ pairs_step : (ws : List Text) → 1 < length ws → pairs_in ws ≡ (word ws 0, 
 pairs_step [] h = absurd (omega arith)
 pairs_step (a ∷ []) h = absurd (omega arith)
 pairs_step (a ∷ b ∷ ws) h = refl
-
-pub no_pairs : (ws : List Text) → length ws ≤ 1 → pairs_in ws ≡ []
-no_pairs [] h = refl
-no_pairs (a ∷ []) h = refl
-no_pairs (a ∷ b ∷ ws) h = absurd (omega arith)
 
 -- ---- the body of a pattern
 

@@ -1,6 +1,7 @@
 -- What follows a condition, and a completion.
 use Rattle.std.proofs.Common.{◌≡◌, ◌≢◌, true, false, Some, ap, ◌∙◌, refl}
-use Rattle.tcl_control.specs.Asked.{at_once, by_test}
+use Rattle.tcl_steps.specs.Asked.{at_once}
+use Rattle.tcl_control.specs.Conditions.{by_test}
 use Rattle.tcl_control.specs.declared.conditions.Condition.{Condition}
 use Rattle.tcl_control.specs.declared.conditions.Condition.TheVariants as condition
 use Rattle.tcl_meaning.specs.Asking.{Asks}

@@ -1,5 +1,6 @@
-pub mod Asked
 pub mod Choices
+pub mod Clauses
 pub mod Codes
+pub mod Conditions
 pub mod Returning
 pub mod Switching

@@ -8,11 +8,6 @@ use Rattle.tcl_meaning.specs.Shapes.{switch_words, paired, last_checked, chosen}
 use Rattle.tcl_pages.specs.Answers.{Answer, ◌>>=◌}
 use Rattle.tcl_pages.specs.Texts.{Text}
 
--- patterns with their bodies
-abbrev pub pairs_in : List Text → List (Text × Text)
-pairs_in (pattern ∷ body ∷ ws) = (pattern, body) ∷ pairs_in ws
-pairs_in _ = []
-
 -- are these pairs, and the last body one
 abbrev pub checked : List Text → Answer (Unit {0})
 checked ws = paired ws >>= last_checked

@@ -1,16 +1,16 @@
 //! The words of if(n), which are read before any condition is evaluated.
 ghost use Rattle.std.specs.Prelude.{◌≡◌, ◌≤◌, length, drop, option_map, IfOk};
 ghost use Rattle.std.specs.Str.{chars};
-ghost use Rattle.tcl_control.specs.Asked.{IsAsked};
+ghost use Rattle.tcl_steps.specs.Asked.{IsAsked};
 ghost use Rattle.tcl_control.specs.Choices.{body_offset, goes_on, one_body, last_of, with_last};
 ghost use Rattle.tcl_meaning.specs.Control as spec;
 ghost use Rattle.tcl_meaning.specs.Shapes as shapes;
 ghost use Rattle.tcl_steps.specs.Views.{others_of};
 
-use crate::answers::{is_word, usage, word_at, words_behind};
+use crate::answers::{word_at, words_behind};
 use crate::conditions::next_clause;
 use std::alloc::{AllocError, Global};
-use tcl_steps::{Loop, Others, Owes, Scope, Step};
+use tcl_steps::{Loop, Others, Owes, Scope, Step, is_word, usage};
 use tcl_values::Value;
 
 // How far behind the condition in front its body stands: a `then` may stand between.

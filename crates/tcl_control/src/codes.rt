@@ -1,18 +1,18 @@
 //! Commands of codes: break(n), continue(n), error(n), catch(n).
 ghost use Rattle.std.specs.Prelude.{◌≡◌, ◌≤◌, length, drop, [], IfOk};
 ghost use Rattle.tcl_chars.specs.Texts.{literal};
-ghost use Rattle.tcl_control.specs.Asked.{IsAsked};
+ghost use Rattle.tcl_steps.specs.Asked.{IsAsked};
 ghost use Rattle.tcl_control.specs.Codes.{options_given};
 ghost use Rattle.tcl_meaning.specs.Asking as asking;
 ghost use Rattle.tcl_meaning.specs.CodePages as spec;
 ghost use Rattle.tcl_meaning.specs.Completions.{ended};
 ghost use Rattle.std.specs.Str.{chars};
 
-use crate::answers::{usage, word_at};
+use crate::answers::word_at;
 use std::alloc::{AllocError, Global};
 use tcl_chars::message;
 use tcl_meaning::Code;
-use tcl_steps::{Completion, Loop, Owes, Scope, Step};
+use tcl_steps::{Completion, Loop, Owes, Scope, Step, usage};
 use tcl_values::Value;
 
 // A command is done, with a code and no result.
@@ -43,8 +43,8 @@ pub fn continue_page(alloc: Global, words: &[Value]) -> Result<Step<Scope, Owes,
     usage(alloc, "continue")
 }
 
-// The option of a name.
-fn option(alloc: Global, name: &str, value: Value) -> Result<(Value, Value), AllocError>
+/// The option of a name.
+pub(crate) fn option(alloc: Global, name: &str, value: Value) -> Result<(Value, Value), AllocError>
     ensures { IfOk result (λ option. option ≡ (chars name.now, value)) }
 {
     Ok((Value::of_text(message(alloc, name)?), value))

@@ -1,6 +1,7 @@
 //! Conditions: if(n), while(n), for(n).
 ghost use Rattle.std.specs.Prelude.{◌≡◌, drop, IfOk};
-ghost use Rattle.tcl_control.specs.Asked.{IsAsked, by_test};
+ghost use Rattle.tcl_steps.specs.Asked.{IsAsked};
+ghost use Rattle.tcl_control.specs.Conditions.{by_test};
 ghost use Rattle.tcl_meaning.specs.Asking.{Asks};
 ghost use Rattle.tcl_meaning.specs.Control as spec;
 ghost use Rattle.tcl_steps.specs.Views.{others_of};

@@ -1,17 +1,17 @@
 //! Scripts and expressions that words make: eval(n), expr(n).
 ghost use Rattle.std.specs.Prelude.{◌≡◌, IfOk};
-ghost use Rattle.tcl_control.specs.Asked.{IsAsked};
+ghost use Rattle.tcl_steps.specs.Asked.{IsAsked};
 ghost use Rattle.tcl_meaning.specs.Control as spec;
 ghost use Rattle.tcl_pages.specs.Lists as lists;
 
-use crate::answers::{usage, word_at};
+use crate::answers::word_at;
 use std::alloc::{AllocError, Global};
 use tcl_lists::concat;
-use tcl_steps::{Loop, Owes, Scope, Step};
+use tcl_steps::{Loop, Owes, Scope, Step, usage};
 use tcl_values::Value;
 
 // The words as one text: one word as it is, several as concat(n) joins them.
-#[tactic(auto, using(crate::proofs::PageLemmas::one_is, crate::proofs::PageLemmas::several_are))]
+#[tactic(auto, using(tcl_steps::proofs::WordLemmas::one_is, tcl_steps::proofs::WordLemmas::several_are))]
 fn one_text(alloc: Global, words: &mut [Value]) -> Result<Value, AllocError>
     ensures { IfOk result (λ text. text ≡ lists.one_text words.old) }
 {

@@ -3,16 +3,16 @@ ghost use Rattle.std.specs.Prelude.{◌≡◌, IfOk};
 ghost use Rattle.tcl_chars.specs.Answers.{Answers};
 ghost use Rattle.std.specs.Str.{chars};
 ghost use Rattle.tcl_chars.specs.Texts.{text_of};
-ghost use Rattle.tcl_control.specs.Asked.{IsAskedOrExits};
+ghost use Rattle.tcl_steps.specs.Asked.{IsAskedOrExits};
 ghost use Rattle.tcl_meaning.specs.CodePages as spec;
 ghost use Rattle.tcl_meaning.specs.Codes as codes;
 
-use crate::answers::{usage, word_at};
+use crate::answers::word_at;
 use crate::numbers::whole_or;
 use std::alloc::{AllocError, Global};
 use std::rc::RcStr;
 use tcl_chars::{Dialect, about};
-use tcl_steps::{Completion, Fault, Loop, Owes, Scope, Step};
+use tcl_steps::{Completion, Fault, Loop, Owes, Scope, Step, usage};
 use tcl_values::Value;
 
 // What is said of a word that is no status.

@@ -1,5 +1,5 @@
 //! Commands that decide what is run: if(n), while(n), for(n), switch(n), eval(n), expr(n), catch(n), return(n), error(n),
-//! break(n), continue(n), exit(n). Each is a function from the words behind its name to what it asks for, or from what it owed
+//! break(n), continue(n), exit(n), throw(n), try(n). Each is a function from the words behind its name to what it asks for, or from what it owed
 //! to what it asks for then.
 #![tactic(auto)]
 
@@ -9,10 +9,12 @@ mod codes;
 mod conditions;
 mod evaluation;
 mod exiting;
+mod handlers;
 mod loops;
 mod numbers;
 mod returning;
 mod switching;
+mod trying;
 
 pub use choices::if_page;
 pub use codes::{break_page, catch_page, continue_page, error_page};
@@ -25,3 +27,4 @@ pub use loops::{
 };
 pub use returning::return_page;
 pub use switching::switch_page;
+pub use trying::{after_finally, after_try, finish, throw_page, try_page};

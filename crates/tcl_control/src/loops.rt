@@ -1,18 +1,18 @@
 //! Loops: while(n), for(n).
 ghost use Rattle.std.specs.Prelude.{◌≡◌};
-ghost use Rattle.tcl_control.specs.Asked.{IsAsked};
+ghost use Rattle.tcl_steps.specs.Asked.{IsAsked};
 ghost use Rattle.tcl_meaning.specs.Asking as asking;
 ghost use Rattle.tcl_meaning.specs.Control as spec;
 ghost use Rattle.tcl_meaning.specs.Tasks as tasks;
 ghost use Rattle.tcl_meaning.specs.Completions.{code_now};
 ghost use Rattle.tcl_chars.specs.declared.numbers.Dialect.{Dialect};
 
-use crate::answers::{done, usage, word_at};
+use crate::answers::{done, word_at};
 use crate::conditions::{Condition, tested};
 use std::alloc::{AllocError, Global};
 use tcl_chars::Dialect;
 use tcl_meaning::Code;
-use tcl_steps::{Completion, Loop, Owes, Scope, Step};
+use tcl_steps::{Completion, Loop, Owes, Scope, Step, usage};
 use tcl_values::Value;
 
 /// `while test command`: the condition is evaluated first.

@@ -5,7 +5,7 @@ ghost use Rattle.tcl_chars.specs.Answers.{Answers};
 ghost use Rattle.tcl_chars.specs.Messages.{whole_or};
 ghost use Rattle.tcl_chars.specs.Texts.{literal, text_of};
 ghost use Rattle.tcl_chars.specs.Whole.{whole_of};
-ghost use Rattle.tcl_control.specs.Asked.{IsAsked};
+ghost use Rattle.tcl_steps.specs.Asked.{IsAsked};
 ghost use Rattle.tcl_control.specs.Returning.{joined, Joins};
 ghost use Rattle.tcl_control.specs.Returning as spec;
 ghost use Rattle.tcl_meaning.specs.CodePages.{return_page};
@@ -14,14 +14,14 @@ ghost use Rattle.tcl_meaning.specs.Completions.{code_of};
 ghost use Rattle.tcl_pages.specs.Dictionaries.{pairs_of};
 ghost use Rattle.tcl_pages.specs.DictPages.{value_at};
 
-use crate::answers::{is_word, word_at, words_behind};
+use crate::answers::{word_at, words_behind};
 use crate::numbers::{said_of, whole_or};
 use std::alloc::{AllocError, Global};
 use std::collections::VecDeque;
 use std::rc::RcStr;
 use tcl_chars::{Dialect, Fault, is_text, message};
 use tcl_meaning::Code;
-use tcl_steps::{Completion, Loop, Owes, Scope, Step};
+use tcl_steps::{Completion, Loop, Owes, Scope, Step, is_word};
 use tcl_values::{Dictionary, Value};
 
 // The options that words are: keys and values in turn, in front of the result.
@@ -199,9 +199,9 @@ fn code_named(name: &str) -> Option<Code>
     None
 }
 
-// The code that a word says, by its name or its number.
+/// The code that a word says, by its name or its number.
 #[tactic(auto, using(crate::proofs::ReturnWords::word_named, crate::proofs::ReturnWords::word_numbered))]
-fn code_word(alloc: Global, dialect: Dialect, word: &mut Value) -> Result<Code, Fault>
+pub(crate) fn code_word(alloc: Global, dialect: Dialect, word: &mut Value) -> Result<Code, Fault>
     ensures { Answers (λ code. code) result (codes.code_word dialect word.old) }
 {
     let name = word.text(alloc)?;

@@ -4,13 +4,15 @@ ghost use Rattle.tcl_chars.specs.Messages.{about};
 ghost use Rattle.std.specs.Str.{chars};
 ghost use Rattle.tcl_chars.specs.Answers.{Answers};
 ghost use Rattle.tcl_chars.specs.Texts.{literal, text_of};
-ghost use Rattle.tcl_control.specs.Asked.{IsAsked, word};
-ghost use Rattle.tcl_control.specs.Switching.{pairs_in, checked};
+ghost use Rattle.tcl_steps.specs.Asked.{IsAsked};
+ghost use Rattle.tcl_arguments.specs.WordAt.{word};
+ghost use Rattle.tcl_steps.specs.Pairs.{pairs_in};
+ghost use Rattle.tcl_control.specs.Switching.{checked};
 ghost use Rattle.tcl_control.specs.Switching as spec;
 ghost use Rattle.tcl_meaning.specs.Control as control;
 ghost use Rattle.tcl_meaning.specs.Shapes as shapes;
 
-use crate::answers::{is_word, word_at, words_behind};
+use crate::answers::{word_at, words_behind};
 use crate::conditions::body_asks;
 use crate::numbers::said_of;
 use std::alloc::{AllocError, Global};
@@ -18,7 +20,7 @@ use std::rc::RcStr;
 use tcl_arguments::text_at;
 use tcl_chars::{Fault, about, begins, is_text, message};
 use tcl_glob::glob_match;
-use tcl_steps::{Completion, Loop, Owes, Scope, Step};
+use tcl_steps::{Completion, Loop, Owes, Scope, Step, is_word};
 use tcl_values::Value;
 
 // Are patterns read as `string match` reads them? Or what is said of a word that is no option.

@@ -4,9 +4,10 @@ use Rattle.std.proofs.Math.Seq.{drop-cons}
 use Rattle.std.proofs.lemmas.List.{append-nil, drop_more}
 use Rattle.tcl_arguments.specs.WordAt.{word}
 use Rattle.tcl_pages.specs.Answers.{Answer, ◌>>=◌}
-use Rattle.tcl_pages.specs.Dictionaries.{Pairs, put_key, put_keys, with_pair, in_pairs, pairs_of, keys_of, values_of}
+use Rattle.tcl_pages.specs.Dictionaries.{Pairs, put_key, put_keys, in_pairs, pairs_of, keys_of, values_of}
 use Rattle.tcl_pages.specs.DictPages.{inner_of, value_under, merged, without_key, without_keys}
 use Rattle.tcl_pages.specs.Texts.{Text}
+use Rattle.tcl_pages.proofs.InPairs.{with_pair, pair_ahead}
 use Rattle.tcl_chars.specs.Texts.{literal}
 
 -- these pairs before what is read
@@ -75,7 +76,8 @@ pub pair_more : (front next : Pairs) (p : Text × Text) (ws : List Text) (i : �
 pair_more front next p ws i l e is =
     let two : drop i ws ≡ word ws i ∷ word ws (i + 1) ∷ drop (i + 2) ws = drop_more ws i [] (omega (arith, l)) ∙ ap (λ ts. word ws i ∷ ts) (drop_more ws (i + 1) [] l ∙ ap (λ n. word ws (i + 1) ∷ drop n ws) (omega arith)) in
     ap (λ ps. with_front ps (in_pairs (drop (i + 2) ws))) is ∙ two_front front p (in_pairs (drop (i + 2) ws))
-    ∙ ap (λ q. with_front front (with_pair q.0 q.1 (in_pairs (drop (i + 2) ws)))) e ∙ sym (ap (λ ts. with_front front (in_pairs ts)) two)
+    ∙ ap (λ q. with_front front (with_pair q.0 q.1 (in_pairs (drop (i + 2) ws)))) e
+    ∙ ap (with_front front) (sym (pair_ahead _ (word ws i) (word ws (i + 1)) (drop (i + 2) ws))) ∙ sym (ap (λ ts. with_front front (in_pairs ts)) two)
 
 pub pairs_end : (front : Pairs) (ws : List Text) (i : ℕ) → length ws ≤ i → with_front front (in_pairs (drop i ws)) ≡ Ok front
 pairs_end front ws i l = ap (λ ts. with_front front (in_pairs ts)) (drop_end ws i l) ∙ ap Ok (append-nil front)

@@ -1,6 +1,5 @@
 -- A value under a key, changed and put back.
-use Rattle.std.proofs.Common.{◌≡◌, Bool, true, false, ◌==◌, ℕ, zero, suc, ◌+◌, ◌<◌, ◌≤◌, List, [], ◌∷◌, ◌++◌, length, drop, take, Ok, Err, refl, sym, ap, ◌∙◌, append_assoc, arith}
-use Rattle.std.proofs.lemmas.List.{append-nil}
+use Rattle.std.proofs.Common.{◌≡◌, Bool, true, false, ◌==◌, ℕ, zero, suc, ◌+◌, ◌-◌, ◌<◌, ◌≤◌, List, [], ◌∷◌, ◌++◌, length, drop, take, Ok, Err, refl, sym, ap, ◌∙◌, arith}
 use Rattle.std.specs.declared.rc.RcStr.{RcStr}
 use Rattle.std.specs.declared.alloc.Global.{Global}
 use Rattle.tcl_arguments.specs.WordAt.{word}
@@ -109,11 +108,6 @@ unset_stops t key m last (k ∷ ks) ls e = ap (λ r. r >>= rebuilt ls) (unset_no
 
 -- ---- the words of set and unset
 
-set_words : (t v : Text) (acc ws : List Text) → dict_set_words t acc (ws ++ v ∷ []) ≡ dict_set t v (acc ++ ws)
-set_words t v acc [] = ap (dict_set t v) (sym (append-nil acc))
-set_words t v acc (k ∷ []) = refl
-set_words t v acc (k ∷ l ∷ ws) = set_words t v (acc ++ k ∷ []) (l ∷ ws) ∙ ap (dict_set t v) (append_assoc acc (k ∷ []) (l ∷ ws))
-
 last_word : (ws : List Text) (n : ℕ) → suc n ≡ length ws → ws ≡ take n ws ++ word ws n ∷ []
 last_word [] n e = absurd (omega (arith, e))
 last_word (w ∷ []) zero e = refl
@@ -125,9 +119,11 @@ first_word ws zero l m = absurd (omega (arith, l))
 first_word [] (suc n) l m = absurd (omega (arith, m))
 first_word (w ∷ ws) (suc n) l m = refl
 
-pub set_by_words : (t : Text) (ws : List Text) (n : ℕ) → 1 ≤ n → n + 1 ≡ length ws → dict_set_words t [] ws ≡ dict_set t (word ws n) (word ws 0 ∷ drop 1 (take n ws))
-set_by_words t ws n l e =
-    ap (dict_set_words t []) (last_word ws n (omega (arith, e))) ∙ set_words t (word ws n) [] (take n ws) ∙ ap (dict_set t (word ws n)) (first_word ws n l (omega (arith, e)))
+pub set_by_words : (t : Text) (ws : List Text) (n : ℕ) → 1 ≤ n → n + 1 ≡ length ws → dict_set_words t ws ≡ dict_set t (word ws n) (word ws 0 ∷ drop 1 (take n ws))
+set_by_words t [] n l e = absurd (omega (arith, e))
+set_by_words t (w ∷ ws) n l e =
+    let behind : length (w ∷ ws) - 1 ≡ n = omega (arith, e) in
+    ap (λ k. dict_set t (word (w ∷ ws) k) (take k (w ∷ ws))) behind ∙ ap (dict_set t (word (w ∷ ws) n)) (first_word (w ∷ ws) n l (omega (arith, e)))
 
 pub unset_by_words : (t : Text) (ws : List Text) (n : ℕ) → 1 ≤ n → n + 1 ≡ length ws → dict_unset t ws ≡ dict_unset t (word ws 0 ∷ (drop 1 (take n ws) ++ word ws n ∷ []))
 unset_by_words t ws n l e =
@@ -158,7 +154,7 @@ lappend_is t key ws us l e s =
     ∙ (λ n. changed t (sym e n) [] (λ old. lappend old (drop 1 (sym s n))))
 
 pub set_is : (t v key : Text) (ws us keys : List Text) (n : ℕ) → 2 ≤ length ws → n + 1 ≡ length ws → us ≡ ws → v ≡ word ws n → key ≡ word ws 0 → keys ≡ drop 1 (take n us)
-    → dict_set_words t [] ws ≡ changed t key [] (λ old. dict_set old v keys)
+    → dict_set_words t ws ≡ changed t key [] (λ old. dict_set old v keys)
 set_is t v key ws us keys n l e s ev ek es =
     set_by_words t ws n (omega (arith, l, e)) e ∙ under_is t (word ws 0) [] (λ old. dict_set old (word ws n) (drop 1 (take n ws)))
     ∙ (λ i. changed t (sym ek i) [] (λ old. dict_set old (sym ev i) (sym (es ∙ ap (λ ts. drop 1 (take n ts)) s) i)))
@@ -180,13 +176,9 @@ unset_one t last (w ∷ u ∷ ws) l e = absurd (omega arith)
 
 -- ---- a value under a key, to which more comes
 
-text_behind : (t : Text) (ws : List Text) → text_appended t ws ≡ t ++ text_appended [] ws
-text_behind t [] = sym (append-nil t)
-text_behind t (w ∷ ws) = text_behind (t ++ w) ws ∙ append_assoc t w (text_appended [] ws) ∙ ap (λ u. t ++ u) (sym (text_behind w ws))
-
 -- words behind a value: dict append
 pub append_one : (t key : Text) (s : RcStr Global) (ws : List Text) → text_of s ≡ text_appended [] ws → after_under (change.Text s) t key ≡ changed t key [] (λ old. Ok (text_appended old ws))
-append_one t key s ws e = under_is t key [] (after (change.Text s)) ∙ (λ i. changed t key [] (λ old. Ok ((ap (λ u. old ++ u) e ∙ sym (text_behind old ws)) i)))
+append_one t key s ws e = under_is t key [] (after (change.Text s)) ∙ (λ i. changed t key [] (λ old. Ok (ap (λ u. old ++ u) e i)))
 
 pub some_there : (n : ℕ) (b : Bool) → b ≡ (n == 0) → b ≡ false → 0 < n
 some_there zero b e f = let t : b ≡ true = e in cc

@@ -113,7 +113,7 @@ fn set_under(
 /// `Fault::Error` with a dictionary's fault, `Fault::Memory`; the value is then as it was.
 pub fn dict_set(alloc: Global, value: &mut Value, words: &mut [Value]) -> Result<(), Fault>
     requires { 2 ≤ length words.old }
-    ensures done { Leaves value.new (dict_set_words value.old [] words.old) result }
+    ensures done { Leaves value.new (dict_set_words value.old words.old) result }
     ensures same { OnErr result (value.new ≡ value.old) }
     ensures words { words.new ≡ words.old }
 {

@@ -1,5 +1,5 @@
 pub mod ElementLemmas
-pub mod LaneLemmas
+pub mod LoopListLemmas
 pub mod MovingLemmas
 pub mod PageLemmas
 pub mod TurnLemmas

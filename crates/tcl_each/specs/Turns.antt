@@ -3,9 +3,9 @@ use Rattle.std.specs.Prelude.{Result, Ok, Err}
 use Rattle.tcl_frames.specs.Standing.{Standing}
 use Rattle.tcl_meaning.specs.Asking.{Asks}
 use Rattle.tcl_meaning.specs.Value.{Fails}
-use Rattle.tcl_vars.specs.Comes.{Becomes, Comes}
-use Rattle.tcl_vars.specs.declared.stop.Stop.{Stop}
-use Rattle.tcl_vars.specs.declared.stop.Stop.TheVariants as stop
+use Rattle.tcl_steps.specs.Comes.{Becomes, Comes}
+use Rattle.tcl_steps.specs.declared.stop.Stop.{Stop}
+use Rattle.tcl_steps.specs.declared.stop.Stop.TheVariants as stop
 
 -- The page comes to what the rest of it comes to from there, or stops with the script's error; or memory was refused.
 abbrev pub GoesOn : {A : Type 0} → Asks → Asks → Standing → Result A Stop → Standing → Type 0

@@ -1,16 +1,16 @@
 //! What is left of lists: foreach(n).
 ghost use Rattle.std.specs.Prelude.{◌≡◌, drop, length};
 ghost use Rattle.tcl_meaning.specs.Control as spec;
-ghost use Rattle.tcl_steps.specs.Views.{lanes_of};
+ghost use Rattle.tcl_steps.specs.Views.{loop_lists_of};
 
-use tcl_steps::Lane;
+use tcl_steps::LoopList;
 
 /// Is an element left in one of the lists?
-pub(crate) fn has_more(lanes: &[Lane]) -> bool
-    ensures { result ≡ spec.has_more (lanes_of lanes.now) }
+pub(crate) fn has_more(lists: &[LoopList]) -> bool
+    ensures { result ≡ spec.has_more (loop_lists_of lists.now) }
 {
-    for lane in lanes {
-        if lane.gone < lane.elements.len() {
+    for list in lists {
+        if list.gone < list.elements.len() {
             return true;
         }
     }
@@ -19,24 +19,24 @@ pub(crate) fn has_more(lanes: &[Lane]) -> bool
 
 // How many elements of a list have gone when each of its names has had one more.
 #[tactic(auto, using(crate::proofs::MovingLemmas::none_behind, crate::proofs::MovingLemmas::more_gone))]
-fn gone_behind(lane: &Lane) -> usize
-    ensures { drop result lane.now.elements ≡ drop (length lane.now.names.items) (drop lane.now.gone lane.now.elements) }
+fn gone_behind(list: &LoopList) -> usize
+    ensures { drop result list.now.elements ≡ drop (length list.now.names.items) (drop list.now.gone list.now.elements) }
 {
-    let count = lane.elements.len();
-    if lane.gone >= count {
+    let count = list.elements.len();
+    if list.gone >= count {
         return count;
     }
-    if lane.names.len() >= count - lane.gone {
+    if list.names.len() >= count - list.gone {
         return count;
     }
-    lane.gone + lane.names.len()
+    list.gone + list.names.len()
 }
 
 /// Each list is behind its elements of this turn.
-pub(crate) fn move_lanes(lanes: &mut [Lane])
-    ensures { lanes_of lanes.new ≡ spec.behind_turns (lanes_of lanes.old) }
+pub(crate) fn move_lists(lists: &mut [LoopList])
+    ensures { loop_lists_of lists.new ≡ spec.behind_turns (loop_lists_of lists.old) }
 {
-    for lane in lanes.iter_mut() {
-        lane.gone = gone_behind(lane);
+    for list in lists.iter_mut() {
+        list.gone = gone_behind(list);
     }
 }

@@ -1,7 +1,7 @@
 //! What follows a turn of a loop over lists: foreach(n), lmap(n).
 ghost use Rattle.std.specs.Prelude.{◌≡◌, IfOk, option_map};
-ghost use Rattle.tcl_control.specs.Asked.{IsAsked};
-ghost use Rattle.tcl_each.specs.Lanes.{with_result};
+ghost use Rattle.tcl_steps.specs.Asked.{IsAsked};
+ghost use Rattle.tcl_each.specs.LoopLists.{with_result};
 ghost use Rattle.tcl_meaning.specs.Completions.{code_now};
 ghost use Rattle.tcl_meaning.specs.Asking as asking;
 ghost use Rattle.tcl_meaning.specs.Control as spec;
@@ -38,13 +38,13 @@ fn ended(alloc: Global, results: Option<Vec<Value>>) -> Result<Step<Scope, Owes,
 pub(crate) fn each_next(alloc: Global, each: Each) -> Result<Step<Scope, Owes, Loop>, AllocError>
     ensures { IsAsked result (spec.each_next (each_of each)) }
 {
-    if has_more(&each.lanes) {
+    if has_more(&each.lists) {
         return Ok(Step::Pay(Loop::ForEach(each)));
     }
     ended(alloc, each.results)
 }
 
-// With a result, where they are gathered.
+// The loop with one more result, where results are gathered.
 fn with_result(mut each: Each, value: Value) -> Result<Each, AllocError>
     ensures { IfOk result (λ e. each_of e ≡ with_result (each_of each) value) }
 {

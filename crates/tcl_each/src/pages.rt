@@ -1,21 +1,21 @@
 //! The words of loops over lists and dictionaries: foreach(n), lmap(n), `dict for` of dict(n).
 ghost use Rattle.std.specs.Prelude.{◌∷◌, [], None, option_map};
 ghost use Rattle.std.specs.Str.{chars};
-ghost use Rattle.tcl_control.specs.Asked.{IsAsked};
+ghost use Rattle.tcl_steps.specs.Asked.{IsAsked};
 ghost use Rattle.tcl_meaning.specs.Control as spec;
 ghost use Rattle.tcl_meaning.specs.Shapes as shapes;
-ghost use Rattle.tcl_steps.specs.Views.{lane_of};
+ghost use Rattle.tcl_steps.specs.Views.{loop_list_of};
 
-use crate::answers::{usage, word_at};
+use crate::answers::word_at;
 use crate::next::each_next;
-use crate::rows::{lanes_among, pairs_at};
+use crate::rows::{loop_lists_among, pairs_at};
 use std::alloc::{AllocError, Global};
 use tcl_chars::Fault;
-use tcl_steps::{Completion, Each, Lane, Loop, Owes, Scope, Step};
+use tcl_steps::{Completion, Each, Loop, LoopList, Owes, Scope, Step, usage};
 use tcl_values::Value;
 
 // Lists with their names and the body behind them: the first turn is asked for, if there is an element.
-#[tactic(auto, using(crate::proofs::PageLemmas::too_few, crate::proofs::PageLemmas::lanes_ask))]
+#[tactic(auto, using(crate::proofs::PageLemmas::too_few, crate::proofs::PageLemmas::lists_ask))]
 fn each_page(
     alloc: Global,
     words: &mut [Value],
@@ -32,13 +32,13 @@ fn each_page(
     if words.len() == 2 * pairs {
         return usage(alloc, form);
     }
-    match lanes_among(alloc, words, empty) {
-        Ok(lanes) => {
+    match loop_lists_among(alloc, words, empty) {
+        Ok(lists) => {
             let body = word_at(words, 2 * pairs)?;
             each_next(
                 alloc,
                 Each {
-                    lanes,
+                    lists,
                     body,
                     results,
                 },
@@ -89,15 +89,19 @@ pub fn lmap_page(alloc: Global, words: &mut [Value]) -> Result<Step<Scope, Owes,
 }
 
 // A loop over one list, whose results aren't gathered.
-fn lone_lane(alloc: Global, lane: Lane, body: Value) -> Result<Step<Scope, Owes, Loop>, AllocError>
-    ensures { IsAsked result (spec.each_next (record { lanes = lane_of lane ∷ []; body = body; results = None })) }
+fn lone_list(
+    alloc: Global,
+    list: LoopList,
+    body: Value,
+) -> Result<Step<Scope, Owes, Loop>, AllocError>
+    ensures { IsAsked result (spec.each_next (record { lists = loop_list_of list ∷ []; body = body; results = None })) }
 {
-    let mut lanes = Vec::new(alloc);
-    lanes.push(lane)?;
+    let mut lists = Vec::new(alloc);
+    lists.push(list)?;
     each_next(
         alloc,
         Each {
-            lanes,
+            lists,
             body,
             results: None,
         },
@@ -124,9 +128,9 @@ pub fn dict_for_page(
         );
     }
     match pairs_at(alloc, words) {
-        Ok(lane) => {
+        Ok(list) => {
             let body = word_at(words, 2)?;
-            lone_lane(alloc, lane, body)
+            lone_list(alloc, list, body)
         }
         Err(Fault::Error(message)) => Ok(Step::Done(Completion::failure(alloc, message))),
         Err(Fault::Memory) => Err(AllocError),

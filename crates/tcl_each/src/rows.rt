@@ -2,18 +2,18 @@
 ghost use Rattle.std.specs.Prelude.{◌≡◌, ◌+◌, ◌<◌, ◌≤◌, length, Ok, IfOk};
 ghost use Rattle.std.specs.Str.{chars};
 ghost use Rattle.tcl_chars.specs.Answers.{Answers};
-ghost use Rattle.tcl_control.specs.Asked.{word};
-ghost use Rattle.tcl_control.specs.Switching.{pairs_in};
-ghost use Rattle.tcl_each.specs.Lanes.{lane_read, pairs_read};
+ghost use Rattle.tcl_arguments.specs.WordAt.{word};
+ghost use Rattle.tcl_pages.specs.Dictionaries.{pairs};
+ghost use Rattle.tcl_each.specs.LoopLists.{loop_list_read, pairs_read};
 ghost use Rattle.tcl_list.specs.Elements.{elements_of};
 ghost use Rattle.tcl_meaning.specs.Control as spec;
 ghost use Rattle.tcl_meaning.specs.Shapes as shapes;
 ghost use Rattle.tcl_pages.specs.DictPages.{flat};
-ghost use Rattle.tcl_steps.specs.Views.{lane_of, lanes_of};
+ghost use Rattle.tcl_steps.specs.Views.{loop_list_of, loop_lists_of};
 
 use std::alloc::{AllocError, Global};
 use tcl_chars::{Fault, message};
-use tcl_steps::Lane;
+use tcl_steps::LoopList;
 use tcl_values::{Dictionary, Row, Value};
 
 // The names that the word at a place is a list of.
@@ -35,7 +35,7 @@ fn row_at(alloc: Global, words: &mut [Value], place: usize) -> Result<Row, Fault
 }
 
 // The names, if there is one; or what is said of none.
-#[tactic(auto, using(crate::proofs::LaneLemmas::none_named, crate::proofs::LaneLemmas::some_named))]
+#[tactic(auto, using(crate::proofs::LoopListLemmas::none_named, crate::proofs::LoopListLemmas::some_named))]
 fn some_names(alloc: Global, names: Vec<Value>, empty: &str) -> Result<Vec<Value>, Fault>
     ensures { Answers (λ names. names.items) result (shapes.some_names (chars empty.now) names.items) }
 {
@@ -46,15 +46,20 @@ fn some_names(alloc: Global, names: Vec<Value>, empty: &str) -> Result<Vec<Value
 }
 
 // The names that the word at a place is, and the elements of the word behind it.
-fn lane_at(alloc: Global, words: &mut [Value], place: usize, empty: &str) -> Result<Lane, Fault>
+fn loop_list_at(
+    alloc: Global,
+    words: &mut [Value],
+    place: usize,
+    empty: &str,
+) -> Result<LoopList, Fault>
     requires { place + 1 < length words.old }
-    ensures lane { Answers lane_of result (lane_read (chars empty.now) (word words.old place) (word words.old (place + 1))) }
+    ensures list { Answers loop_list_of result (loop_list_read (chars empty.now) (word words.old place) (word words.old (place + 1))) }
     ensures same { words.new ≡ words.old }
 {
     let list = names_at(alloc, words, place)?;
     let names = some_names(alloc, list, empty)?;
     let elements = row_at(alloc, words, place + 1)?;
-    Ok(Lane {
+    Ok(LoopList {
         names,
         elements,
         gone: 0,
@@ -66,24 +71,24 @@ fn lane_at(alloc: Global, words: &mut [Value], place: usize, empty: &str) -> Res
 /// # Errors
 ///
 /// `Fault::Error` with the first list's fault, or with `empty` where a list has no names, `Fault::Memory`.
-pub(crate) fn lanes_among(
+pub(crate) fn loop_lists_among(
     alloc: Global,
     words: &mut [Value],
     empty: &str,
-) -> Result<Vec<Lane>, Fault>
-    ensures lanes { Answers (λ lanes. lanes_of lanes.items) result (shapes.lanes_of (chars empty.now) (pairs_in words.old)) }
+) -> Result<Vec<LoopList>, Fault>
+    ensures lists { Answers (λ lists. loop_lists_of lists.items) result (shapes.loop_lists_of (chars empty.now) (pairs words.old)) }
     ensures same { words.new ≡ words.old }
 {
-    let mut lanes = Vec::new(alloc);
+    let mut lists = Vec::new(alloc);
     for pair in 0..words.len() / 2 {
-        let lane = lane_at(alloc, words, 2 * pair, empty)?;
-        lanes.push(lane)?;
+        let list = loop_list_at(alloc, words, 2 * pair, empty)?;
+        lists.push(list)?;
     }
-    Ok(lanes)
+    Ok(lists)
 }
 
 // The names, if they are two.
-#[tactic(auto, using(crate::proofs::LaneLemmas::not_two, crate::proofs::LaneLemmas::are_two))]
+#[tactic(auto, using(crate::proofs::LoopListLemmas::not_two, crate::proofs::LoopListLemmas::are_two))]
 fn two_names(alloc: Global, names: Vec<Value>) -> Result<Vec<Value>, Fault>
     ensures { Answers (λ names. names.items) result (spec.two_names names.items) }
 {
@@ -124,9 +129,9 @@ fn row_of(alloc: Global, items: Vec<Value>) -> Result<Row, Fault>
 /// # Errors
 ///
 /// `Fault::Error` with the list's fault, of another count of names or with the dictionary's fault, `Fault::Memory`.
-pub(crate) fn pairs_at(alloc: Global, words: &mut [Value]) -> Result<Lane, Fault>
+pub(crate) fn pairs_at(alloc: Global, words: &mut [Value]) -> Result<LoopList, Fault>
     requires { 2 ≤ length words.old }
-    ensures lane { Answers lane_of result (pairs_read (word words.old 0) (word words.old 1)) }
+    ensures list { Answers loop_list_of result (pairs_read (word words.old 0) (word words.old 1)) }
     ensures same { words.new ≡ words.old }
 {
     let list = names_at(alloc, words, 0)?;
@@ -134,7 +139,7 @@ pub(crate) fn pairs_at(alloc: Global, words: &mut [Value]) -> Result<Lane, Fault
     let pairs = words[1].dictionary(alloc)?;
     let values = flat_values(alloc, &pairs)?;
     let elements = row_of(alloc, values)?;
-    Ok(Lane {
+    Ok(LoopList {
         names,
         elements,
         gone: 0,

@@ -1,20 +1,19 @@
 //! The variables of a turn: foreach(n).
 ghost use Rattle.std.specs.Prelude.{◌≡◌, ◌<◌, ◌+◌, [], length, drop, take, get_or, IfOk};
-ghost use Rattle.tcl_control.specs.Asked.{word};
+ghost use Rattle.tcl_arguments.specs.WordAt.{word};
 ghost use Rattle.tcl_each.specs.Turns.{GoesOn};
 ghost use Rattle.tcl_meaning.specs.Control as spec;
 ghost use Rattle.tcl_meaning.specs.Tasks.{Each};
 ghost use Rattle.tcl_meaning.specs.Variables.{set, set_all};
-ghost use Rattle.tcl_steps.specs.Views.{lanes_of};
+ghost use Rattle.tcl_steps.specs.Views.{loop_lists_of};
 ghost use Rattle.tcl_values.specs.Kept.{texts};
-ghost use Rattle.tcl_vars.specs.Ends.{Ends};
+ghost use Rattle.tcl_steps.specs.Ends.{Ends};
 
 use crate::answers::{empty, word_at};
 use std::alloc::{AllocError, Global};
 use tcl_frames::Frames;
-use tcl_steps::Lane;
+use tcl_steps::{LoopList, Stop, assign};
 use tcl_values::{Element, Row, Value};
-use tcl_vars::{Stop, assign};
 
 // The element at a place behind those that have gone, or the empty text.
 #[tactic(auto, using(tcl_values::proofs::ElementPlaces::text_there, crate::proofs::ElementLemmas::all_gone, crate::proofs::ElementLemmas::past_rest))]
@@ -80,12 +79,12 @@ fn set_names(
 /// # Errors
 ///
 /// `Stop::Error` is the script's error where a variable can't be set, `Stop::Memory` where a growth was refused.
-#[tactic(auto, using(crate::proofs::TurnLemmas::lane_set, crate::proofs::TurnLemmas::lane_stops, crate::proofs::TurnLemmas::lanes_end))]
-pub(crate) fn set_lanes(alloc: Global, frames: &mut Frames, lanes: &[Lane]) -> Result<(), Stop>
-    ensures { (e : Each) → GoesOn (spec.each_set e (lanes_of lanes.now)) (spec.each_set e []) frames.old result frames.new }
+#[tactic(auto, using(crate::proofs::TurnLemmas::list_set, crate::proofs::TurnLemmas::list_stops, crate::proofs::TurnLemmas::lists_end))]
+pub(crate) fn set_lists(alloc: Global, frames: &mut Frames, lists: &[LoopList]) -> Result<(), Stop>
+    ensures { (e : Each) → GoesOn (spec.each_set e (loop_lists_of lists.now)) (spec.each_set e []) frames.old result frames.new }
 {
-    for lane in lanes {
-        set_names(alloc, frames, &lane.names, &lane.elements, lane.gone)?;
+    for list in lists {
+        set_names(alloc, frames, &list.names, &list.elements, list.gone)?;
     }
     Ok(())
 }

@@ -1,23 +1,22 @@
 //! A turn of a loop that has been paid for: while(n), for(n), foreach(n), lmap(n), `dict for` of dict(n).
 ghost use Rattle.std.specs.Prelude.{[]};
-ghost use Rattle.tcl_control.specs.Asked.{IsAsked};
+ghost use Rattle.tcl_steps.specs.Asked.{IsAsked};
 ghost use Rattle.tcl_meaning.specs.Control as spec;
 ghost use Rattle.tcl_steps.specs.Views.{each_of, loop_of};
-ghost use Rattle.tcl_vars.specs.Ends.{DoesAsk};
+ghost use Rattle.tcl_steps.specs.Ends.{DoesAsk};
 
-use crate::moving::move_lanes;
-use crate::setting::set_lanes;
+use crate::moving::move_lists;
+use crate::setting::set_lists;
 use std::alloc::{AllocError, Global};
 use tcl_frames::Frames;
-use tcl_steps::{Each, Loop, Owes, Scope, Step};
-use tcl_vars::Stop;
+use tcl_steps::{Each, Loop, Owes, Scope, Step, Stop};
 
 // The body is to be run, and what is left of the lists is for the next turn.
 fn run_body(mut each: Each) -> Result<Step<Scope, Owes, Loop>, AllocError>
     ensures { IsAsked result (spec.each_set (each_of each) []) }
 {
     let script = each.body.copy()?;
-    move_lanes(&mut each.lanes);
+    move_lists(&mut each.lists);
     Ok(Step::Run(Scope::Here, script, Owes::EachBody(each)))
 }
 
@@ -27,9 +26,9 @@ fn each_turn(
     frames: &mut Frames,
     each: Each,
 ) -> Result<Step<Scope, Owes, Loop>, AllocError>
-    ensures { DoesAsk (spec.each_set (each_of each) (each_of each).lanes) frames.old result frames.new }
+    ensures { DoesAsk (spec.each_set (each_of each) (each_of each).lists) frames.old result frames.new }
 {
-    match set_lanes(alloc, frames, &each.lanes) {
+    match set_lists(alloc, frames, &each.lists) {
         Ok(()) => run_body(each),
         Err(Stop::Error(completion)) => Ok(Step::Done(completion)),
         Err(Stop::Memory) => Err(AllocError),

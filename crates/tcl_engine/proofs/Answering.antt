@@ -4,7 +4,7 @@ use Rattle.std.specs.FinMap as map
 use Rattle.std.specs.declared.alloc.AllocError.{AllocError}
 use Rattle.tcl_chars.specs.declared.numbers.Dialect.{Dialect}
 use Rattle.tcl_channels.specs.Works.{Works}
-use Rattle.tcl_control.specs.Asked.{at_once, IsAsked, IsAskedOrExits}
+use Rattle.tcl_steps.specs.Asked.{at_once, IsAsked, IsAskedOrExits}
 use Rattle.tcl_frames.specs.Standing.{Standing}
 use Rattle.tcl_meaning.specs.Agreement.{Agrees, IsPart}
 use Rattle.tcl_meaning.specs.Asking.{Asks, questions, questions_owed, value_step}
@@ -32,9 +32,9 @@ use Rattle.tcl_vm.specs.Turns.{Onward}
 use Rattle.tcl_vm.specs.Unwinding.{SameFrames}
 use Rattle.tcl_vm.specs.declared.engine.Stop.{Stop}
 use Rattle.tcl_vm.specs.declared.engine.Stop.TheVariants as stop
-use Rattle.tcl_vars.proofs.FrameCounts.{given_count}
-use Rattle.tcl_vars.specs.Comes.{state_of}
-use Rattle.tcl_vars.specs.Ends.{first_step, Does, DoesAsk, DoesIn}
+use Rattle.tcl_steps.proofs.FrameCounts.{given_count}
+use Rattle.tcl_steps.specs.Comes.{state_of}
+use Rattle.tcl_steps.specs.Ends.{first_step, Does, DoesAsk, DoesIn}
 use Rattle.tcl_engine.specs.Answered.{host_views, Answered}
 use Rattle.tcl_engine.proofs.Scoping.{no_channels}
 
@@ -180,23 +180,6 @@ exits_as result r fault.Io page s is was asks = absurd (subst (λ x. IsAskedOrEx
 -- a command that is done asks for nothing more
 pub done_asks : (r : Result Completion AllocError) (c : Completion) (page : Asks) (f g : Standing) → r ≡ Ok c → Does page f r g → DoesAsk {E = AllocError} page f (Ok (step.Done c)) g
 done_asks r c page f g is does = subst (λ x. Does page f x g) is does
-
--- a command that asks at once leaves the frames
-asked_leaves : (page : Asks) (x : tasks.Step) → at_once page ≡ Some x → (s : State) → does (first_step page) s ≡ Gives x s
-asked_leaves (Give (Has y)) x e s = cc
-asked_leaves (Give (Fails c)) x e s = cc
-asked_leaves (Look g) x e s = absurd cc
-asked_leaves (Make ch p) x e s = absurd cc
-asked_leaves (Link level other local g) x e s = absurd cc
-asked_leaves (Write o t p) x e s = absurd cc
-asked_leaves (Take want g) x e s = absurd cc
-asked_leaves (HasEnded g) x e s = absurd cc
-asked_leaves (Exit n) x e s = absurd cc
-asked_leaves (Call scope task g) x e s = absurd task
-
-pub asks_over : (r : Result Asked AllocError) (page : Asks) (f : Standing) → IsAsked r page → DoesAsk page f r f
-asks_over (Ok a) page f asks = record { same = λ cs channels units. asked_leaves page (views.step_of a) asks (state_of cs channels units f) }
-asks_over (Err e) page f asks = tt
 
 -- what is owed asks no more often than it owes
 pub owed_fewer : (dialect : Dialect) (o : tasks.Owes) (c : Completion) (r : Result Asked Stop) (f g : Standing) → DoesAsk (owed dialect o c) f r g → IfOk r (λ a. questions (step_of host_views a) ≤ questions_owed o)

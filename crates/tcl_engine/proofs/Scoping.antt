@@ -6,7 +6,7 @@ use Rattle.tcl_frames.specs.Standing.{Standing, store_of, left}
 use Rattle.tcl_meaning.specs.Effects.{At, Within, Scope, or_active, entered}
 use Rattle.tcl_meaning.specs.Frames.{Variables, Level, frame_of_level}
 use Rattle.tcl_meaning.specs.State.{Commands, Channels, Store, State, with_active, with_call}
-use Rattle.tcl_vars.specs.Comes.{state_of}
+use Rattle.tcl_steps.specs.Comes.{state_of}
 use Rattle.tcl_vm.specs.Standing.{undo}
 use Rattle.tcl_vm.specs.Unwinding.{CanUndo}
 use Rattle.tcl_engine.specs.Undoing.{undone_shown}

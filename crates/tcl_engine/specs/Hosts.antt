@@ -1,7 +1,7 @@
 -- What scripts work on, as the definition has it.
 use Rattle.std.specs.Prelude.{◌≡◌, Bool}
 use Rattle.tcl_meaning.specs.State.{Channels, State}
-use Rattle.tcl_vars.specs.Comes.{state_of}
+use Rattle.tcl_steps.specs.Comes.{state_of}
 use Rattle.tcl_engine.specs.declared.host.Host.{Host}
 
 module _ {V : Type 0} where

@@ -20,6 +20,8 @@ IsAtOnce page.Return = Unit {0}
 IsAtOnce page.Error = Unit {0}
 IsAtOnce page.Break = Unit {0}
 IsAtOnce page.Continue = Unit {0}
+IsAtOnce page.Throw = Unit {0}
+IsAtOnce page.Try = Unit {0}
 IsAtOnce _ = ⊥
 
 -- they work on frames

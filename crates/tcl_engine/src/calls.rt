@@ -2,8 +2,8 @@
 ghost use Rattle.std.specs.Prelude.{◌≡◌, ◌≤◌, ◌∷◌, [], List, None, length};
 ghost use Rattle.std.specs.Str.{chars};
 ghost use Rattle.tcl_activation.specs.Called.{words_of, without_words};
-ghost use Rattle.tcl_chars.specs.declared.numbers.Dialect.TheVariants as dialect;
-ghost use Rattle.tcl_control.specs.Asked.{IsAsked};
+ghost use Rattle.tcl_chars.specs.declared.numbers.Dialect.{Dialect as Numbers};
+ghost use Rattle.tcl_steps.specs.Asked.{IsAsked};
 ghost use Rattle.tcl_engine.specs.Answered.{Answered};
 ghost use Rattle.tcl_engine.specs.Hosts.{shown, HostLeaves};
 ghost use Rattle.tcl_meaning.specs.Asking as asking;
@@ -25,10 +25,10 @@ use tcl_arguments::text_at;
 use tcl_channels::Devices;
 use tcl_chars::Dialect;
 use tcl_control::exit_page;
-use tcl_ensembles::{subcommand, subcommand_usage, unknown_subcommand};
 use tcl_frames::without_colons;
 use tcl_meaning::{BuiltIn, Ensemble, Page};
 use tcl_procs::call_procedure;
+use tcl_pure::{subcommand, subcommand_usage, unknown_subcommand};
 use tcl_steps::{Completion, Loop, Owes, Scope, Step};
 use tcl_table::Meaning;
 use tcl_values::Value;
@@ -43,14 +43,14 @@ fn no_words(alloc: Global) -> Result<Step<Scope, Owes, Loop>, AllocError>
 
 // A word that names no command.
 fn unknown(alloc: Global, word: &str) -> Result<Step<Scope, Owes, Loop>, AllocError>
-    ensures { (words : List Text) → IsAsked result (command_asks dialect.Tcl86 None (chars word.now) words) }
+    ensures { (dialect : Numbers) (words : List Text) → IsAsked result (command_asks dialect None (chars word.now) words) }
 {
     Ok(Step::Done(Completion::unknown_command(alloc, word)?))
 }
 
 // A command with subcommands that is called without one.
 fn no_subcommand(alloc: Global, ensemble: Ensemble) -> Result<Step<Scope, Owes, Loop>, AllocError>
-    ensures { IsAsked result (ensemble_asks dialect.Tcl86 ensemble []) }
+    ensures { (dialect : Numbers) → IsAsked result (ensemble_asks dialect ensemble []) }
 {
     Ok(Step::Done(subcommand_usage(alloc, ensemble)?))
 }
@@ -61,23 +61,28 @@ fn unknown_word(
     ensemble: Ensemble,
     word: &str,
 ) -> Result<Step<Scope, Owes, Loop>, AllocError>
-    ensures { (words : List Text) → IsAsked result (subcommand_asks dialect.Tcl86 ensemble (chars word.now) None words) }
+    ensures { (dialect : Numbers) (words : List Text) → IsAsked result (subcommand_asks dialect ensemble (chars word.now) None words) }
 {
     Ok(Step::Done(unknown_subcommand(alloc, ensemble, word)?))
 }
 
 impl<V: Devices> Host<'_, '_, '_, '_, V> {
     // A command, or a subcommand, by its page.
-    fn page(&mut self, page: Page, words: &mut [Value]) -> Result<Step<Scope, Owes, Loop>, Stop>
-        ensures answered { Answered (page_asks dialect.Tcl86 page words.old) (shown V.channels self.old) result (shown V.channels self.new) }
+    fn page(
+        &mut self,
+        dialect: Dialect,
+        page: Page,
+        words: &mut [Value],
+    ) -> Result<Step<Scope, Owes, Loop>, Stop>
+        ensures answered { Answered (page_asks dialect page words.old) (shown V.channels self.old) result (shown V.channels self.new) }
         ensures leaves { HostLeaves V.leaves (is_io result) self.old self.new }
     {
         match page {
             Page::Seen(page) => done_in(seen(self.alloc, self.frames, self.table, page, words)),
-            Page::Exit => exited(exit_page(self.alloc, Dialect::Tcl86, words)),
+            Page::Exit => exited(exit_page(self.alloc, dialect, words)),
             Page::Proc | Page::Rename => over_commands(self.alloc, self.table, page, words),
             Page::Puts | Page::Gets | Page::Read | Page::Eof | Page::Flush => {
-                over_channels(self.alloc, self.frames, self.devices, page, words)
+                over_channels(self.alloc, dialect, self.frames, self.devices, page, words)
             }
             Page::Update(_)
             | Page::Set
@@ -87,67 +92,81 @@ impl<V: Devices> Host<'_, '_, '_, '_, V> {
             | Page::ArrayUnset
             | Page::Uplevel
             | Page::Upvar
-            | Page::Global => asked_over(over_frames(self.alloc, self.frames, page, words)),
-            _ => asked(at_once(self.alloc, page, words)),
+            | Page::Global => asked_over(over_frames(
+                self.alloc,
+                dialect,
+                self.frames,
+                page,
+                words,
+            )),
+            _ => asked(at_once(self.alloc, dialect, page, words)),
         }
     }
 
     // The subcommand of a command that a word names.
     fn subcommand(
         &mut self,
+        dialect: Dialect,
         ensemble: Ensemble,
         word: &str,
         words: &mut [Value],
     ) -> Result<Step<Scope, Owes, Loop>, Stop>
-        ensures answered { Answered (ensemble_asks dialect.Tcl86 ensemble (chars word.now ∷ words.old)) (shown V.channels self.old) result (shown V.channels self.new) }
+        ensures answered { Answered (ensemble_asks dialect ensemble (chars word.now ∷ words.old)) (shown V.channels self.old) result (shown V.channels self.new) }
         ensures leaves { HostLeaves V.leaves (is_io result) self.old self.new }
     {
         match subcommand(ensemble, word) {
             None => asked(unknown_word(self.alloc, ensemble, word)),
-            Some(page) => self.page(page, words),
+            Some(page) => self.page(dialect, page, words),
         }
     }
 
     // A command with subcommands.
     fn ensemble(
         &mut self,
+        dialect: Dialect,
         ensemble: Ensemble,
         words: &mut [Value],
     ) -> Result<Step<Scope, Owes, Loop>, Stop>
-        ensures answered { Answered (ensemble_asks dialect.Tcl86 ensemble words.old) (shown V.channels self.old) result (shown V.channels self.new) }
+        ensures answered { Answered (ensemble_asks dialect ensemble words.old) (shown V.channels self.old) result (shown V.channels self.new) }
         ensures leaves { HostLeaves V.leaves (is_io result) self.old self.new }
     {
-        if words.is_empty() {
+        if words.len() == 0 {
             return asked(no_subcommand(self.alloc, ensemble));
         }
         let word = text_at(self.alloc, words, 0)?;
-        self.subcommand(ensemble, word.as_str(), &mut words[1..])
+        self.subcommand(dialect, ensemble, word.as_str(), &mut words[1..])
     }
 
     // A built-in command.
     fn built_in(
         &mut self,
+        dialect: Dialect,
         built_in: BuiltIn,
         words: &mut [Value],
     ) -> Result<Step<Scope, Owes, Loop>, Stop>
-        ensures answered { Answered (built_in_asks dialect.Tcl86 built_in words.old) (shown V.channels self.old) result (shown V.channels self.new) }
+        ensures answered { Answered (built_in_asks dialect built_in words.old) (shown V.channels self.old) result (shown V.channels self.new) }
         ensures leaves { HostLeaves V.leaves (is_io result) self.old self.new }
     {
         match built_in {
-            BuiltIn::Page(page) => self.page(page, words),
-            BuiltIn::Ensemble(ensemble) => self.ensemble(ensemble, words),
+            BuiltIn::Page(page) => self.page(dialect, page, words),
+            BuiltIn::Ensemble(ensemble) => self.ensemble(dialect, ensemble, words),
         }
     }
 
     // The command that a word stands for now.
-    fn command(&mut self, word: &str, words: &mut [Value]) -> Result<Step<Scope, Owes, Loop>, Stop>
-        ensures answered { Answered (invoked dialect.Tcl86 (chars word.now ∷ words.old)) (shown V.channels self.old) result (shown V.channels self.new) }
+    fn command(
+        &mut self,
+        dialect: Dialect,
+        word: &str,
+        words: &mut [Value],
+    ) -> Result<Step<Scope, Owes, Loop>, Stop>
+        ensures answered { Answered (invoked dialect (chars word.now ∷ words.old)) (shown V.channels self.old) result (shown V.channels self.new) }
         ensures leaves { HostLeaves V.leaves (is_io result) self.old self.new }
     {
         match self.table.find(without_colons(word)) {
             None => asked(unknown(self.alloc, word)),
             Some(command) => match command.meaning() {
-                Meaning::BuiltIn(built_in) => self.built_in(built_in, words),
+                Meaning::BuiltIn(built_in) => self.built_in(dialect, built_in, words),
                 Meaning::Procedure(procedure) => {
                     asked(call_procedure(self.alloc, word, procedure, words))
                 }
@@ -156,29 +175,34 @@ impl<V: Devices> Host<'_, '_, '_, '_, V> {
     }
 
     // Calls a command: the first of its words is looked up now.
-    fn invoke(&mut self, words: &mut [Value]) -> Result<Step<Scope, Owes, Loop>, Stop>
-        ensures answered { Answered (invoked dialect.Tcl86 words.old) (shown V.channels self.old) result (shown V.channels self.new) }
+    fn invoke(
+        &mut self,
+        dialect: Dialect,
+        words: &mut [Value],
+    ) -> Result<Step<Scope, Owes, Loop>, Stop>
+        ensures answered { Answered (invoked dialect words.old) (shown V.channels self.old) result (shown V.channels self.new) }
         ensures leaves { HostLeaves V.leaves (is_io result) self.old self.new }
     {
         if words.len() == 0 {
             return asked(no_words(self.alloc));
         }
         let word = text_at(self.alloc, words, 0)?;
-        self.command(word.as_str(), &mut words[1..])
+        self.command(dialect, word.as_str(), &mut words[1..])
     }
 
     /// Calls the command whose words lie on top of a code's texts, where they stay until it is done.
     pub(crate) fn call(
         &mut self,
+        dialect: Dialect,
         activation: &mut Activation,
         count: usize,
     ) -> Result<Step<Scope, Owes, Loop>, Stop>
         requires { count ≤ length activation.old.spot.stack.texts }
         ensures taken { activation.new ≡ without_words count activation.old }
-        ensures answered { Answered (invoked dialect.Tcl86 (words_of count activation.old.spot)) (shown V.channels self.old) result (shown V.channels self.new) }
+        ensures answered { Answered (invoked dialect (words_of count activation.old.spot)) (shown V.channels self.old) result (shown V.channels self.new) }
         ensures leaves { HostLeaves V.leaves (is_io result) self.old self.new }
     {
-        let step = self.invoke(activation.words(count));
+        let step = self.invoke(dialect, activation.words(count));
         activation.drop_words(count);
         step
     }

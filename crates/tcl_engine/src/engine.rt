@@ -1,5 +1,4 @@
 //! The engine of the machine.
-ghost use Rattle.tcl_chars.specs.declared.numbers.Dialect.TheVariants as dialect;
 ghost use Rattle.tcl_engine.specs.Leaving as leaving;
 ghost use Rattle.tcl_engine.specs.Answered.{host_views};
 ghost use Rattle.tcl_engine.specs.Hosts.{shown, HostLeaves};
@@ -10,7 +9,7 @@ use crate::owed::after;
 use crate::scopes;
 use crate::undone::Undone;
 use std::alloc::AllocError;
-use tcl_activation::{Activation, Progress as Instructed};
+use tcl_activation::Activation;
 use tcl_channels::Devices;
 use tcl_each::turned;
 use tcl_steps::{Completion, Loop, Owes, Scope, Step};
@@ -28,7 +27,7 @@ impl<V: Devices> Engine for Host<'_, '_, '_, '_, V> {
 
     type Loop = Loop;
 
-    ghost dialect = { dialect.Tcl86 };
+    ghost dialect = { λ host. host.codes.now };
 
     ghost views = { host_views };
 
@@ -41,26 +40,8 @@ impl<V: Devices> Engine for Host<'_, '_, '_, '_, V> {
         activation: &mut Activation,
         paid: &mut u64,
     ) -> Result<Progress<Scope, Owes, Loop>, Stop> {
-        'walk: loop {
-            match self.instruct(activation)? {
-                Instructed::Moved => {}
-                Instructed::Spent => *paid += 1,
-                Instructed::Turned => return Ok(Progress::Turned),
-                Instructed::Calls(count) => match self.call(activation, count)? {
-                    Step::Done(completion) => {
-                        if completion.is_ok() {
-                            activation.answer(completion)?;
-                            *paid -= 1;
-                        } else {
-                            return Ok(Progress::Asks(Step::Done(completion)));
-                        }
-                    }
-                    step => return Ok(Progress::Asks(step)),
-                },
-                Instructed::Over(completion) => return Ok(Progress::Over(completion)),
-                Instructed::Broke => return Err(Stop::Budget),
-            }
-        }
+        let dialect = self.codes.dialect();
+        self.stride(dialect, activation, paid)
     }
 
     fn depth(&self, activation: &Activation) -> u64 {
@@ -108,7 +89,8 @@ impl<V: Devices> Engine for Host<'_, '_, '_, '_, V> {
         owes: Owes,
         completion: Completion,
     ) -> Result<Step<Scope, Owes, Loop>, Stop> {
-        asked_over(after(self.alloc, self.frames, owes, completion))
+        let dialect = self.codes.dialect();
+        asked_over(after(self.alloc, dialect, self.frames, owes, completion))
     }
 
     fn turned(&mut self, turn: Loop) -> Result<Step<Scope, Owes, Loop>, Stop> {
@@ -126,4 +108,6 @@ impl<V: Devices> Engine for Host<'_, '_, '_, '_, V> {
     ghost leaves_same = { leaving.leaves_same V.leaves V.leaves_same };
 
     ghost leaves_then = { leaving.leaves_then V.leaves V.leaves_then };
+
+    ghost dialect_left = { λ io a b left. left.dialect };
 }

@@ -1,10 +1,9 @@
 //! Commands over frames.
-ghost use Rattle.tcl_chars.specs.declared.numbers.Dialect.TheVariants as dialect;
 ghost use Rattle.tcl_engine.specs.Kinds.{IsOverFrames};
 ghost use Rattle.tcl_frames.specs.Standing.{Standing};
 ghost use Rattle.tcl_meaning.specs.Asking.{Asks};
 ghost use Rattle.tcl_meaning.specs.Pages.{page_asks};
-ghost use Rattle.tcl_vars.specs.Ends.{Does, DoesAsk};
+ghost use Rattle.tcl_steps.specs.Ends.{Does, DoesAsk};
 
 use std::alloc::{AllocError, Global};
 use tcl_arrays::{array_set, array_unset};
@@ -29,15 +28,16 @@ pub(crate) fn done(
 #[tactic(auto, unfolding(tcl_meaning::specs::Pages::page_asks))]
 pub(crate) fn over_frames(
     alloc: Global,
+    dialect: Dialect,
     frames: &mut Frames,
     page: Page,
     words: &mut [Value],
 ) -> Result<Step<Scope, Owes, Loop>, AllocError>
     requires { IsOverFrames page }
-    ensures { DoesAsk (page_asks dialect.Tcl86 page words.old) frames.old result frames.new }
+    ensures { DoesAsk (page_asks dialect page words.old) frames.old result frames.new }
 {
     match page {
-        Page::Update(page) => done(update(alloc, Dialect::Tcl86, frames, page, words)),
+        Page::Update(page) => done(update(alloc, dialect, frames, page, words)),
         Page::Set => done(set(alloc, frames, words)),
         Page::Unset => done(unset(alloc, frames, words)),
         Page::Lassign => done(lassign(alloc, frames, words)),

@@ -1,7 +1,6 @@
 //! What a run works on.
 ghost use Rattle.std.specs.Prelude.{◌≡◌, false, OnOk, OnErr, IfOk};
-ghost use Rattle.tcl_activation.specs.Standing.{IsOnWay, IsDone, instruction_at, move_of};
-ghost use Rattle.tcl_chars.specs.declared.numbers.Dialect.TheVariants as dialect;
+ghost use Rattle.tcl_activation.specs.Standing.{IsOnWay, IsDone, Stays, instruction_at, move_of};
 ghost use Rattle.tcl_engine.specs.Hosts.{shown, HostLeaves};
 ghost use Rattle.tcl_meaning.specs.State.{with_units};
 
@@ -10,7 +9,7 @@ use std::alloc::{AllocError, Global};
 use tcl_activation::{Activation, Progress};
 use tcl_channels::Devices;
 use tcl_chars::Dialect;
-use tcl_codes::Codes;
+use tcl_compile::Codes;
 use tcl_frames::Frames;
 use tcl_table::Table;
 
@@ -59,17 +58,22 @@ impl<V: Devices> Host<'_, '_, '_, '_, V> {
     }
 
     /// One instruction of a code, or its end.
-    pub(crate) fn instruct(&mut self, activation: &mut Activation) -> Result<Progress, AllocError>
+    pub(crate) fn instruct(
+        &mut self,
+        dialect: Dialect,
+        activation: &mut Activation,
+    ) -> Result<Progress, AllocError>
         requires { IsOnWay activation.old }
         ensures code { activation.new.code ≡ activation.old.code }
-        ensures done { IsDone result (instruction_at activation.old) (move_of dialect.Tcl86 activation.old (shown V.channels self.old)) activation.new.spot (shown V.channels self.old) self.new.units }
+        ensures done { IsDone result (instruction_at activation.old) (move_of dialect activation.old (shown V.channels self.old)) activation.new.spot (shown V.channels self.old) self.new.units }
         ensures state { shown V.channels self.new ≡ with_units self.new.units (shown V.channels self.old) }
+        ensures stays { Stays result activation.old activation.new }
         ensures leaves { HostLeaves V.leaves false self.old self.new }
     {
         let kept = Kept {
             frames: self.frames,
             table: self.table,
         };
-        activation.step(self.alloc, Dialect::Tcl86, &kept, &mut self.units)
+        activation.step(self.alloc, dialect, &kept, &mut self.units)
     }
 }

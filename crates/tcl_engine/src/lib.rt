@@ -14,6 +14,7 @@ mod looking;
 mod owed;
 mod pages;
 mod scopes;
+mod stride;
 mod undone;
 
 pub use host::{Host, host_over};

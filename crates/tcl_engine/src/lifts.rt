@@ -2,14 +2,14 @@
 ghost use Rattle.std.specs.Prelude.{◌≡◌, ℕ, false, IfOk};
 ghost use Rattle.tcl_channels.specs.Leaves.{is_io as failed};
 ghost use Rattle.tcl_channels.specs.Works.{Works};
-ghost use Rattle.tcl_control.specs.Asked.{IsAsked, IsAskedOrExits};
+ghost use Rattle.tcl_steps.specs.Asked.{IsAsked, IsAskedOrExits};
 ghost use Rattle.tcl_engine.specs.Answered.{Answered};
 ghost use Rattle.tcl_frames.specs.Standing.{Standing};
 ghost use Rattle.tcl_meaning.specs.Asking.{Asks};
 ghost use Rattle.tcl_meaning.specs.Beginnings.{OutputsBegin};
 ghost use Rattle.tcl_meaning.specs.State.{Commands, Channels, Store, State};
-ghost use Rattle.tcl_vars.specs.Comes.{state_of};
-ghost use Rattle.tcl_vars.specs.Ends.{DoesAsk, DoesIn};
+ghost use Rattle.tcl_steps.specs.Comes.{state_of};
+ghost use Rattle.tcl_steps.specs.Ends.{DoesAsk, DoesIn};
 ghost use Rattle.tcl_vm.specs.Engines.{is_io};
 ghost use Rattle.tcl_vm.specs.Unwinding.{SameFrames};
 

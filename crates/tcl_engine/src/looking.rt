@@ -3,7 +3,7 @@ ghost use Rattle.std.specs.Prelude.{◌≡◌, not};
 ghost use Rattle.tcl_arrays.specs.Completes.{looks_at_frames};
 ghost use Rattle.tcl_frames.specs.Standing.{store_of};
 ghost use Rattle.tcl_meaning.specs.VariablePages.{seen_page};
-ghost use Rattle.tcl_vars.specs.Ends.{DoesIn};
+ghost use Rattle.tcl_steps.specs.Ends.{DoesIn};
 
 use std::alloc::{AllocError, Global};
 use tcl_arrays as arrays;

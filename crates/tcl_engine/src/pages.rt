@@ -1,12 +1,12 @@
 //! Commands over the command table.
 ghost use Rattle.std.specs.Prelude.{◌≡◌, ℕ, false};
-ghost use Rattle.tcl_chars.specs.declared.numbers.Dialect.TheVariants as dialect;
+ghost use Rattle.tcl_chars.specs.declared.numbers.Dialect.{Dialect};
 ghost use Rattle.tcl_engine.specs.Answered.{Answered};
 ghost use Rattle.tcl_engine.specs.Kinds.{IsOverCommands};
 ghost use Rattle.tcl_frames.specs.Standing.{Standing};
 ghost use Rattle.tcl_meaning.specs.Pages.{page_asks};
 ghost use Rattle.tcl_meaning.specs.State.{Channels};
-ghost use Rattle.tcl_vars.specs.Comes.{state_of};
+ghost use Rattle.tcl_steps.specs.Comes.{state_of};
 ghost use Rattle.tcl_vm.specs.Engines.{is_io};
 
 use crate::lifts::done_in;
@@ -27,7 +27,7 @@ pub(crate) fn over_commands(
     words: &mut [Value],
 ) -> Result<Step<Scope, Owes, Loop>, Stop>
     requires { IsOverCommands page }
-    ensures answered { (f : Standing) (channels : Channels) (units : ℕ) → Answered (page_asks dialect.Tcl86 page words.old) (state_of table.old channels units f) result (state_of table.new channels units f) }
+    ensures answered { (dialect : Dialect) (f : Standing) (channels : Channels) (units : ℕ) → Answered (page_asks dialect page words.old) (state_of table.old channels units f) result (state_of table.new channels units f) }
     ensures quiet { is_io result ≡ false }
 {
     match page {

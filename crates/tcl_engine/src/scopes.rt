@@ -4,7 +4,7 @@ ghost use Rattle.tcl_engine.specs.Undoing.{undone_shown};
 ghost use Rattle.tcl_meaning.specs.Effects.{entered};
 ghost use Rattle.tcl_meaning.specs.State.{Commands, Channels};
 ghost use Rattle.tcl_steps.specs.Views.{scope_of};
-ghost use Rattle.tcl_vars.specs.Comes.{state_of};
+ghost use Rattle.tcl_steps.specs.Comes.{state_of};
 ghost use Rattle.tcl_vm.specs.Standing.{undone_of, undo};
 ghost use Rattle.tcl_vm.specs.Unwinding.{CanUndo};
 

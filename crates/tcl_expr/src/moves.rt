@@ -219,7 +219,7 @@ fn takes_one(function: Function) -> bool
     }
 }
 
-/// What is wrong with a call of so many arguments.
+/// What is wrong with a call of the function with `count` arguments, if anything is.
 fn miscount<'a>(function: Function, name: Span<'a>, count: usize) -> Option<ExprSyntax<'a>>
     ensures { optional_fault result ≡ grammar.miscount function (stretch_of name.entry) count }
 {

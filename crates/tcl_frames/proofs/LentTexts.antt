@@ -8,9 +8,6 @@ use Rattle.tcl_meaning.specs.declared.refusal.Refusal.{Refusal}
 use Rattle.tcl_meaning.specs.Frames.{Variable, Variables, Part}
 use Rattle.tcl_meaning.specs.Variables.{put_part}
 use Rattle.tcl_frames.specs.Written.{stored_in, or_else, with_part, with_text}
-use Rattle.tcl_frames.specs.Refusals.{OnRefused}
-use Rattle.tcl_frames.specs.declared.fault.VarFault.{VarFault}
-use Rattle.tcl_frames.specs.declared.fault.VarFault.TheVariants as fault
 
 -- a write that was refused left what was there
 pub unwritten : {V A E : Type 0} (r : Result A E) (m : Named V) (k : List ℕ) (v w : V) → OnErr r (w ≡ v) → map.get m k ≡ Some v → OnErr r (map.insert m k w ≡ m)
@@ -24,9 +21,3 @@ by_answer m name v (Err refusal) got = insert_same m name v got
 -- a text that is left in a variable that was lent
 pub lent_text : (m : Variables) (name : Text) (v : Variable) (part : Part) (t : Text) → map.get m name ≡ Some v → map.insert m name (with_part v part t) ≡ with_text m name part t
 lent_text m name v part t got = by_answer m name v (put_part (Some v) part t) got ∙ ap (λ o. or_else m (stored_in m name (put_part o part t))) (sym got)
-
--- nor did a change of its elements
-pub unedited : {V A : Type 0} (r : Result A VarFault) (m : Named V) (k : List ℕ) (v w : V) → OnRefused r (w ≡ v) → map.get m k ≡ Some v → OnRefused r (map.insert m k w ≡ m)
-unedited {V} (Ok x) m k v w h e = tt
-unedited {V} (Err fault.Memory) m k v w h e = tt
-unedited {V} (Err (fault.Refused refusal)) m k v w h e = ap (λ (x : V). map.insert m k x) h ∙ insert_same m k v e

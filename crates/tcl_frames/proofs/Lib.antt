@@ -1,6 +1,7 @@
 pub mod NamesLemmas
 pub mod NameSets
 pub mod EditLemmas
+pub mod UndoLemmas
 pub mod Chains
 pub mod Standings
 pub mod LentTexts

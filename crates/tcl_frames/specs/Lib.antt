@@ -11,6 +11,7 @@ pub mod VariableShape
 pub mod Written
 pub mod NameSets
 pub mod Edits
+pub mod Undone
 pub mod VariableLent
 pub mod VariablesLent
 pub mod FramesShape

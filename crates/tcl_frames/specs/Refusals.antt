@@ -1,5 +1,5 @@
 -- Why a variable can't be read, written or linked, or that memory was refused.
-use Rattle.std.specs.Prelude.{◌≡◌, Result, Ok, Err, Option, Some}
+use Rattle.std.specs.Prelude.{◌≡◌, Result, Err, Option, Some}
 use Rattle.tcl_meaning.specs.declared.refusal.Refusal.{Refusal}
 use Rattle.tcl_meaning.specs.declared.refusal.LinkRefusal.{LinkRefusal}
 use Rattle.tcl_frames.specs.declared.fault.VarFault.{VarFault}
@@ -11,12 +11,6 @@ use Rattle.tcl_frames.specs.declared.fault.LinkFault.TheVariants as link
 abbrev pub Refuses : {A : Type 0} → Result A Refusal → VarFault → Type 0
 Refuses answer var.Memory = Unit {0}
 Refuses answer (var.Refused refusal) = answer ≡ Err refusal
-
--- this holds where a variable's refusal stopped the call, and memory was not wanting
-abbrev pub OnRefused : {A : Type 0} → Result A VarFault → Type 0 → Type 0
-OnRefused (Ok a) p = Unit {0}
-OnRefused (Err var.Memory) p = Unit {0}
-OnRefused (Err (var.Refused refusal)) p = p
 
 abbrev pub RefusesLink : Option LinkRefusal → LinkFault → Type 0
 RefusesLink answer link.Memory = Unit {0}

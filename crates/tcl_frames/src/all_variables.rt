@@ -10,7 +10,7 @@ ghost use Rattle.tcl_meaning.specs.Arrays.{whole_array};
 ghost use Rattle.tcl_meaning.specs.SeenPages.{is_there, names_of};
 ghost use Rattle.tcl_frames.specs.NameSets.{with_names};
 ghost use Rattle.tcl_frames.specs.Places.{spot_of};
-ghost use Rattle.tcl_frames.specs.Refusals.{OnRefused, Refuses};
+ghost use Rattle.tcl_frames.specs.Refusals.{Refuses};
 ghost use Rattle.tcl_frames.specs.Edits.{edit_part};
 ghost use Rattle.tcl_frames.specs.Written.{variables_of, variable_in, stored_at, removed_at};
 
@@ -140,7 +140,7 @@ impl AllVariables {
         requires { at.frame < length self.old }
         ensures done { OnOk result (stored_at self.old (spot_of at.entry) (edit_part edit.entry (variable_in self.old (spot_of at.entry)) (spot_of at.entry).part) ≡ Ok self.new) }
         ensures refused { IfErr result (Refuses (edit_part edit.entry (variable_in self.old (spot_of at.entry)) (spot_of at.entry).part)) }
-        ensures same { OnRefused result (self.new ≡ self.old) }
+        ensures same { OnErr result (self.new ≡ self.old) }
         ensures count { length self.new ≡ length self.old }
     {
         edit_in(&mut self.frames[at.frame], alloc, at.name, at.part, edit)

@@ -1,9 +1,11 @@
 //! Changes of the elements of an array: array(n).
-ghost use Rattle.std.specs.Prelude.{◌≡◌, map as each, OnOk};
+ghost use Rattle.std.specs.Prelude.{◌≡◌, map as each, OnOk, OnErr};
 ghost use Rattle.tcl_chars.specs.Texts.{text_of};
 ghost use Rattle.tcl_frames.specs.Edits.{edited, with_pairs, without_names};
+ghost use Rattle.tcl_frames.specs.Undone.{undone};
 ghost use Rattle.tcl_values.specs.Kept.{texts};
 
+use crate::earlier::{Earlier, put_noted, undo};
 use std::alloc::{AllocError, Global};
 use std::rc::RcStr;
 use tcl_names::HashedNames;
@@ -19,13 +21,14 @@ pub enum Edit<'a> {
 }
 
 impl Edit<'_> {
-    /// Changes the elements of an array.
+    /// Changes the elements of an array, all or none.
     pub(crate) fn apply(
         self,
         alloc: Global,
         elements: &mut HashedNames<Value>,
     ) -> Result<(), AllocError>
-        ensures { OnOk result (elements.new ≡ edited self.entry elements.old) }
+        ensures done { OnOk result (elements.new ≡ edited self.entry elements.old) }
+        ensures same { OnErr result (elements.new ≡ elements.old) }
     {
         match self {
             Edit::Put(pairs) => put_pairs(alloc, elements, pairs),
@@ -37,18 +40,39 @@ impl Edit<'_> {
     }
 }
 
-// Puts names and texts in turn into an array.
+// Puts names and texts in turn into an array, all or none.
 fn put_pairs(
     alloc: Global,
     elements: &mut HashedNames<Value>,
     pairs: &[Element],
 ) -> Result<(), AllocError>
-    ensures { OnOk result (elements.new ≡ with_pairs elements.old (texts pairs.now)) }
+    ensures done { OnOk result (elements.new ≡ with_pairs elements.old (texts pairs.now)) }
+    ensures same { OnErr result (elements.new ≡ elements.old) }
+{
+    let mut notes = Vec::with_capacity(alloc, pairs.len() / 2)?;
+    match put_each(alloc, elements, pairs, &mut notes) {
+        Ok(()) => Ok(()),
+        Err(refused) => {
+            undo(elements, notes);
+            Err(refused)
+        }
+    }
+}
+
+// Puts names and texts in turn into an array, up to one that is refused. What stood under the names is noted.
+fn put_each<'a>(
+    alloc: Global,
+    elements: &mut HashedNames<Value>,
+    pairs: &'a [Element],
+    notes: &mut Vec<Earlier<'a>>,
+) -> Result<(), AllocError>
+    ensures done { OnOk result (elements.new ≡ with_pairs elements.old (texts pairs.now)) }
+    ensures noted { undone notes.new.items elements.new ≡ undone notes.old.items elements.old }
 {
     let mut place = 0;
     while pairs.len() - place > 1 {
         let value = pairs[place + 1].copy()?;
-        elements.insert(alloc, pairs[place].text(), value)?;
+        put_noted(alloc, elements, pairs[place].text(), value, notes)?;
         place += 2;
     }
     Ok(())

@@ -3,7 +3,7 @@
 /// Which frame is meant: uplevel(n).
 #[derive(Clone, Copy, Debug, PartialEq, Eq)]
 pub enum Level {
-    /// So many callers up.
+    /// The frame that is this number of callers up.
     Up(usize),
     /// The frame of this level, among the active one and its callers.
     At(usize),

@@ -4,6 +4,7 @@
 mod all_variables;
 mod calls;
 mod counting;
+mod earlier;
 mod edit;
 mod editing;
 mod fault;

@@ -182,7 +182,7 @@ impl Stack {
         self.calls[self.active].level()
     }
 
-    // So many callers up from the active frame.
+    // The frame that is `count` callers up from the active one, if there is one.
     fn caller_up(&self, count: usize) -> Option<usize>
         ensures found { result ≡ frame_of_level self.now.frames self.now.active (up count) }
         ensures earlier { IfSome result (λ i. i ≤ self.now.active) }

@@ -10,7 +10,7 @@ ghost use Rattle.std.specs.Option.{option_copied};
 ghost use Rattle.tcl_meaning.specs.Arrays.{whole_array};
 ghost use Rattle.tcl_meaning.specs.SeenPages.{is_there};
 ghost use Rattle.tcl_frames.specs.Parts.{part_of};
-ghost use Rattle.tcl_frames.specs.Refusals.{OnRefused, Refuses};
+ghost use Rattle.tcl_frames.specs.Refusals.{Refuses};
 ghost use Rattle.tcl_frames.specs.Edits.{edit_part};
 ghost use Rattle.tcl_frames.specs.VariableLent.{LendsHeld, LendsPart};
 
@@ -180,7 +180,7 @@ impl Variable {
     ) -> Result<(), VarFault>
         ensures done { OnOk result (edit_part edit.entry (Some self.old) (part_of part.entry) ≡ Ok self.new) }
         ensures refused { IfErr result (Refuses (edit_part edit.entry (Some self.old) (part_of part.entry))) }
-        ensures same { OnRefused result (self.new ≡ self.old) }
+        ensures same { OnErr result (self.new ≡ self.old) }
     {
         match &mut self.held {
             Held::Text(_) => Err(VarFault::Refused(Refusal::IsntArray)),

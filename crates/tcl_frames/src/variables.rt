@@ -9,7 +9,7 @@ ghost use Rattle.std.specs.Option.{option_copied};
 ghost use Rattle.tcl_meaning.specs.Arrays.{whole_array};
 ghost use Rattle.tcl_meaning.specs.SeenPages.{is_there};
 ghost use Rattle.tcl_frames.specs.Parts.{part_of};
-ghost use Rattle.tcl_frames.specs.Refusals.{OnRefused, Refuses};
+ghost use Rattle.tcl_frames.specs.Refusals.{Refuses};
 ghost use Rattle.tcl_frames.specs.Edits.{edit_part};
 ghost use Rattle.tcl_frames.specs.Written.{stored_in, removed_in};
 ghost use Rattle.tcl_frames.specs.VariablesLent.{LendsText};
@@ -148,7 +148,7 @@ pub(crate) fn edit_in(
 ) -> Result<(), VarFault>
     ensures done { OnOk result (stored_in variables.old (chars name.now) (edit_part edit.entry (map.get variables.old (chars name.now)) (part_of part.entry)) ≡ Ok variables.new) }
     ensures refused { IfErr result (Refuses (edit_part edit.entry (map.get variables.old (chars name.now)) (part_of part.entry))) }
-    ensures same { OnRefused result (variables.new ≡ variables.old) }
+    ensures same { OnErr result (variables.new ≡ variables.old) }
 {
     if let Some(variable) = variables.get_mut(name) {
         return variable.edit(alloc, part, edit);

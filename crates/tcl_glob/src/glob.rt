@@ -23,7 +23,7 @@ fn is_between(x: char, y: char, c: char) -> bool
     (x <= c && c <= y) || (y <= c && c <= x)
 }
 
-/// Behind the first character of a range: its last one, and what follows the range.
+/// The last character of a range, and what follows it; the text begins behind the first character. None where there is no range.
 fn range_end(text: &str) -> Option<(char, &str)>
     ensures { option_map (λ r. (r.0, chars r.1.now)) result ≡ range_end (chars text.now) }
 {

@@ -1,7 +1,6 @@
 -- What a host's script comes to, by what the machine made of it.
 use Rattle.std.proofs.Common.{◌≡◌, ℕ, false, Result, Ok, Err, refl, sym, ap, subst, ◌∙◌, inl, inr}
 use Rattle.tcl_chars.specs.declared.numbers.Dialect.{Dialect}
-use Rattle.tcl_chars.specs.declared.numbers.Dialect.TheVariants as dialect
 use Rattle.tcl_pages.specs.Texts.{Text}
 use Rattle.tcl_frames.specs.Standing.{Standing, store_of}
 use Rattle.tcl_meaning.specs.Agreement.{Agrees, IsPart}
@@ -16,7 +15,7 @@ use Rattle.tcl_meaning.specs.Tasks.{Script}
 use Rattle.tcl_meaning.proofs.Frames.{outcome_stays}
 use Rattle.tcl_meaning.proofs.Onward.{outputs_same}
 use Rattle.tcl_meaning.proofs.Runs.{outcome_goes}
-use Rattle.tcl_vars.specs.Comes.{state_of}
+use Rattle.tcl_steps.specs.Comes.{state_of}
 use Rattle.tcl_vm.specs.Machines.{Follows}
 use Rattle.tcl_vm.specs.declared.engine.Stop.{Stop}
 use Rattle.tcl_vm.specs.declared.engine.Stop.TheVariants as stop
@@ -32,7 +31,7 @@ topped got = on_got got (λ c after. Gives (top c) after)
 
 -- ---- what agrees is a part
 
-agrees_part : {A : Type 0} (got real : Got A) → Agrees got real → IsPart (channels_of real) got
+pub agrees_part : {A : Type 0} (got real : Got A) → Agrees got real → IsPart (channels_of real) got
 agrees_part (Gives a s) real h = subst (λ (r : Got _). OutputsBegin (channels_of real) (channels_of r)) (sym h) (outputs_same (channels_of real))
 agrees_part (Broke x) real h = subst (λ (r : Got _). OutputsBegin (channels_of real) (channels_of r)) (sym h) (outputs_same (channels_of real))
 agrees_part (Exits n x) real h = subst (λ (r : Got _). OutputsBegin (channels_of real) (channels_of r)) (sym h) (outputs_same (channels_of real))
@@ -64,6 +63,7 @@ ends_part (outcome.Exit status) got r f h = agrees_part got (Exits status r) h
 ends_part outcome.Memory got r f h = h
 ends_part outcome.Io got r f h = h
 ends_part outcome.Failed got r f h = absurd h
+ends_part outcome.Over got r f h = absurd h
 
 -- ---- the end of a run
 
@@ -98,23 +98,21 @@ module _ (g : Frame) (cs : Commands) (f : Standing) (cs' : Commands) (c : Channe
   ends_by (Ok e) (outcome.Exit status) got stay h is = absurd is
   ends_by (Ok e) outcome.Io got stay h is = absurd is
   ends_by (Ok e) outcome.Failed got stay h is = absurd is
+  ends_by (Ok e) outcome.Over got stay h is = absurd is
   ends_by (Err stop.Budget) o got stay h is = subst (λ x. Ends x (topped got) behind) (sym is) (broke got behind h)
   ends_by (Err (stop.Exit n)) o got stay h is = subst (λ x. Ends x (topped got) behind) (sym is) (exited got n behind h)
   ends_by (Err stop.Memory) o got stay h is = subst (λ x. Ends x (topped got) behind) (sym is) (topped_part c got h)
   ends_by (Err stop.Io) o got stay h is = subst (λ x. Ends x (topped got) behind) (sym is) (topped_part c got h)
 
-one_dialect : (d : Dialect) → dialect.Tcl86 ≡ d
-one_dialect dialect.Tcl86 = refl
-
 -- An evaluation ends as the definition says, from what the interpreter shows.
-pub run_ends : (shows : Shows) (frames : Standing) (table : Commands) (before : Channels) (budget : ℕ) (script : Text) (f : Standing) (cs : Commands) (c : Channels) (left : ℕ) (r : Result Completion Stop) (o : Outcome)
-    → IsAtTop frames → frame_at frames.frames 0 ≡ shows.globals → table ≡ shows.commands
-    → Follows r (Run dialect.Tcl86 (Script 1 nothing script) (state_of table before budget frames)) (state_of cs c left f) → IsOutcomeOf o r left
+pub run_ends : (dialect : Dialect) (shows : Shows) (frames : Standing) (table : Commands) (before : Channels) (budget : ℕ) (script : Text) (f : Standing) (cs : Commands) (c : Channels) (left : ℕ) (r : Result Completion Stop) (o : Outcome)
+    → dialect ≡ shows.dialect → IsAtTop frames → frame_at frames.frames 0 ≡ shows.globals → table ≡ shows.commands
+    → Follows r (Run dialect (Script 1 nothing script) (state_of table before budget frames)) (state_of cs c left f) → IsOutcomeOf o r left
     → Ends o (run_script shows.dialect script (record { store = kept_by shows; channels = before; units = budget })) (record { globals = frame_at f.frames 0; commands = cs; channels = c })
-run_ends shows frames table before budget script f cs c left r o at_top globals commands h is =
+run_ends dialect shows frames table before budget script f cs c left r o numbers at_top globals commands h is =
     let s : State = record { store = kept_by shows; channels = before; units = budget } in
     let same : state_of table before budget frames ≡ s =
     ap (λ k. state_of table before budget k) at_top ∙ ap (λ g. state_of table before budget (standing_at g)) globals ∙ ap (λ t. state_of t before budget (standing_at shows.globals)) commands in
     let follows : Follows r (Run shows.dialect (Script 1 nothing script) s) (state_of cs c left f) =
-    subst (λ d. Follows r (Run d (Script 1 nothing script) s) (state_of cs c left f)) (one_dialect shows.dialect) (subst (λ k. Follows r (Run dialect.Tcl86 (Script 1 nothing script) k) (state_of cs c left f)) same h) in
+    subst (λ d. Follows r (Run d (Script 1 nothing script) s) (state_of cs c left f)) numbers (subst (λ k. Follows r (Run dialect (Script 1 nothing script) k) (state_of cs c left f)) same h) in
     ends_by shows.globals shows.commands f cs c left r o (Run shows.dialect (Script 1 nothing script) s) (outcome_stays (plan shows.dialect) (Script 1 nothing script) s) follows is

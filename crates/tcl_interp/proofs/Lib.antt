@@ -1,4 +1,6 @@
 pub mod Ending
 mod Flushed
 mod Keeping
+mod Parts
+mod Slicing
 mod Standing

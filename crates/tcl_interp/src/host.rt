@@ -92,8 +92,10 @@ pub enum Outcome {
     Memory,
     /// A device failed; the interpreter has failed.
     Io,
-    /// The interpreter had failed before.
+    /// The interpreter, or the run, had failed before.
     Failed,
+    /// The run was over before.
+    Over,
 }
 
 /// Why a host has no answer.

@@ -28,7 +28,7 @@ use std::rc::RcStr;
 use tcl_chan::device::{Input, Output};
 use tcl_chan::world::World;
 use tcl_chars::{Dialect, Fault};
-use tcl_codes::Codes;
+use tcl_compile::Codes;
 use tcl_frames::{Frames, Variable};
 use tcl_names::NameMap;
 use tcl_run::run;
@@ -38,11 +38,11 @@ use tcl_table::Table;
 /// and whether it has failed. What codes are kept never shows.
 #[derive(Drop)]
 pub struct Interp {
-    alloc: Global,
-    frames: Frames,
-    table: Table,
-    codes: Codes,
-    failed: bool,
+    pub(crate) alloc: Global,
+    pub(crate) frames: Frames,
+    pub(crate) table: Table,
+    pub(crate) codes: Codes,
+    pub(crate) failed: bool,
 }
 
 impl Model for Interp {
@@ -108,7 +108,7 @@ impl Interp {
         self.codes.compiles()
     }
 
-    /// Evaluates a script, with so many units to spend: one for each command and each turn of a loop.
+    /// Evaluates a script, with `budget` units to spend: one for each command and each turn of a loop.
     pub fn eval<R: Input, W: Output, E: Output>(
         &mut self,
         world: &mut World<'_, '_, '_, R, W, E>,

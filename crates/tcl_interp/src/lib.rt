@@ -5,9 +5,15 @@ mod arguments;
 mod host;
 mod interp;
 mod outcome;
+mod pausing;
 mod report;
+mod slices;
+mod stage;
 mod vars;
 
 pub use host::{Config, HostFault, HostVar, Outcome, VarFault};
 pub use interp::Interp;
-pub use report::{Report, flush_both, prepared, run};
+pub use pausing::Run;
+pub use report::{Report, flush_both, prepared, run, run_with};
+pub use slices::run_sliced;
+pub use stage::Stage;

@@ -26,7 +26,7 @@ fn done(alloc: Global, completion: Completion, left: u64) -> Result<Outcome, All
     })
 }
 
-/// The outcome of a script that left so many units.
+/// The outcome of a script that ended so, with `left` units left.
 pub(crate) fn outcome_of(alloc: Global, ended: Result<Completion, Stop>, left: u64) -> Outcome
     ensures { IsOutcomeOf result ended left }
 {

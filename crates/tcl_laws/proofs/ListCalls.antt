@@ -7,13 +7,13 @@ use Rattle.tcl_chars.specs.declared.numbers.Dialect.{Dialect}
 use Rattle.tcl_words.specs.First.{none, command, first, first_command, most_levels}
 use Rattle.tcl_words.specs.Parts.{Shape}
 use Rattle.tcl_words.specs.Words.{after_command, after_gaps, first_at}
-use Rattle.tcl_list.specs.OneCommand.{AreWords, ends_command}
+use Rattle.tcl_laws.specs.OneCommand.{AreWords, ends_command}
 use Rattle.tcl_list.specs.Written.{written}
-use Rattle.tcl_list.proofs.OneCommand.{one_command, next_command}
+use Rattle.tcl_laws.proofs.OneCommand.{one_command, next_command}
 use Rattle.tcl_pages.specs.declared.lists.ListPage.TheVariants as list
 use Rattle.tcl_pages.specs.declared.pages.PurePage.TheVariants as pages
 use Rattle.tcl_pages.specs.ListPages.{list_page}
-use Rattle.tcl_pages.specs.Pure.{pure}
+use Rattle.tcl_meaning.specs.Pure.{pure}
 use Rattle.tcl_pages.specs.Texts.{Text}
 use Rattle.tcl_meaning.specs.declared.code.Code.{Code}
 use Rattle.tcl_meaning.specs.declared.code.Code.TheVariants as code

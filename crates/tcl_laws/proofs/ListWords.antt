@@ -2,9 +2,9 @@
 use Rattle.std.proofs.Common.{◌≡◌, ℕ, List, [], ◌∷◌, ◌++◌, Option, Some, None, option_map, Ok, refl, ap, ◌∙◌, subst}
 use Rattle.tcl_words.specs.Parts.{Part, text, escape, var, elem_, bracket, Shape}
 use Rattle.tcl_list.specs.Elements.{elements_of}
-use Rattle.tcl_list.specs.OneCommand.{plain_value, AreWords}
+use Rattle.tcl_laws.specs.OneCommand.{plain_value, AreWords}
 use Rattle.tcl_list.specs.Written.{written}
-use Rattle.tcl_list.proofs.OneCommand.{one_command, next_command}
+use Rattle.tcl_laws.proofs.OneCommand.{one_command, next_command}
 use Rattle.tcl_list.proofs.OneList.{reading_is_spelling}
 use Rattle.tcl_list.proofs.Spelled.{written_is_spelled}
 use Rattle.tcl_pages.specs.Texts.{Text}

@@ -2,11 +2,11 @@
 -- eval(n); Tcl(n), rule 2.
 use Rattle.std.specs.Prelude.{◌≡◌, ℕ, ◌+◌, ◌<◌, ◌≤◌, false, true, List, [], ◌∷◌, ◌++◌, Ok}
 use Rattle.tcl_chars.specs.declared.numbers.Dialect.{Dialect}
-use Rattle.tcl_list.specs.OneCommand.{ends_command}
+use Rattle.tcl_laws.specs.OneCommand.{ends_command}
 use Rattle.tcl_list.specs.Written.{written}
 use Rattle.tcl_pages.specs.declared.lists.ListPage.TheVariants as list
 use Rattle.tcl_pages.specs.declared.pages.PurePage.TheVariants as pages
-use Rattle.tcl_pages.specs.Pure.{pure}
+use Rattle.tcl_meaning.specs.Pure.{pure}
 use Rattle.tcl_pages.specs.Texts.{Text}
 use Rattle.tcl_meaning.specs.declared.code.Code.{Code}
 use Rattle.tcl_meaning.specs.declared.code.Code.TheVariants as code

@@ -4,7 +4,7 @@ use Rattle.tcl_chars.specs.declared.numbers.Dialect.{Dialect}
 use Rattle.tcl_words.specs.First.{command, first}
 use Rattle.tcl_words.specs.Parts.{Shape}
 use Rattle.tcl_words.specs.Words.{after_command}
-use Rattle.tcl_list.specs.OneCommand.{ends_command}
+use Rattle.tcl_laws.specs.OneCommand.{ends_command}
 use Rattle.tcl_list.specs.Written.{written}
 use Rattle.tcl_pages.specs.Texts.{Text}
 use Rattle.tcl_meaning.specs.Effects.{Gives, exec}

@@ -1,7 +1,5 @@
-pub mod BareWord
 pub mod BraceEnds
 pub mod BraceFound
-pub mod BracedWord
 pub mod Complete
 pub mod Cutting
 pub mod Escapes
@@ -9,7 +7,6 @@ pub mod Forward
 pub mod Joining
 pub mod Lists
 pub mod Messages
-pub mod OneCommand
 pub mod OneList
 pub mod Parts
 pub mod Sound

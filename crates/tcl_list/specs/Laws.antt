@@ -1,11 +1,9 @@
 -- Laws of reading and writing lists.
-use Rattle.std.specs.Prelude.{◌≡◌, ℕ, Bool, true, false, List, [], ◌∷◌, ◌++◌, Ok, Err, Some, ◌⊎◌, ◌↔◌}
-use Rattle.tcl_list.specs.Braces.{to_close}
+use Rattle.std.specs.Prelude.{◌≡◌, ℕ, Bool, true, false, List, [], ◌∷◌, ◌++◌, Ok, Err, ◌⊎◌, ◌↔◌}
 use Rattle.tcl_list.specs.Elements.{elements_of}
 use Rattle.tcl_list.specs.FirstFault.{ListFault}
 use Rattle.tcl_list.specs.Spelling.{Reads}
 use Rattle.tcl_list.specs.Written.{appended, written}
-use Rattle.tcl_words.specs.Words.{at_brace}
 
 -- A text reads as the elements that it spells, and as no other.
 abbrev pub ReadingIsSpelling : Type 0
@@ -35,7 +33,3 @@ has_none (e ∷ es) = false
 -- first.
 abbrev pub AppendedIsLonger : Type 0
 AppendedIsLonger = (es : List (List ℕ)) (e : List ℕ) → written es ++ appended (has_none es) e ≡ written (es ++ e ∷ [])
-
--- The brace that closes an element in braces is the one that closes a word in braces (Tcl(n), rule 6).
-abbrev pub SameBraceCloses : Type 0
-SameBraceCloses = (cs rest : List ℕ) → (to_close false 0 cs ≡ Some rest) ↔ (at_brace false 0 cs ≡ Ok rest)

@@ -3,7 +3,6 @@ pub mod Elements
 pub mod Faults
 pub mod FirstFault
 pub mod Laws
-pub mod OneCommand
 pub mod Spelling
 pub mod Texts
 pub mod Written

@@ -1,6 +1,5 @@
 //! Laws of the definitions: each function's contract is one, and its body does nothing.
-ghost use Rattle.tcl_list.specs.Laws.{AppendedIsLonger, FaultIsFirst, OneList, ReadingIsSpelling, ReadingOrFault, SameBraceCloses, WrittenIsSpelled};
-ghost use Rattle.tcl_list.specs.OneCommand.{NextCommand, OneCommand};
+ghost use Rattle.tcl_list.specs.Laws.{AppendedIsLonger, FaultIsFirst, OneList, ReadingIsSpelling, ReadingOrFault, WrittenIsSpelled};
 
 /// A text reads as the elements that it spells, and as no other.
 pub fn reading_is_spelling()
@@ -31,19 +30,4 @@ pub fn written_is_spelled()
 /// list is empty.
 pub fn appended_is_longer()
     ensures { AppendedIsLonger }
-{}
-
-/// The brace that closes an element in braces is the one that would close a word in braces.
-pub fn same_brace_closes()
-    ensures { SameBraceCloses }
-{}
-
-/// What is written of one element or more is one command, whose words are these elements.
-pub fn one_command()
-    ensures { OneCommand }
-{}
-
-/// So it is where a command's end follows it, also inside brackets.
-pub fn next_command()
-    ensures { NextCommand }
 {}

@@ -1,5 +1,5 @@
 -- Written lists joined as words: nothing of them is trimmed, and what comes of it is the list of all their elements.
-use Rattle.std.proofs.Common.{◌≡◌, ℕ, zero, suc, ◌+◌, ◌<◌, Bool, true, false, not, ◌&&◌, ◌||◌, List, [], ◌∷◌, ◌++◌, Option, Some, None, take, length, get_or, append_assoc, refl, sym, ap, ◌∙◌, subst, arith}
+use Rattle.std.proofs.Common.{◌≡◌, ℕ, zero, suc, ◌+◌, ◌<◌, ◌==◌, Bool, true, false, not, ◌&&◌, ◌||◌, List, [], ◌∷◌, ◌++◌, Option, Some, None, take, length, get_or, append_assoc, refl, sym, ap, ◌∙◌, subst, arith}
 use Rattle.std.specs.Prelude.{cond}
 use Rattle.std.proofs.lemmas.Bool.{cond_both, and_parts, false≢true}
 use Rattle.std.proofs.lemmas.List.{append-nil}
@@ -13,35 +13,41 @@ use Rattle.tcl_list.specs.Written.{is_special, needs_no_backslash, is_continued,
 use Rattle.tcl_list.proofs.Escapes.{bare_alone}
 use Rattle.tcl_lists.specs.Joined.{is_empty, with_word, begins_sign}
 use Rattle.tcl_lists.specs.WordAt.{word}
-use Rattle.tcl_lists.proofs.Joining.{concat_step, stands_first, stands_behind}
-use Rattle.tcl_pages.specs.Lists.{trimmed_end, behind_kept, trimmed, concat}
+use Rattle.tcl_lists.proofs.Joining.{trimmed_at, concat_step, stands_first, stands_behind}
+use Rattle.tcl_pages.specs.Lists.{trimmed_end, trimmed, concat}
 use Rattle.tcl_pages.specs.Texts.{Text}
 
 -- ---- a text of which nothing is trimmed at its end
 
 record IsFirm (t : Text) : Type 0 where
   full : is_empty t ≡ false
-  same : trimmed_end t ≡ t
+  same : (front : Text) → trimmed_end (front ++ t) ≡ front ++ t
 
 firm_front : (c : ℕ) (t : Text) → IsFirm t → IsFirm (c ∷ t)
-unfolding trimmed_end
-firm_front c [] f = absurd (false≢true (sym f.full))
-firm_front c (d ∷ t) f = record { full = refl; same = ap (λ k. behind_kept c k (d ∷ t)) f.same }
+firm_front c t f = record { full = refl; same = λ front. ap trimmed_end (sym (append_assoc front (c ∷ []) t)) ∙ f.same (front ++ c ∷ []) ∙ append_assoc front (c ∷ []) t }
 
 firm_append : (a t : Text) → IsFirm t → IsFirm (a ++ t)
 firm_append [] t f = f
 firm_append (c ∷ a) t f = firm_front c (a ++ t) (firm_append a t f)
 
 firm_char : (c : ℕ) → is_list_space c ≡ false → IsFirm (c ∷ [])
-unfolding trimmed_end
-firm_char c h = record { full = refl; same = ap (λ b. cond b [] (c ∷ [])) h }
+firm_char c h = record {
+  full = refl;
+  same = λ front. ap trimmed_end (sym (append-nil (front ++ c ∷ []))) ∙ trimmed_at front [] c (cond (c == backslash) 1 0) refl h refl ∙ ap (λ t. (front ++ c ∷ []) ++ t) (take_of_none (cond (c == backslash) 1 0)) ∙ append-nil (front ++ c ∷ []);
+}
+  where
+    take_of_none : (n : ℕ) → ◌≡◌ {A = Text} (take n []) []
+    take_of_none zero = refl
+    take_of_none (suc n) = refl
 
 firm_pair : (w : ℕ) → IsFirm (backslash ∷ w ∷ [])
-unfolding trimmed_end
 firm_pair w = by_space (is_list_space w) refl
   where
     by_space : (b : Bool) → is_list_space w ≡ b → IsFirm (backslash ∷ w ∷ [])
-    by_space true h = record { full = refl; same = ap (λ b. behind_kept backslash (cond b [] (w ∷ [])) (w ∷ [])) h }
+    by_space true h = record {
+      full = refl;
+      same = λ front. ap trimmed_end (sym (append_assoc front (backslash ∷ []) (w ∷ []))) ∙ trimmed_at front (w ∷ []) backslash 1 (ap (λ b. b && true) h) refl refl ∙ append_assoc front (backslash ∷ []) (w ∷ []);
+    }
     by_space false h = firm_front backslash (w ∷ []) (firm_char w h)
 
 -- ---- a text that begins with no list space
@@ -134,7 +140,7 @@ written_tight e es = record {
 written_whole : (es : List Text) → trimmed (written es) ≡ written es
 unfolding trimmed_end
 written_whole [] = refl
-written_whole (e ∷ es) = let w = written_tight e es in ap trimmed_end (skips_none (written (e ∷ es)) w.solid) ∙ w.firm.same
+written_whole (e ∷ es) = let w = written_tight e es in ap trimmed_end (skips_none (written (e ∷ es)) w.solid) ∙ w.firm.same []
 
 -- ---- one list behind another
 

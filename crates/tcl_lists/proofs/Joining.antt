@@ -4,11 +4,14 @@ use Rattle.std.specs.Prelude.{cond}
 use Rattle.std.proofs.lemmas.Bool.{and_parts, false≢true}
 use Rattle.tcl_chars.specs.Characters.{backslash}
 use Rattle.tcl_chars.specs.Classes.{is_list_space}
-use Rattle.std.proofs.lemmas.List.{take_more, append-nil}
-use Rattle.tcl_chars.specs.Whole.{skip_space}
+use Rattle.std.proofs.lemmas.List.{take_more, append-nil, reverse-append}
+use Rattle.std.proofs.Math.Seq.{take-append-add}
+use Rattle.tcl_chars.proofs.Trims.{trims, keeps}
+use Rattle.tcl_chars.specs.Place.{begins}
+use Rattle.tcl_chars.specs.Whole.{skip_space, trim_end}
 use Rattle.tcl_lists.specs.WordAt.{word}
 use Rattle.tcl_lists.specs.Joined.{is_empty, with_word}
-use Rattle.tcl_pages.specs.Lists.{trimmed_end, end_kept, behind_kept, trimmed, unless_empty, all_trimmed, concat, times}
+use Rattle.tcl_pages.specs.Lists.{space_kept, trimmed_end, trimmed, unless_empty, all_trimmed, concat, times}
 use Rattle.tcl_pages.specs.Texts.{Text, spaced, spaced_more}
 
 abbrev all_space : Text → Bool
@@ -33,46 +36,35 @@ trim_goes_on all end longer front c e b t = record {
   one_more = e;
 }
 
-end_space : (c : ℕ) (ws : Text) → is_list_space c ≡ true → end_kept c ws ≡ []
-end_space c [] h = ap (λ b. cond b [] (c ∷ [])) h
-end_space c (w ∷ ws) h = ap (λ b. cond b [] (cond (c == backslash) (c ∷ w ∷ []) (c ∷ []))) h
+trims_all : (front space : Text) → all_space space ≡ true → trim_end (front ++ space) ≡ trim_end front
+trims_all front [] h = ap trim_end (append-nil front)
+trims_all front (c ∷ space) h =
+    let p = and_parts _ _ h in
+    ap trim_end (sym (append_assoc front (c ∷ []) space)) ∙ trims_all (front ++ c ∷ []) space p.1 ∙ trims front c p.0
 
-trimmed_space : (ws : Text) → all_space ws ≡ true → trimmed_end ws ≡ []
+last_kept : (front : Text) (c : ℕ) → space_kept (front ++ c ∷ []) ≡ cond (c == backslash) 1 0
+last_kept front c = ap (λ r. cond (begins backslash r) 1 0) (reverse-append front (c ∷ []))
+
+-- behind a character that is no list space, k characters stay
+pub trimmed_at : (front space : Text) (c k : ℕ) → all_space space ≡ true → is_list_space c ≡ false → cond (c == backslash) 1 0 ≡ k → trimmed_end ((front ++ c ∷ []) ++ space) ≡ (front ++ c ∷ []) ++ take k space
 unfolding trimmed_end
-trimmed_space [] h = refl
-trimmed_space (w ∷ ws) h = let p = and_parts _ _ h in ap (λ k. behind_kept w k ws) (trimmed_space ws p.1) ∙ end_space w ws p.0
+trimmed_at front space c k h s e =
+    ap (λ t. take (length t + space_kept t) ((front ++ c ∷ []) ++ space)) (trims_all (front ++ c ∷ []) space h ∙ keeps front c s)
+    ∙ ap (λ n. take (length (front ++ c ∷ []) + n) ((front ++ c ∷ []) ++ space)) (last_kept front c ∙ e) ∙ take-append-add (front ++ c ∷ []) space k
 
-end_escaped : (c : ℕ) (ws : Text) → is_list_space c ≡ false → (c == backslash) ≡ true → end_kept c ws ≡ c ∷ take 1 ws
-end_escaped c [] h k = ap (λ b. cond b [] (c ∷ [])) h
-end_escaped c (w ∷ ws) h k = ap (λ b. cond b [] (cond (c == backslash) (c ∷ w ∷ []) (c ∷ []))) h ∙ ap (λ b. cond b (c ∷ w ∷ []) (c ∷ [])) k
-
-end_plain : (c : ℕ) (ws : Text) → is_list_space c ≡ false → (c == backslash) ≡ false → end_kept c ws ≡ c ∷ []
-end_plain c [] h k = ap (λ b. cond b [] (c ∷ [])) h
-end_plain c (w ∷ ws) h k = ap (λ b. cond b [] (cond (c == backslash) (c ∷ w ∷ []) (c ∷ []))) h ∙ ap (λ b. cond b (c ∷ w ∷ []) (c ∷ [])) k
-
-never_empty : (x : ℕ) (front : Text) (c : ℕ) (kept cs : Text) → behind_kept x (front ++ c ∷ kept) cs ≡ x ∷ (front ++ c ∷ kept)
-never_empty x [] c kept cs = refl
-never_empty x (y ∷ front) c kept cs = refl
-
-trimmed_front : (front : Text) (c : ℕ) (ws kept : Text) → all_space ws ≡ true → end_kept c ws ≡ c ∷ kept → trimmed_end (front ++ c ∷ ws) ≡ front ++ c ∷ kept
-unfolding trimmed_end
-trimmed_front [] c ws kept h e = ap (λ k. behind_kept c k ws) (trimmed_space ws h) ∙ e
-trimmed_front (x ∷ front) c ws kept h e = ap (λ k. behind_kept x k (front ++ c ∷ ws)) (trimmed_front front c ws kept h e) ∙ never_empty x front c kept (front ++ c ∷ ws)
-
-all_is : (all end longer front : Text) (c : ℕ) → end ≡ front ++ c ∷ [] → (t : IsTrimmed all end longer) → all ≡ front ++ c ∷ t.space
-all_is all end longer front c e t = t.joined ∙ ap (λ u. u ++ t.space) e ∙ append_assoc front (c ∷ []) t.space
+trimmed_from : (all end longer front : Text) (c k : ℕ) → end ≡ front ++ c ∷ [] → is_list_space c ≡ false → cond (c == backslash) 1 0 ≡ k → (t : IsTrimmed all end longer) → end ++ take k t.space ≡ trimmed_end all
+trimmed_from all end longer front c k e h b t =
+    ap (λ u. u ++ take k t.space) e ∙ sym (ap trimmed_end (t.joined ∙ ap (λ u. u ++ t.space) e) ∙ trimmed_at front t.space c k t.blank h b)
 
 pub trim_escaped : (all end longer front : Text) (c : ℕ) → end ≡ front ++ c ∷ [] → is_list_space c ≡ false → (c == backslash) ≡ true → IsTrimmed all end longer → longer ≡ trimmed_end all
-trim_escaped all end longer front c e h k t =
-    t.one_more ∙ ap (λ u. u ++ take 1 t.space) e ∙ append_assoc front (c ∷ []) (take 1 t.space)
-    ∙ sym (ap trimmed_end (all_is all end longer front c e t) ∙ trimmed_front front c t.space (take 1 t.space) t.blank (end_escaped c t.space h k))
+trim_escaped all end longer front c e h k t = t.one_more ∙ trimmed_from all end longer front c 1 e h (ap (λ b. cond b 1 0) k) t
 
 pub trim_plain : (all end longer front : Text) (c : ℕ) → end ≡ front ++ c ∷ [] → is_list_space c ≡ false → (c == backslash) ≡ false → IsTrimmed all end longer → end ≡ trimmed_end all
-trim_plain all end longer front c e h k t =
-    e ∙ sym (ap trimmed_end (all_is all end longer front c e t) ∙ trimmed_front front c t.space [] t.blank (end_plain c t.space h k))
+trim_plain all end longer front c e h k t = sym (append-nil end) ∙ trimmed_from all end longer front c 0 e h (ap (λ b. cond b 1 0) k) t
 
 pub trim_whole : (all end longer : Text) → end ≡ [] → IsTrimmed all end longer → end ≡ trimmed_end all
-trim_whole all end longer e t = e ∙ sym (ap trimmed_end (t.joined ∙ ap (λ u. u ++ t.space) e) ∙ trimmed_space t.space t.blank)
+unfolding trimmed_end
+trim_whole all end longer e t = e ∙ sym (ap trimmed_end (t.joined ∙ ap (λ u. u ++ t.space) e) ∙ ap (λ s. take (length s + space_kept s) t.space) (trims_all [] t.space t.blank))
 
 -- ---- one word behind the others
 

@@ -1,13 +1,14 @@
 -- Words by their places.
 use Rattle.std.proofs.Common.{◌≡◌, ◌≢◌, ℕ, ◌+◌, ◌≤◌, ◌<◌, ℤ, pos, negsuc, true, ltb-true, List, [], ◌∷◌, length, drop, take, ◌++◌, append_assoc, Ok, Err, sym, ap, ◌∙◌, refl, arith}
 use Rattle.std.specs.Prelude.{◌+ℤ◌, int_lt}
+use Rattle.tcl_chars.specs.Index.{clamp}
 use Rattle.tcl_chars.specs.Messages.{about, number}
 use Rattle.std.proofs.lemmas.List.{length-map}
 use Rattle.tcl_lists.specs.WordAt.{word}
 use Rattle.tcl_pages.specs.Answers.{Answer, ◌>>=◌}
 use Rattle.tcl_list.specs.Elements.{elements_of}
 use Rattle.tcl_list.specs.Written.{written}
-use Rattle.tcl_pages.specs.Lists.{index, clamped, replaced, llength, lreverse, lrange, linsert, lreplace, lrepeat, repeated, times}
+use Rattle.tcl_pages.specs.Lists.{index, replaced, llength, lreverse, lrange, linsert, lreplace, lrepeat, repeated, times}
 use Rattle.tcl_pages.specs.Texts.{Text}
 use Rattle.tcl_pages.specs.Usage.{usage}
 use Rattle.tcl_chars.specs.Texts.{literal}
@@ -81,7 +82,7 @@ at_place : (d : Dialect) (ws ws1 : List Text) (i n m : ℕ) (z : ℤ) → ws1 �
 at_place d ws ws1 i n m z s e h = sym (ap (λ u. index d (word u i) n) s ∙ ap (index d (word ws i)) e) ∙ h
 
 abbrev ranged : List Text → ℤ → ℤ → Answer Text
-ranged xs p q = Ok (written (drop (clamped p (length xs)) (take (clamped (q +ℤ pos 1) (length xs)) xs)))
+ranged xs p q = Ok (written (drop (clamp p (length xs)) (take (clamp (q +ℤ pos 1) (length xs)) xs)))
 
 abbrev range_last : Dialect → Text → List Text → ℤ → Answer Text
 range_last d last xs p = index d last (length xs) >>= ranged xs p
@@ -91,32 +92,32 @@ range_first d first last xs = index d first (length xs) >>= range_last d last xs
 
 pub lrange_is : (d : Dialect) (ws ws1 ws2 es : List Text) (n : ℕ) (f l : ℤ) (a b : ℕ) (ts : List Text) (v : Text) → length ws ≡ 3 → ws1 ≡ ws → ws2 ≡ ws1
     → elements_of (word ws 0) ≡ Ok es → n ≡ length es → index d (word ws1 1) n ≡ Ok f → index d (word ws2 2) n ≡ Ok l
-    → a ≡ clamped f n → b ≡ clamped (l +ℤ pos 1) n → ts ≡ es → v ≡ written (drop a (take b ts)) → lrange d ws ≡ Ok v
+    → a ≡ clamp f n → b ≡ clamp (l +ℤ pos 1) n → ts ≡ es → v ≡ written (drop a (take b ts)) → lrange d ws ≡ Ok v
 lrange_is d ws ws1 ws2 es n f l a b ts v len s1 s2 e0 en e1 e2 ea eb et ev =
     ap (lrange d) (three_words ws len) ∙ ap (λ r. r >>= range_first d (word ws 1) (word ws 2)) e0 ∙ ap (λ r. r >>= range_last d (word ws 2) es) (at_place d ws ws1 1 n (length es) f s1 en e1)
     ∙ ap (λ r. r >>= ranged es f) (at_place d ws ws2 2 n (length es) l (s2 ∙ s1) en e2) ∙ ap Ok (sym (ev ∙ same))
   where
-    same : written (drop a (take b ts)) ≡ written (drop (clamped f (length es)) (take (clamped (l +ℤ pos 1) (length es)) es))
+    same : written (drop a (take b ts)) ≡ written (drop (clamp f (length es)) (take (clamp (l +ℤ pos 1) (length es)) es))
     same = rw (ea, eb, et, en) refl
 
 abbrev inserted_at : List Text → List Text → ℤ → Answer Text
-inserted_at new xs p = Ok (written (replaced xs (clamped p (length xs)) (clamped p (length xs)) new))
+inserted_at new xs p = Ok (written (replaced xs (clamp p (length xs)) (clamp p (length xs)) new))
 
 abbrev insert_in : Dialect → Text → List Text → List Text → Answer Text
 insert_in d i new xs = index d i (length xs + 1) >>= inserted_at new xs
 
 pub linsert_is : (d : Dialect) (ws ws1 ws2 es : List Text) (n : ℕ) (z : ℤ) (a : ℕ) (ts : List Text) (v : Text) → 2 ≤ length ws → ws1 ≡ ws → ws2 ≡ ws1
     → elements_of (word ws 0) ≡ Ok es → n ≡ length es → index d (word ws1 1) (n + 1) ≡ Ok z
-    → a ≡ clamped z n → ts ≡ es → v ≡ written (replaced ts a a (drop 2 ws2)) → linsert d ws ≡ Ok v
+    → a ≡ clamp z n → ts ≡ es → v ≡ written (replaced ts a a (drop 2 ws2)) → linsert d ws ≡ Ok v
 linsert_is d ws ws1 ws2 es n z a ts v len s1 s2 e0 en e1 ea et ev =
     ap (linsert d) (two_more ws len) ∙ ap (λ r. r >>= insert_in d (word ws 1) (drop 2 ws)) e0
     ∙ ap (λ r. r >>= inserted_at (drop 2 ws) es) (at_place d ws ws1 1 (n + 1) (length es + 1) z s1 (ap (λ k. k + 1) en) e1) ∙ ap Ok (sym (ev ∙ same))
   where
-    same : written (replaced ts a a (drop 2 ws2)) ≡ written (replaced es (clamped z (length es)) (clamped z (length es)) (drop 2 ws))
+    same : written (replaced ts a a (drop 2 ws2)) ≡ written (replaced es (clamp z (length es)) (clamp z (length es)) (drop 2 ws))
     same = rw (ea, et, en, s2, s1) refl
 
 abbrev replaced_at : List Text → List Text → ℤ → ℤ → Answer Text
-replaced_at new xs p q = Ok (written (replaced xs (clamped p (length xs)) (clamped (q +ℤ pos 1) (length xs)) new))
+replaced_at new xs p q = Ok (written (replaced xs (clamp p (length xs)) (clamp (q +ℤ pos 1) (length xs)) new))
 
 abbrev replace_last : Dialect → Text → List Text → List Text → ℤ → Answer Text
 replace_last d last new xs p = index d last (length xs) >>= replaced_at new xs p
@@ -126,13 +127,13 @@ replace_first d first last new xs = index d first (length xs) >>= replace_last d
 
 pub lreplace_is : (d : Dialect) (ws ws1 ws2 ws3 es : List Text) (n : ℕ) (f l : ℤ) (a b : ℕ) (ts : List Text) (v : Text) → 3 ≤ length ws → ws1 ≡ ws → ws2 ≡ ws1 → ws3 ≡ ws2
     → elements_of (word ws 0) ≡ Ok es → n ≡ length es → index d (word ws1 1) n ≡ Ok f → index d (word ws2 2) n ≡ Ok l
-    → a ≡ clamped f n → b ≡ clamped (l +ℤ pos 1) n → ts ≡ es → v ≡ written (replaced ts a b (drop 3 ws3)) → lreplace d ws ≡ Ok v
+    → a ≡ clamp f n → b ≡ clamp (l +ℤ pos 1) n → ts ≡ es → v ≡ written (replaced ts a b (drop 3 ws3)) → lreplace d ws ≡ Ok v
 lreplace_is d ws ws1 ws2 ws3 es n f l a b ts v len s1 s2 s3 e0 en e1 e2 ea eb et ev =
     ap (lreplace d) (three_more ws len) ∙ ap (λ r. r >>= replace_first d (word ws 1) (word ws 2) (drop 3 ws)) e0
     ∙ ap (λ r. r >>= replace_last d (word ws 2) (drop 3 ws) es) (at_place d ws ws1 1 n (length es) f s1 en e1)
     ∙ ap (λ r. r >>= replaced_at (drop 3 ws) es f) (at_place d ws ws2 2 n (length es) l (s2 ∙ s1) en e2) ∙ ap Ok (sym (ev ∙ same))
   where
-    same : written (replaced ts a b (drop 3 ws3)) ≡ written (replaced es (clamped f (length es)) (clamped (l +ℤ pos 1) (length es)) (drop 3 ws))
+    same : written (replaced ts a b (drop 3 ws3)) ≡ written (replaced es (clamp f (length es)) (clamp (l +ℤ pos 1) (length es)) (drop 3 ws))
     same = rw (ea, eb, et, en, s3, s2, s1) refl
 
 abbrev repeated_by : List Text → ℤ → Answer Text

@@ -6,9 +6,9 @@ ghost use Rattle.tcl_list.specs.Written.{written};
 ghost use Rattle.tcl_pages.specs.Lists as spec;
 
 use crate::message::usage;
-use crate::words::{behind, clamped, index_at, row_at};
+use crate::words::{behind, index_at, row_at};
 use std::alloc::{AllocError, Global};
-use tcl_chars::{Dialect, Fault};
+use tcl_chars::{Dialect, Fault, clamp};
 use tcl_values::{Gathering, Row, Value};
 
 /// The values from a place on.
@@ -68,7 +68,7 @@ pub fn lrange(alloc: Global, words: &mut [Value], dialect: Dialect) -> Result<Va
     let count = row.items().len();
     let first = index_at(alloc, words, 1, count, dialect)?;
     let last = index_at(alloc, words, 2, count, dialect)?;
-    Ok(part(alloc, &row, clamped(first, count), behind(last, count))?)
+    Ok(part(alloc, &row, clamp(first, count), behind(last, count))?)
 }
 
 /// `linsert list index ?element ...?`: the list with elements in front of the place, where `end` is behind the last element.
@@ -86,7 +86,7 @@ pub fn linsert(alloc: Global, words: &mut [Value], dialect: Dialect) -> Result<V
     let row = row_at(alloc, words, 0)?;
     let count = row.items().len();
     let place = index_at(alloc, words, 1, count + 1, dialect)?;
-    let place = clamped(place, count);
+    let place = clamp(place, count);
     Ok(spliced(alloc, &row, place, place, &*words, 2)?)
 }
 
@@ -106,7 +106,7 @@ pub fn lreplace(alloc: Global, words: &mut [Value], dialect: Dialect) -> Result<
     let count = row.items().len();
     let first = index_at(alloc, words, 1, count, dialect)?;
     let last = index_at(alloc, words, 2, count, dialect)?;
-    let begin = clamped(first, count);
+    let begin = clamp(first, count);
     let end = behind(last, count);
     Ok(spliced(alloc, &row, begin, end, &*words, 3)?)
 }

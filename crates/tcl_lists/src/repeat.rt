@@ -12,7 +12,7 @@ use std::alloc::{AllocError, Global};
 use tcl_chars::{Dialect, Fault, about, expect_number};
 use tcl_values::{Gathering, Value};
 
-/// The list of the values so many times.
+/// The list of the values, repeated `count` times.
 fn repeated(alloc: Global, values: &[Value], count: u64) -> Result<Value, AllocError>
     ensures { IfOk result (λ v. v ≡ written (spec.times count values.now)) }
 {
@@ -23,7 +23,7 @@ fn repeated(alloc: Global, values: &[Value], count: u64) -> Result<Value, AllocE
     once.repeated(alloc, count)?.into_value(alloc)
 }
 
-/// `lrepeat count ?element ...?`: the list of the elements so many times.
+/// `lrepeat count ?element ...?`: the list of the elements, repeated `count` times.
 ///
 /// # Errors
 ///

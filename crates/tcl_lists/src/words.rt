@@ -2,6 +2,7 @@
 
 ghost use Rattle.std.specs.Prelude.{◌≡◌, ◌<◌, ◌+ℤ◌, pos, [], length, IfOk};
 ghost use Rattle.tcl_chars.specs.Answers.{Answers, Stops};
+ghost use Rattle.tcl_chars.specs.Index.{clamp};
 ghost use Rattle.tcl_chars.specs.Texts.{text_of};
 ghost use Rattle.tcl_list.specs.Elements.{elements_of};
 ghost use Rattle.tcl_lists.specs.WordAt.{word, fault_in_front};
@@ -88,22 +89,9 @@ pub(crate) fn index_at(
     Ok(place_of(position, count))
 }
 
-/// The place from 0 to `count` that is nearest.
-pub(crate) fn clamped(place: i128, count: usize) -> usize
-    ensures { result ≡ spec.clamped place count }
-{
-    if place < 0 {
-        return 0;
-    }
-    if place > i128::from(count as u64) {
-        return count;
-    }
-    place as usize
-}
-
 /// The place from 0 to `count` that is nearest to the one behind a place.
 pub(crate) fn behind(place: i128, count: usize) -> usize
-    ensures { result ≡ spec.clamped (place +ℤ pos 1) count }
+    ensures { result ≡ clamp (place +ℤ pos 1) count }
 {
     if place < 0 {
         return 0;

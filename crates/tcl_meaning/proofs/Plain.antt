@@ -12,7 +12,7 @@ use Rattle.tcl_meaning.specs.State.{State}
 use Rattle.tcl_meaning.specs.Effects.{Plain, Give, Look, Make, Link, Write, Take, HasEnded, Exit, Call, plainly, Got, Gives, Broke, Exits, Untold, made, linked, wrote, took, take_from, exec, does}
 use Rattle.tcl_meaning.specs.Value.{◌>>=◌, judged}
 use Rattle.tcl_meaning.specs.Asking.{done}
-use Rattle.tcl_pages.specs.Pure.{pure}
+use Rattle.tcl_meaning.specs.Pure.{pure}
 use Rattle.tcl_meaning.specs.VariablePages.{pure_page}
 use Rattle.tcl_meaning.specs.Pages.{page_asks}
 use Rattle.tcl_meaning.specs.Beginnings.{IsFree}

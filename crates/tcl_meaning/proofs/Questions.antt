@@ -1,5 +1,5 @@
 -- No page asks too often: how often it may ask doesn't show.
-use Rattle.std.proofs.Common.{◌≡◌, ℕ, zero, suc, ◌<◌, ◌≤◌, Bool, true, false, List, [], ◌∷◌, length, refl, ap, subst, arith, Option, Some, None}
+use Rattle.std.proofs.Common.{◌≡◌, ℕ, zero, suc, ◌<◌, ◌≤◌, Bool, true, false, List, [], ◌∷◌, take, length, refl, ap, subst, arith, Option, Some, None}
 use Rattle.tcl_chars.specs.declared.numbers.Dialect.{Dialect}
 use Rattle.tcl_meaning.specs.declared.code.Code.{Code}
 use Rattle.tcl_meaning.specs.declared.refusal.LinkRefusal.{LinkRefusal}
@@ -13,11 +13,13 @@ use Rattle.tcl_meaning.specs.Effects.{Scope, Prog, Plain, Give, Look, Make, Link
 use Rattle.tcl_meaning.specs.Value.{Value, Has, Fails, completed, ◌>>=◌ as andthen, judged}
 use Rattle.tcl_meaning.specs.Variables.{set_all}
 use Rattle.tcl_chars.specs.Messages.{truth_value}
-use Rattle.tcl_meaning.specs.Tasks.{Each, Step, Done, Run, Evaluate, Pay, Owes, Nothing, Leaving, Catching, IfTest, WhileTest, ForTest, WhileBody, ForStart, ForBody, ForNext, EachBody}
+use Rattle.tcl_meaning.specs.Tasks.{Each, Step, Done, Run, Evaluate, Pay, Owes, Nothing, Leaving, Catching, IfTest, WhileTest, ForTest, WhileBody, ForStart, ForBody, ForNext, EachBody, Handler, Trying, Handling, Finishing}
 use Rattle.tcl_meaning.specs.Substitution.{inside}
 use Rattle.tcl_meaning.specs.Expressions.{expression}
 use Rattle.tcl_meaning.specs.Asking.{Asks, questions_owed, questions, value_step, answered, all_answered, asked}
 use Rattle.tcl_meaning.specs.Control.{ask_if, if_ok, if_goes_on, if_true, body_asks, next_clause, each_next, has_more, gathered, after_for_next, after_each}
+use Rattle.tcl_meaning.specs.Handlers.{handler_for}
+use Rattle.tcl_meaning.specs.Trying.{finish, handle_by, handle, after_try_by, after_finally}
 use Rattle.tcl_meaning.specs.Pages.{owed}
 
 -- every value that a plain program gives meets P
@@ -82,7 +84,39 @@ clauses_within [] o = body_within o (suc 0) (omega arith)
 clauses_within (c ∷ cs) o = omega arith
 
 each_next_within : (n : ℕ) (e : Each) → AsksWithin n (each_next e)
-each_next_within n e = if_within n (has_more e.lanes) _ _ (omega arith) (omega arith)
+each_next_within n e = if_within n (has_more e.lists) _ _ (omega arith) (omega arith)
+
+-- whatever a program comes to, a value or an error, what follows asks at most so often
+then_within : {A : Type 0} (n : ℕ) (p : Plain (Value A)) (f : Value A → Asks) → ((v : Value A) → AsksWithin n (f v)) → AsksWithin n (p >>= f)
+then_within n (Give v) f h = h v
+then_within n (Look g) f h = λ s. then_within n (g s) f h
+then_within n (Make ch p) f h = then_within n p f h
+then_within n (Link level other local g) f h = λ r. then_within n (g r) f h
+then_within n (Write o t p) f h = then_within n p f h
+then_within n (Take want g) f h = λ t. then_within n (g t) f h
+then_within n (HasEnded g) f h = λ b. then_within n (g b) f h
+then_within n (Exit m) f h = tt
+then_within n (Call scope task g) f h = absurd task
+
+finish_within : (n : ℕ) (finally : Option Text) (c : Completion) → AsksWithin (suc n) (finish finally c)
+finish_within n None c = omega arith
+finish_within n (Some script) c = omega arith
+
+handle_within : (finally : Option Text) (script : Text) (v : Value (Unit {0})) → AsksWithin 2 (handle_by finally script v)
+handle_within finally script (Has u) = omega arith
+handle_within finally script (Fails c) = finish_within 1 finally c
+
+try_within : (finally : Option Text) (c : Completion) (h : Option Handler) → AsksWithin 2 (after_try_by finally c h)
+try_within finally c None = finish_within 1 finally c
+try_within finally c (Some h) = then_within 2 (set_all (take 2 h.names) (c.result ∷ options_text c ∷ [])) (handle_by finally h.script) (handle_within finally h.script)
+
+finally_within : (before : Completion) (k : Code) (c : Completion) → AsksWithin 0 (after_finally before k c)
+finally_within before code.Ok c = omega arith
+finally_within before code.Error c = omega arith
+finally_within before code.Return c = omega arith
+finally_within before code.Break c = omega arith
+finally_within before code.Continue c = omega arith
+finally_within before (code.Other z) c = omega arith
 
 module _ (dialect : Dialect) where
   owed_within : (o : Owes) (c : Completion) → AsksWithin (questions_owed o) (owed dialect o c)
@@ -114,6 +148,9 @@ module _ (dialect : Dialect) where
       each_within code.Break = omega arith
       each_within code.Continue = each_next_within 0 e
       each_within (code.Other z) = omega arith
+  owed_within (Trying handlers) c = try_within handlers.finally c (handler_for handlers.clauses c)
+  owed_within (Handling finally) c = finish_within 0 finally c
+  owed_within (Finishing before) c = finally_within before (code_now c) c
 
 -- ---- what is given
 

@@ -1,4 +1,4 @@
--- What a whole run comes to, seen_answer from a place in it: by what a part came to, it is what the rest comes to.
+-- What a whole run comes to, seen from a place in it: by what a part came to, it is what the rest comes to.
 use Rattle.std.proofs.Common.{◌≡◌, refl, sym, ap, ◌∙◌, subst}
 use Rattle.tcl_meaning.specs.Beginnings.{channels_of, OutputsBegin}
 use Rattle.tcl_meaning.specs.Completions.{Completion}

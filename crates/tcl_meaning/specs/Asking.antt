@@ -5,7 +5,7 @@ use Rattle.tcl_pages.specs.Texts.{Text}
 use Rattle.tcl_meaning.specs.Completions.{Completion, normal, wrong_words}
 use Rattle.tcl_meaning.specs.Effects.{Here, Prog, Plain, Give, plainly, Call, ◌>>=◌}
 use Rattle.tcl_meaning.specs.Value.{Value, Has, Fails, give, fail, completed}
-use Rattle.tcl_meaning.specs.Tasks.{Task, Turn, Step, Done, Run, Evaluate, Pay, Owes, Nothing, Leaving, Catching, IfTest, WhileTest, ForTest, WhileBody, ForStart, ForBody, ForNext, EachBody}
+use Rattle.tcl_meaning.specs.Tasks.{Task, Turn, Step, Done, Run, Evaluate, Pay, Owes, Nothing, Leaving, Catching, IfTest, WhileTest, ForTest, WhileBody, ForStart, ForBody, ForNext, EachBody, Trying, Handling, Finishing}
 use Rattle.tcl_meaning.specs.Substitution.{inside}
 use Rattle.tcl_meaning.specs.Expressions.{expression}
 
@@ -37,6 +37,9 @@ questions_owed (ForStart test next body) = 1
 questions_owed (ForBody test next body) = 2
 questions_owed (ForNext test next body) = 1
 questions_owed (EachBody each) = 0
+questions_owed (Trying handlers) = 2
+questions_owed (Handling finally) = 1
+questions_owed (Finishing before) = 0
 
 abbrev pub questions : Step → ℕ
 questions (Done c) = 0

@@ -87,7 +87,7 @@ without_newline [] = []
 without_newline (c ∷ []) = if c == newline then [] else c ∷ []
 without_newline (c ∷ d ∷ cs) = c ∷ without_newline (d ∷ cs)
 
--- how long the line is that was input_taken; -1 where nothing was left
+-- how long the line is that was taken; -1 where nothing was left
 abbrev pub line_count : Text → Text
 line_count [] = literal "-1"
 line_count (c ∷ cs) = count_text (length (without_newline (c ∷ cs)))

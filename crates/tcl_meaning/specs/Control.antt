@@ -17,8 +17,8 @@ use Rattle.tcl_meaning.specs.Completions.{Completion, normal, nothing, code_now}
 use Rattle.tcl_meaning.specs.Effects.{Here}
 use Rattle.tcl_meaning.specs.Value.{◌>>=◌, fail, judged}
 use Rattle.tcl_meaning.specs.Variables.{set_all}
-use Rattle.tcl_meaning.specs.Shapes.{Eaches, if_shape, each_shape, lanes_of, switch_words, paired, last_checked, chosen}
-use Rattle.tcl_meaning.specs.Tasks.{Lane, Each, Loop, While, For, ForEach, Others, Run, Evaluate, Pay, Nothing, IfTest, WhileTest, ForTest, WhileBody, ForStart, ForBody, ForNext, EachBody}
+use Rattle.tcl_meaning.specs.Shapes.{Eaches, if_shape, each_shape, loop_lists_of, switch_words, paired, last_checked, chosen}
+use Rattle.tcl_meaning.specs.Tasks.{LoopList, Each, Loop, While, For, ForEach, Others, Run, Evaluate, Pay, Nothing, IfTest, WhileTest, ForTest, WhileBody, ForStart, ForBody, ForNext, EachBody}
 use Rattle.tcl_meaning.specs.Asking.{Asks, done, ask, usage}
 
 abbrev pub ask_if : Bool → Asks → Asks → Asks
@@ -64,14 +64,14 @@ if_page ws = if_shaped (if_shape ws)
 -- ---- foreach, lmap, dict for
 
 -- is an element left in one of the lists
-abbrev pub has_more : List Lane → Bool
+abbrev pub has_more : List LoopList → Bool
 has_more [] = false
 has_more (l ∷ ls) = (not (length l.elements == 0)) || has_more ls
 
-abbrev pub behind_turn : Lane → Lane
+abbrev pub behind_turn : LoopList → LoopList
 behind_turn l = record l { elements = drop (length l.names) l.elements }
 
-abbrev pub behind_turns : List Lane → List Lane
+abbrev pub behind_turns : List LoopList → List LoopList
 behind_turns [] = []
 behind_turns (l ∷ ls) = behind_turn l ∷ behind_turns ls
 
@@ -82,11 +82,11 @@ each_answer (Some results) = normal (written results)
 
 -- turns are as many as the longest list needs
 abbrev pub each_next : Each → Asks
-each_next e = ask_if (has_more e.lanes) (ask (Pay (ForEach e))) (done (each_answer e.results))
+each_next e = ask_if (has_more e.lists) (ask (Pay (ForEach e))) (done (each_answer e.results))
 
 -- each list's variables are set, from left to right; an element that is missing is empty
-abbrev pub each_set : Each → List Lane → Asks
-each_set e [] = ask (Run Here e.body (EachBody (record e { lanes = behind_turns e.lanes })))
+abbrev pub each_set : Each → List LoopList → Asks
+each_set e [] = ask (Run Here e.body (EachBody (record e { lists = behind_turns e.lists })))
 each_set e (l ∷ ls) = do
   _ ← set_all l.names (take (length l.names) l.elements)
   each_set e ls
@@ -103,8 +103,8 @@ after_each e _ c = fail c
 
 abbrev pub each_among : Option (List Text) → Text → Eaches → Asks
 each_among results empty shape = do
-  lanes ← judged (lanes_of empty shape.lists)
-  each_next (record { lanes = lanes; body = shape.body; results = results })
+  lists ← judged (loop_lists_of empty shape.lists)
+  each_next (record { lists = lists; body = shape.body; results = results })
 
 abbrev pub each_shaped : Option (List Text) → Text → Text → Option Eaches → Asks
 each_shaped results u empty None = usage u
@@ -129,7 +129,7 @@ dict_for_page (names ∷ dictionary ∷ body ∷ []) = do
   ns ← judged (elements_of names)
   two ← judged (two_names ns)
   ps ← judged (pairs_of dictionary)
-  each_next (record { lanes = record { names = two; elements = flat ps } ∷ []; body = body; results = None })
+  each_next (record { lists = record { names = two; elements = flat ps } ∷ []; body = body; results = None })
 dict_for_page _ = usage (literal "dict for {keyVarName valueVarName} dictionary script")
 
 -- ---- switch
@@ -220,4 +220,4 @@ module _ (dialect : Dialect) where
 abbrev pub turned : Loop → Asks
 turned (While test body) = ask (Run Here body (WhileBody test body))
 turned (For test next body) = ask (Run Here body (ForBody test next body))
-turned (ForEach e) = each_set e e.lanes
+turned (ForEach e) = each_set e e.lists

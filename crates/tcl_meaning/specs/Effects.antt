@@ -25,7 +25,7 @@ pub data Prog (T A : Type 0) : Type 0 where
   Link : Level → (other local : Text) → (Option LinkRefusal → Prog T A) → Prog T A
   -- a text goes to an output
   Write : Output → Text → Prog T A → Prog T A
-  -- a text is input_taken from the input; has a call met its end
+  -- a text is taken from the input; has a call met its end
   Take : Want → (Text → Prog T A) → Prog T A
   HasEnded : (Bool → Prog T A) → Prog T A
   -- the run is over, with this status: exit(n)
@@ -86,7 +86,7 @@ linked level other local s = with_store (link s.store level other local).1 s
 abbrev pub wrote : Output → Text → State → State
 wrote o t s = with_channels (with_output o (encode_utf8_all t) s.channels) s
 
--- the state once a text was input_taken from the characters cs of the input
+-- the state once a text was taken from the characters cs of the input
 abbrev pub took : Want → Text → State → State
 took want cs s = with_channels (with_input (left want cs) (s.channels.met_end || meets_end want cs) s.channels) s
 

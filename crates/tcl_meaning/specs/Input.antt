@@ -1,4 +1,4 @@
--- What a script takes from its input: gets(n), read(n), eof(n). What is input_taken stands in front of what is left: so input
+-- What a script takes from its input: gets(n), read(n), eof(n). What is taken stands in front of what is left: so input
 -- only shrinks, whatever a program asks for.
 use Rattle.std.specs.Prelude.{ℕ, suc, Bool, true, false, nat_lt, ◌==◌, [], ◌∷◌, length, take, drop, if◌then◌else◌}
 use Rattle.tcl_chars.specs.Characters.{newline}
@@ -19,7 +19,7 @@ abbrev pub has_line : Text → Bool
 has_line [] = false
 has_line (c ∷ cs) = if c == newline then true else has_line cs
 
--- how many characters are input_taken; where there are fewer, all are
+-- how many characters are taken; where there are fewer, all are
 abbrev pub amount : Want → Text → ℕ
 amount a_line cs = line_length cs
 amount (so_many n) cs = n

@@ -8,7 +8,7 @@ use Rattle.tcl_pages.specs.Answers.{Answer, ◌>>=◌}
 use Rattle.tcl_pages.specs.Glob.{glob}
 use Rattle.tcl_chars.specs.Messages.{about}
 use Rattle.tcl_pages.specs.Usage.{bad_option}
-use Rattle.tcl_meaning.specs.Tasks.{Lane, Others}
+use Rattle.tcl_meaning.specs.Tasks.{LoopList, Others}
 
 -- is a word this one
 abbrev pub is_word : List ℕ → Text → Bool
@@ -60,13 +60,13 @@ pub record Eaches : Type 0 where
   pub lists : List (Text × Text)
   pub body : Text
 
-abbrev pub with_lane : Text → Text → Option Eaches → Option Eaches
-with_lane names list None = None
-with_lane names list (Some shape) = Some (record shape { lists = (names, list) ∷ shape.lists })
+abbrev pub with_list : Text → Text → Option Eaches → Option Eaches
+with_list names list None = None
+with_list names list (Some shape) = Some (record shape { lists = (names, list) ∷ shape.lists })
 
 abbrev pub each_shape : List Text → Option Eaches
 each_shape (names ∷ list ∷ body ∷ []) = Some (record { lists = (names, list) ∷ []; body = body })
-each_shape (names ∷ list ∷ more ∷ list' ∷ ws) = with_lane names list (each_shape (more ∷ list' ∷ ws))
+each_shape (names ∷ list ∷ more ∷ list' ∷ ws) = with_list names list (each_shape (more ∷ list' ∷ ws))
 each_shape _ = None
 
 -- a list of no names is an error of this message
@@ -75,13 +75,13 @@ some_names empty [] = Err empty
 some_names empty (n ∷ ns) = Ok (n ∷ ns)
 
 -- the lists are read from left to right
-abbrev pub lanes_of : Text → List (Text × Text) → Answer (List Lane)
-lanes_of empty [] = Ok []
-lanes_of empty (p ∷ ps) = do
+abbrev pub loop_lists_of : Text → List (Text × Text) → Answer (List LoopList)
+loop_lists_of empty [] = Ok []
+loop_lists_of empty (p ∷ ps) = do
   ns ← elements_of p.0
   names ← some_names empty ns
   es ← elements_of p.1
-  ls ← lanes_of empty ps
+  ls ← loop_lists_of empty ps
   Ok (record { names = names; elements = es } ∷ ls)
 
 -- ---- switch

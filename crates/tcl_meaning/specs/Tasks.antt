@@ -1,19 +1,20 @@
 -- What is run as one piece, and what pages that run scripts ask for.
 use Rattle.std.specs.Prelude.{ℕ, List, Option}
 use Rattle.tcl_pages.specs.Texts.{Text}
+use Rattle.tcl_meaning.specs.declared.code.Code.{Code}
 use Rattle.tcl_meaning.specs.Completions.{Completion}
 use Rattle.tcl_meaning.specs.Effects.{Scope}
 
 -- ---- loops
 
 -- names of loop variables, and the elements that are left for them
-pub record Lane : Type 0 where
+pub record LoopList : Type 0 where
   pub names : List Text
   pub elements : List Text
 
 -- foreach(n), lmap(n), `dict for` of dict(n): a body for the elements of several lists, and the results so far where they are gathered
 pub record Each : Type 0 where
-  pub lanes : List Lane
+  pub lists : List LoopList
   pub body : Text
   pub results : Option (List Text)
 
@@ -29,6 +30,22 @@ pub data Loop : Type 0 where
 pub record Others : Type 0 where
   pub clauses : List (Text × Text)
   pub otherwise : Option Text
+
+-- What a handler of `try` waits for: a code; or an error whose code is a list that begins with these elements.
+pub data Catches : Type 0 where
+  On : Code → Catches
+  Trap : (pattern : List Text) → Catches
+
+-- `on code variableList script` or `trap pattern variableList script`: try(n)
+pub record Handler : Type 0 where
+  pub catches : Catches
+  pub names : List Text
+  pub script : Text
+
+-- what a `try` has behind its body
+pub record Handlers : Type 0 where
+  pub clauses : List Handler
+  pub finally : Option Text
 
 -- What a page has still to do when what it asked for has ended.
 pub data Owes : Type 0 where
@@ -48,6 +65,11 @@ pub data Owes : Type 0 where
   ForBody : (test next body : Text) → Owes
   ForNext : (test next body : Text) → Owes
   EachBody : Each → Owes
+  -- the body of a `try`; the script of its handler, or else the body, where `finally` comes next; and that of `finally`, behind
+  -- a completion
+  Trying : Handlers → Owes
+  Handling : (finally : Option Text) → Owes
+  Finishing : Completion → Owes
 
 -- What a page asks for before it goes on. It is done, or a script is to be run, one deeper; or an expression is to be
 -- evaluated; or a turn of a loop is to be paid for and made.

@@ -5,7 +5,7 @@ use Rattle.tcl_chars.specs.declared.numbers.Dialect.{Dialect}
 use Rattle.tcl_chars.specs.Texts.{literal}
 use Rattle.tcl_list.specs.Elements.{elements_of}
 use Rattle.tcl_pages.specs.Lists.{values_for, rest_behind}
-use Rattle.tcl_pages.specs.Pure.{pure}
+use Rattle.tcl_meaning.specs.Pure.{pure}
 use Rattle.tcl_pages.specs.Texts.{Text, same_text}
 use Rattle.tcl_pages.specs.Updates.{Old, begins, is_read, must_be_there, update_words, old_of, updated}
 use Rattle.tcl_pages.specs.declared.pages.PurePage.{PurePage}

@@ -2,16 +2,17 @@
 use Rattle.std.proofs.Common.{◌≡◌, ◌≢◌, ℕ, suc, ◌+◌, ◌≤◌, ℤ, true, false, ◌&&◌, [], ◌∷◌, ◌++◌, length, Option, Some, None, sym, ap, ◌∙◌, subst, refl, arith, inl, inr}
 use Rattle.std.specs.Prelude.{MatchOption, ◌⊎◌}
 use Rattle.std.proofs.lemmas.Bool.{cases_Bool, and_parts, cond-true, cond-false, eq-eqb, eqb-true, false≢true}
-use Rattle.tcl_pages.specs.Strings.{begins_with, places_of, is_before, first_from, StandsAt, FirstIsLeast}
+use Rattle.tcl_chars.specs.Truth.{is_beginning}
+use Rattle.tcl_pages.specs.Strings.{places_of, is_before, first_from, StandsAt, FirstIsLeast}
 use Rattle.tcl_pages.specs.Texts.{Text}
 
 -- ---- where a needle begins a text
 
-record Behind (needle t : Text) : Type 0 where
-  rest : Text
-  joined : t ≡ needle ++ rest
+pub record Behind (needle t : Text) : Type 0 where
+  pub rest : Text
+  pub joined : t ≡ needle ++ rest
 
-begun : (needle t : Text) → begins_with needle t ≡ true → Behind needle t
+pub begun : (needle t : Text) → is_beginning needle t ≡ true → Behind needle t
 begun [] t h = record { rest = t; joined = refl }
 begun (c ∷ cs) [] h = absurd (false≢true h)
 begun (c ∷ cs) (d ∷ ds) h =
@@ -19,18 +20,18 @@ begun (c ∷ cs) (d ∷ ds) h =
     let more = begun cs ds p.1 in
     record { rest = more.rest; joined = ap (λ x. x ∷ ds) (sym (eqb-true c d p.0)) ∙ ap (λ t. c ∷ t) more.joined }
 
-pub begins : (needle rest : Text) → begins_with needle (needle ++ rest) ≡ true
+pub begins : (needle rest : Text) → is_beginning needle (needle ++ rest) ≡ true
 begins [] rest = refl
-begins (c ∷ cs) rest = ap (λ b. b && begins_with cs (cs ++ rest)) (eq-eqb c c refl) ∙ begins cs rest
+begins (c ∷ cs) rest = ap (λ b. b && is_beginning cs (cs ++ rest)) (eq-eqb c c refl) ∙ begins cs rest
 
 -- at the front, or behind the first character
-stands_first : (needle t : Text) → begins_with needle t ≡ true → StandsAt needle t 0
+pub stands_first : (needle t : Text) → is_beginning needle t ≡ true → StandsAt needle t 0
 stands_first needle t h = let b = begun needle t h in record { front = []; rest = b.rest; joined = b.joined; place = refl }
 
-stands_behind : (needle t : Text) (c j : ℕ) → StandsAt needle t j → StandsAt needle (c ∷ t) (suc j)
+pub stands_behind : (needle t : Text) (c j : ℕ) → StandsAt needle t j → StandsAt needle (c ∷ t) (suc j)
 stands_behind needle t c j s = record { front = c ∷ s.front; rest = s.rest; joined = ap (λ u. c ∷ u) s.joined; place = ap (λ n. suc n) s.place }
 
-never_empty : (needle : Text) (j : ℕ) → length needle ≢ 0 → StandsAt needle [] j → ⊥
+pub never_empty : (needle : Text) (j : ℕ) → length needle ≢ 0 → StandsAt needle [] j → ⊥
 never_empty needle j n s = n (ends needle s.front s.rest s.joined)
   where
     ends : (needle front rest : Text) → [] ≡ front ++ (needle ++ rest) → length needle ≡ 0
@@ -38,11 +39,11 @@ never_empty needle j n s = n (ends needle s.front s.rest s.joined)
     ends (c ∷ cs) [] rest e = absurd cc
     ends (c ∷ cs) (d ∷ front) rest e = absurd cc
 
-where_it_stands : (needle t : Text) (c j : ℕ) → StandsAt needle (c ∷ t) j → ((j ≡ 0) × (begins_with needle (c ∷ t) ≡ true)) ⊎ ((i : ℕ) × (j ≡ suc i) × StandsAt needle t i)
+pub where_it_stands : (needle t : Text) (c j : ℕ) → StandsAt needle (c ∷ t) j → ((j ≡ 0) × (is_beginning needle (c ∷ t) ≡ true)) ⊎ ((i : ℕ) × (j ≡ suc i) × StandsAt needle t i)
 where_it_stands needle t c j s = by_front s.front s.rest s.joined s.place
   where
-    by_front : (front rest : Text) → c ∷ t ≡ front ++ (needle ++ rest) → length front ≡ j → ((j ≡ 0) × (begins_with needle (c ∷ t) ≡ true)) ⊎ ((i : ℕ) × (j ≡ suc i) × StandsAt needle t i)
-    by_front [] rest e p = inl (sym p, ap (begins_with needle) e ∙ begins needle rest)
+    by_front : (front rest : Text) → c ∷ t ≡ front ++ (needle ++ rest) → length front ≡ j → ((j ≡ 0) × (is_beginning needle (c ∷ t) ≡ true)) ⊎ ((i : ℕ) × (j ≡ suc i) × StandsAt needle t i)
+    by_front [] rest e p = inl (sym p, ap (is_beginning needle) e ∙ begins needle rest)
     by_front (d ∷ front) rest e p = let k : t ≡ front ++ (needle ++ rest) = cc in inr (length front, sym p, record { front = front; rest = rest; joined = k; place = refl })
 
 -- ---- the least of the places from k on
@@ -58,7 +59,7 @@ abbrev Found : Text → Text → ℤ → ℕ → Option ℕ → Type 0
 Found needle t start k found = MatchOption found ((i : ℕ) → StandsAt needle t i → is_before (k + i) start ≡ true) (Least needle t start k)
 
 -- where it stands at the front, if it does, is before the start
-passed : (needle t : Text) (start : ℤ) (k c : ℕ) (found : Option ℕ) → (begins_with needle (c ∷ t) ≡ true → is_before k start ≡ true) → Found needle t start (suc k) found → Found needle (c ∷ t) start k found
+passed : (needle t : Text) (start : ℤ) (k c : ℕ) (found : Option ℕ) → (is_beginning needle (c ∷ t) ≡ true → is_before k start ≡ true) → Found needle t start (suc k) found → Found needle (c ∷ t) start k found
 passed needle t start k c None h f = λ i s.
     elim (where_it_stands needle t c i s) [
       | inl p ↦ subst (λ n. is_before n start ≡ true) (omega (arith, p.0)) (h p.1)
@@ -76,13 +77,13 @@ passed needle t start k c (Some n) h f = record {
       ];
 }
 
-at_front : (needle t : Text) (start : ℤ) (k c : ℕ) → begins_with needle (c ∷ t) ≡ true → is_before k start ≡ false → Found needle (c ∷ t) start k (Some k)
+at_front : (needle t : Text) (start : ℤ) (k c : ℕ) → is_beginning needle (c ∷ t) ≡ true → is_before k start ≡ false → Found needle (c ∷ t) start k (Some k)
 at_front needle t start k c h b = record { behind = 0; there = omega arith; stands = stands_first needle (c ∷ t) h; late = b; least = λ i s n. omega arith }
 
 found_from : (needle t : Text) (start : ℤ) (k : ℕ) → length needle ≢ 0 → Found needle t start k (first_from start (places_of needle k t))
 found_from needle [] start k n = λ i s. absurd (never_empty needle i n s)
 found_from needle (c ∷ t) start k n =
-    elim (cases_Bool (begins_with needle (c ∷ t))) [
+    elim (cases_Bool (is_beginning needle (c ∷ t))) [
       | inl y ↦
           subst (λ ks. Found needle (c ∷ t) start k (first_from start ks)) (sym (cond-true _ _ _ y))
           (elim (cases_Bool (is_before k start)) [

@@ -1,4 +1,11 @@
 pub mod Answers
 pub mod FirstPlace
 pub mod Glob
+pub mod InPairs
+pub mod Keys
+pub mod LastPlace
+pub mod Mapping
+pub mod Orders
 pub mod Sorting
+pub mod Splitting
+pub mod Trimming

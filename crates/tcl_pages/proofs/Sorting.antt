@@ -1,4 +1,4 @@
--- A list sorted is the one stable ordered rearrangement of it.
+-- A list sorted is the one stable ordered rearrangement of it, or with -unique the last elements of those that tie.
 use Rattle.std.proofs.Common.{◌≡◌, ℕ, zero, suc, ◌+◌, Bool, true, false, not, List, [], ◌∷◌, get_or, sym, ap, ◌∙◌, subst, refl, arith, inl, inr}
 use Rattle.std.specs.Prelude.{cond}
 use Rattle.std.specs.Cmp.{IsStrictWeakOrder}
@@ -6,7 +6,8 @@ use Rattle.std.specs.List.{filter}
 use Rattle.std.specs.List.Sorted.{IsPermutation, IsSortedBy, IsStableBy, ties}
 use Rattle.std.proofs.lemmas.Bool.{cases_Bool, cond_both, and_parts, false≢true}
 use Rattle.std.proofs.lemmas.List.Sorted.{IsPermutation-refl, IsPermutation-trans, IsPermutation-cons, IsPermutation-sym, IsPermutation-middle}
-use Rattle.tcl_pages.specs.Sorting.{inserted, sorted, SortedIsStable}
+use Rattle.tcl_pages.specs.SortLaws.{last_one, UniqueIsLast}
+use Rattle.tcl_pages.specs.Sorting.{inserted, sorted, last_of_ties, SortedIsStable}
 
 module _ {A : Type 0} (before : A → A → Bool) (order : IsStrictWeakOrder before) where
   not_itself : (x : A) → before x x ≡ false
@@ -190,9 +191,110 @@ module _ {A : Type 0} (before : A → A → Bool) (order : IsStrictWeakOrder bef
   pub are_elements : (xs : List A) → IsPermutation xs (sorted before xs)
   are_elements xs = moved_sorted xs
 
+  -- ---- of those that tie the last one
+
+  -- one that another stands before doesn't tie with what ties with the other
+  apart_behind : (x y z : A) → ties before x y ≡ true → before y z ≡ true → ties before x z ≡ false
+  apart_behind x y z h b =
+      elim (cases_Bool (ties before x z)) [
+        | inl t ↦ absurd (false≢true (sym (order.chain y x z (tie x y h).there (tie x z t).here) ∙ b))
+        | inr f ↦ f
+      ]
+
+  none_in_ties : (x y : A) (ys : List A) → before y x ≡ false → NoneBefore x ys → NoneBefore x (last_of_ties before (y ∷ ys))
+  unfolding NoneBefore
+  none_in_ties x y [] h n = (h, tt)
+  none_in_ties x y (z ∷ zs) h n =
+      cond_both (ties before y z) _ _ (NoneBefore x) (λ _. none_in_ties x z zs n.0 n.1) (λ _. (h, none_in_ties x z zs n.0 n.1))
+
+  ascends_ties : (ys : List A) → Ascends ys → Ascends (last_of_ties before ys)
+  unfolding NoneBefore Ascends
+  ascends_ties [] a = tt
+  ascends_ties (y ∷ []) a = a
+  ascends_ties (y ∷ z ∷ zs) a =
+      cond_both (ties before y z) _ _ Ascends (λ _. ascends_ties (z ∷ zs) a.1) (λ _. (none_in_ties y z zs a.0.0 a.0.1, ascends_ties (z ∷ zs) a.1))
+
+  behind_both : (y z w : A) → before y z ≡ true → before w z ≡ false → before y w ≡ true
+  behind_both y z w b n =
+      elim (cases_Bool (before y w)) [
+        | inl t ↦ t
+        | inr f ↦ absurd (false≢true (sym (order.chain y w z f n) ∙ b))
+      ]
+
+  none_behind : (x y z : A) (zs : List A) → ties before x y ≡ true → before y z ≡ true → NoneBefore z zs → filter (ties before x) zs ≡ []
+  unfolding NoneBefore
+  none_behind x y z [] h b n = refl
+  none_behind x y z (w ∷ ws) h b n =
+      ap (λ c. cond c (w ∷ filter (ties before x) ws) (filter (ties before x) ws)) (apart_behind x y w h (behind_both y z w b n.0)) ∙ none_behind x y z ws h b n.1
+
+  ties_on : (x y z : A) → ties before x y ≡ true → ties before y z ≡ true → ties before x z ≡ true
+  ties_on x y z h k = tied x z (order.chain x y z (tie x y h).here (tie y z k).here) (order.chain z y x (tie y z k).there (tie x y h).there)
+
+  stands_first : (y z : A) → ties before y z ≡ false → before z y ≡ false → before y z ≡ true
+  stands_first y z n h =
+      elim (cases_Bool (before y z)) [
+        | inl t ↦ t
+        | inr f ↦ absurd (false≢true (sym n ∙ tied y z f h))
+      ]
+
+  last_alone : (c : Bool) (y : A) → cond c (y ∷ []) [] ≡ last_one (cond c (y ∷ []) [])
+  last_alone true y = refl
+  last_alone false y = refl
+
+  kept : A → A → List A → Bool → List A
+  kept x y us c = cond c (y ∷ filter (ties before x) us) (filter (ties before x) us)
+
+  -- the first of two that tie is not the last one
+  last_of_two : (x y z : A) (zs : List A) → ties before y z ≡ true → last_one (filter (ties before x) (y ∷ z ∷ zs)) ≡ last_one (filter (ties before x) (z ∷ zs))
+  unfolding kept
+  last_of_two x y z zs t =
+      elim (cases_Bool (ties before x y)) [
+        | inl h ↦
+            let e : filter (ties before x) (z ∷ zs) ≡ z ∷ filter (ties before x) zs = ap (kept x z zs) (ties_on x y z h t) in
+            ap (λ c. last_one (kept x y (z ∷ zs) c)) h ∙ ap (λ us. last_one (y ∷ us)) e ∙ sym (ap last_one e)
+        | inr f ↦ ap (λ c. last_one (kept x y (z ∷ zs) c)) f
+      ]
+
+  -- y stands before all behind it
+  alone_there : (x y z : A) (zs us : List A) → Ascends (z ∷ zs) → before y z ≡ true → filter (ties before x) us ≡ last_one (filter (ties before x) (z ∷ zs))
+      → filter (ties before x) (y ∷ us) ≡ last_one (filter (ties before x) (y ∷ z ∷ zs))
+  unfolding NoneBefore Ascends kept
+  alone_there x y z zs us a b e =
+      elim (cases_Bool (ties before x y)) [
+        | inl h ↦
+            let none : filter (ties before x) (z ∷ zs) ≡ [] = none_behind x y z (z ∷ zs) h b (not_itself z, a.0) in
+            ap (kept x y us) h ∙ ap (λ vs. y ∷ vs) (e ∙ ap last_one none) ∙ sym (ap (λ c. last_one (kept x y (z ∷ zs) c)) h ∙ ap (λ vs. last_one (y ∷ vs)) none)
+        | inr f ↦ ap (kept x y us) f ∙ e ∙ sym (ap (λ c. last_one (kept x y (z ∷ zs) c)) f)
+      ]
+
+  filter_ties : (x : A) (ys : List A) → Ascends ys → filter (ties before x) (last_of_ties before ys) ≡ last_one (filter (ties before x) ys)
+  unfolding NoneBefore Ascends
+  filter_ties x [] a = refl
+  filter_ties x (y ∷ []) a = last_alone (ties before x y) y
+  filter_ties x (y ∷ z ∷ zs) a =
+      cond_both (ties before y z) _ _ (λ us. filter (ties before x) us ≡ last_one (filter (ties before x) (y ∷ z ∷ zs)))
+      (λ t. filter_ties x (z ∷ zs) a.1 ∙ sym (last_of_two x y z zs t))
+      (λ n. alone_there x y z zs _ a.1 (stands_first y z n a.0.0) (filter_ties x (z ∷ zs) a.1))
+
+  last_ones : (xs : List A) (x : A) → filter (ties before x) (last_of_ties before (sorted before xs)) ≡ last_one (filter (ties before x) xs)
+  last_ones xs x = filter_ties x (sorted before xs) (ascends_sorted xs) ∙ ap last_one (stable_sorted xs x)
+
+  pub in_order_ties : (xs : List A) → IsSortedBy before (last_of_ties before (sorted before xs)) × ((x : A) → filter (ties before x) (last_of_ties before (sorted before xs)) ≡ last_one (filter (ties before x) xs))
+  in_order_ties xs = (is_sorted _ (ascends_ties (sorted before xs) (ascends_sorted xs)), last_ones xs)
+
+  pub one_unique : (xs ys : List A) → IsSortedBy before ys → ((x : A) → filter (ties before x) ys ≡ last_one (filter (ties before x) xs)) → last_of_ties before (sorted before xs) ≡ ys
+  unfolding AreTied
+  one_unique xs ys h s = one_order (last_of_ties before (sorted before xs)) ys (ascends_ties (sorted before xs) (ascends_sorted xs)) (ascends ys h) (λ x. last_ones xs x ∙ sym (s x))
+
 pub sorted_is_stable : (A : Type 0) → SortedIsStable A
 sorted_is_stable A before order xs ys = (
   λ e. subst (λ zs. IsPermutation xs zs × IsSortedBy before zs × IsStableBy before xs zs) e
       (are_elements before order xs, in_order_sorted before order xs, stable_sorted before order xs),
   λ h. one_stable before order xs ys h.1 h.2,
+)
+
+pub unique_is_last : (A : Type 0) → UniqueIsLast A
+unique_is_last A before order xs ys = (
+  λ e. subst (λ zs. IsSortedBy before zs × ((x : A) → filter (ties before x) zs ≡ last_one (filter (ties before x) xs))) e (in_order_ties before order xs),
+  λ h. one_unique before order xs ys h.0 h.1,
 )

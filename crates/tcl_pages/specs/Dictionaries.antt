@@ -1,5 +1,5 @@
 -- The pairs of a dictionary: dict(n), DESCRIPTION.
-use Rattle.std.specs.Prelude.{List, [], ◌∷◌, map, Ok, Err, if◌then◌else◌}
+use Rattle.std.specs.Prelude.{◌%◌, ◌==◌, List, [], ◌∷◌, length, map, Ok, Err, if◌then◌else◌}
 use Rattle.tcl_chars.specs.Texts.{literal}
 use Rattle.tcl_list.specs.Elements.{elements_of}
 use Rattle.tcl_pages.specs.Answers.{Answer, ◌>>=◌}
@@ -24,14 +24,17 @@ abbrev pub put_keys : Pairs → Pairs → Pairs
 put_keys found [] = found
 put_keys found (p ∷ ps) = put_keys (put_key found p.0 p.1) ps
 
-abbrev pub with_pair : Text → Text → Answer Pairs → Answer Pairs
-with_pair key value ps = ps >>= λ more. Ok ((key, value) ∷ more)
-
 -- keys and values in turn
+abbrev pub pairs : List Text → Pairs
+pairs (key ∷ value ∷ ts) = (key, value) ∷ pairs ts
+pairs _ = []
+
+-- Where the last key has no value, this is said.
+abbrev pub pairs_else : Text → List Text → Answer Pairs
+pairs_else unpaired ts = if length ts % 2 == 0 then Ok (pairs ts) else Err unpaired
+
 abbrev pub in_pairs : List Text → Answer Pairs
-in_pairs [] = Ok []
-in_pairs (t ∷ []) = Err (literal "missing value to go with key")
-in_pairs (key ∷ value ∷ ts) = with_pair key value (in_pairs ts)
+in_pairs = pairs_else (literal "missing value to go with key")
 
 -- A list of even length is a dictionary. A repeated key keeps its first place and its last value.
 unfoldable pub pairs_of : Text → Answer Pairs

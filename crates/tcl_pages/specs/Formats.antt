@@ -35,13 +35,8 @@ on_to next f = record { part = None; stage = next; field = f }
 abbrev pub ends : FormatPart → FormatStep
 ends p = record { part = Some p; stage = stage.Plain; field = no_field }
 
-abbrev percent : ℕ
+abbrev pub percent : ℕ
 percent = 37
-
--- is c one of these characters
-abbrev pub is_of : List ℕ → ℕ → Bool
-is_of [] c = false
-is_of (d ∷ ds) c = (d == c) || is_of ds c
 
 -- d i u x X o b c s %
 abbrev pub conversion_of : ℕ → Option Conversion
@@ -221,9 +216,8 @@ abbrev pub is_plain : FormatStage → Bool
 is_plain stage.Plain = true
 is_plain _ = false
 
--- a format may end outside of fields alone
-abbrev pub at_end : FormatStage → Answer Text
-at_end here = if is_plain here then Ok [] else Err (literal "format string ended in middle of field specifier")
+abbrev pub unended : Text
+unended = literal "format string ended in middle of field specifier"
 
 -- behind what is shown
 abbrev pub with_shown : Text → Answer Text → Answer Text
@@ -263,27 +257,36 @@ module _ (dialect : Dialect) where
   shown f s conversion.Text ws = by_text ws (λ t. padded s (first_characters s.precision t))
   shown f s conversion.Percent ws = Ok (literal "%", ws)
 
+  -- a width and a precision stand in front of the letter, and are taken first
+  abbrev pub sizes_taken : Field → List Text → Taken Layout
+  sizes_taken f ws = do
+    w ← width_taken f f.width ws
+    precision_taken w.0 f.precision w.1
+
   abbrev pub field_taken : Field → List Text → Taken Text
   field_taken f ws = do
-    w ← width_taken f f.width ws
-    p ← precision_taken w.0 f.precision w.1
-    shown f p.0 f.conversion p.1
+    s ← sizes_taken f ws
+    shown f s.0 f.conversion s.1
 
-  -- what is shown by a part
-  abbrev pub part_taken : FormatPart → List Text → Taken Text
-  part_taken (part.Character c) ws = Ok (c ∷ [], ws)
-  part_taken (part.Field f) ws = field_taken f ws
-  part_taken (part.NoConversion c) ws = Err (bad_field c)
+  -- what is shown by a part, f being what was read of a field in front of its last character
+  abbrev pub part_taken : Field → FormatPart → List Text → Taken Text
+  part_taken f (part.Character c) ws = Ok (c ∷ [], ws)
+  part_taken f (part.Field g) ws = field_taken g ws
+  part_taken f (part.NoConversion c) ws = sizes_taken f ws >>= λ s. Err (bad_field c)
 
-  abbrev pub step_taken : Option FormatPart → List Text → Taken Text
-  step_taken None ws = Ok ([], ws)
-  step_taken (Some p) ws = part_taken p ws
+  abbrev pub step_taken : Field → Option FormatPart → List Text → Taken Text
+  step_taken f None ws = Ok ([], ws)
+  step_taken f (Some p) ws = part_taken f p ws
+
+  -- a format may end outside of fields alone
+  abbrev pub at_end : FormatStage → Field → List Text → Answer Text
+  at_end here f ws = if is_plain here then Ok [] else (sizes_taken f ws >>= λ s. Err unended)
 
   -- character by character, from a stage on
   abbrev pub formatted : FormatStage → Field → Text → List Text → Answer Text
-  formatted here f [] ws = at_end here
+  formatted here f [] ws = at_end here f ws
   formatted here f (c ∷ cs) ws =
-      step_taken (next_of here f c).part ws >>= λ s. with_shown s.0 (formatted (next_of here f c).stage (next_of here f c).field cs s.1)
+      step_taken f (next_of here f c).part ws >>= λ s. with_shown s.0 (formatted (next_of here f c).stage (next_of here f c).field cs s.1)
 
   -- format formatString ?arg ...?: more arguments are passed over
   abbrev pub format_page : List Text → Answer Text

@@ -1,12 +1,12 @@
 -- Commands on lists: list(n), llength(n), lreverse(n), concat(n), lindex(n), lrange(n), linsert(n), lreplace(n), lrepeat(n),
 -- lassign(n), lset(n), lappend(n). In a dialect of numbers.
-use Rattle.std.specs.Prelude.{ℕ, zero, suc, ◌+◌, Bool, true, false, ◌==◌, min, max, ℤ, pos, negsuc, ◌+ℤ◌, nat_le, nat_lt, List, [], ◌∷◌, ◌++◌, take, drop, get_or, length, reverse, replicate, Result, Ok, Err, if◌then◌else◌}
+use Rattle.std.specs.Prelude.{ℕ, zero, suc, ◌+◌, max, ℤ, pos, negsuc, ◌+ℤ◌, nat_le, nat_lt, List, [], ◌∷◌, ◌++◌, take, drop, get_or, length, reverse, replicate, Result, Ok, Err, if◌then◌else◌}
 use Rattle.tcl_chars.specs.Characters.{backslash}
-use Rattle.tcl_chars.specs.Classes.{is_list_space}
-use Rattle.tcl_chars.specs.Index.{place_of}
+use Rattle.tcl_chars.specs.Index.{place_of, clamp}
 use Rattle.tcl_chars.specs.Messages.{number, position, about}
+use Rattle.tcl_chars.specs.Place.{begins}
 use Rattle.tcl_chars.specs.Texts.{literal}
-use Rattle.tcl_chars.specs.Whole.{skip_space}
+use Rattle.tcl_chars.specs.Whole.{skip_space, trim_end}
 use Rattle.tcl_chars.specs.declared.numbers.Dialect.{Dialect}
 use Rattle.tcl_list.specs.Elements.{elements_of}
 use Rattle.tcl_list.specs.Written.{written}
@@ -32,19 +32,13 @@ lreverse _ = usage (literal "lreverse list")
 
 -- ---- concat
 
--- white space ws behind c; one of it stays behind a backslash
-abbrev pub end_kept : ℕ → Text → Text
-end_kept c [] = if is_list_space c then [] else c ∷ []
-end_kept c (w ∷ ws) = if is_list_space c then [] else (if c == backslash then c ∷ w ∷ [] else c ∷ [])
+-- how much white space stays behind a text: one character behind a backslash
+abbrev pub space_kept : Text → ℕ
+space_kept t = if begins backslash (reverse t) then 1 else 0
 
-abbrev pub behind_kept : ℕ → Text → Text → Text
-behind_kept c [] cs = end_kept c cs
-behind_kept c (k ∷ ks) cs = c ∷ k ∷ ks
-
--- without the list space at its end
+-- without the other list space at its end
 unfoldable pub trimmed_end : Text → Text
-trimmed_end [] = []
-trimmed_end (c ∷ cs) = behind_kept c (trimmed_end cs) cs
+trimmed_end t = take (length (trim_end t) + space_kept (trim_end t)) t
 
 abbrev pub trimmed : Text → Text
 trimmed t = trimmed_end (skip_space t)
@@ -68,11 +62,6 @@ one_text (t ∷ []) = t
 one_text ts = concat ts
 
 -- ---- places
-
--- a place among n elements, or behind the last: those outside are the nearest one
-abbrev pub clamped : ℤ → ℕ → ℕ
-clamped (pos k) n = min k n
-clamped (negsuc k) n = 0
 
 -- the element at a place, and outside the empty text (lindex(n))
 abbrev pub element_or_empty : List Text → ℤ → Text
@@ -164,7 +153,7 @@ module _ (dialect : Dialect) where
     es ← elements_of list
     first ← index first (length es)
     last ← index last (length es)
-    Ok (written (drop (clamped first (length es)) (take (clamped (last +ℤ pos 1) (length es)) es)))
+    Ok (written (drop (clamp first (length es)) (take (clamp (last +ℤ pos 1) (length es)) es)))
   lrange _ = usage (literal "lrange list first last")
 
   -- linsert list index ?element ...?, where `end` is behind the last element
@@ -172,7 +161,7 @@ module _ (dialect : Dialect) where
   linsert (list ∷ i ∷ new) = do
     es ← elements_of list
     place ← index i (length es + 1)
-    Ok (written (replaced es (clamped place (length es)) (clamped place (length es)) new))
+    Ok (written (replaced es (clamp place (length es)) (clamp place (length es)) new))
   linsert _ = usage (literal "linsert list index ?element ...?")
 
   -- lreplace list first last ?element ...?
@@ -181,7 +170,7 @@ module _ (dialect : Dialect) where
     es ← elements_of list
     first ← index first (length es)
     last ← index last (length es)
-    Ok (written (replaced es (clamped first (length es)) (clamped (last +ℤ pos 1) (length es)) new))
+    Ok (written (replaced es (clamp first (length es)) (clamp (last +ℤ pos 1) (length es)) new))
   lreplace _ = usage (literal "lreplace list first last ?element ...?")
 
   -- ---- lrepeat

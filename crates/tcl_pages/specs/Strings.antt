@@ -1,17 +1,20 @@
 -- Commands on strings: string(n), split(n), join(n). In a dialect of numbers.
-use Rattle.std.specs.Prelude.{◌≡◌, ◌≢◌, ◌≤◌, MatchOption, ℕ, zero, suc, ◌+◌, ◌-◌, ◌%◌, Bool, true, false, ◌||◌, ◌&&◌, ◌==◌, nat_le, nat_lt, ℤ, pos, negsuc, ◌+ℤ◌, List, [], ◌∷◌, ◌++◌, take, drop, length, reverse, map as each, Option, Some, None, unwrap_or, Ok, Err, if◌then◌else◌}
+use Rattle.std.specs.Prelude.{◌≡◌, ◌≢◌, ◌≤◌, MatchOption, ℕ, zero, suc, ◌+◌, ◌-◌, Bool, true, false, not, ◌||◌, ◌&&◌, ◌==◌, nat_le, nat_lt, ℤ, pos, negsuc, ◌+ℤ◌, int_lt, List, [], ◌∷◌, ◌++◌, take, drop, length, reverse, map as each, Option, Some, None, unwrap_or, Ok, Err, if◌then◌else◌}
 use Rattle.std.specs.declared.cmp.Ordering.{Ordering}
 use Rattle.std.specs.declared.cmp.Ordering.TheVariants.{Less, Equal, Greater}
 use Rattle.tcl_chars.specs.Classes.{is_list_space}
+use Rattle.tcl_chars.specs.Index.{clamp}
 use Rattle.tcl_chars.specs.Messages.{number}
 use Rattle.tcl_chars.specs.Texts.{literal, by_code_point}
+use Rattle.tcl_chars.specs.Truth.{is_beginning}
 use Rattle.tcl_chars.specs.declared.numbers.Dialect.{Dialect}
 use Rattle.tcl_list.specs.Elements.{elements_of}
 use Rattle.tcl_list.specs.Written.{written}
 use Rattle.tcl_pages.specs.Answers.{Answer, ◌>>=◌}
 use Rattle.tcl_pages.specs.Arguments.{one_argument, two_arguments, three_arguments, one_or_two, two_or_three, three_or_four}
+use Rattle.tcl_pages.specs.Dictionaries.{pairs_else}
 use Rattle.tcl_pages.specs.Glob.{glob}
-use Rattle.tcl_pages.specs.Lists.{index, clamped}
+use Rattle.tcl_pages.specs.Lists.{index}
 use Rattle.tcl_pages.specs.Results.{truth_text}
 use Rattle.tcl_pages.specs.Texts.{Text, same_text, count_text}
 
@@ -73,15 +76,10 @@ string_toupper ws = do
 
 -- ---- string first, last: places of a text in another
 
-abbrev pub begins_with : Text → Text → Bool
-begins_with [] t = true
-begins_with (c ∷ cs) [] = false
-begins_with (c ∷ cs) (d ∷ ds) = (c == d) && begins_with cs ds
-
 -- the places where a needle stands, the haystack's first being k
 abbrev pub places_of : Text → ℕ → Text → List ℕ
 places_of needle k [] = []
-places_of needle k (c ∷ cs) = if begins_with needle (c ∷ cs) then k ∷ places_of needle (suc k) cs else places_of needle (suc k) cs
+places_of needle k (c ∷ cs) = if is_beginning needle (c ∷ cs) then k ∷ places_of needle (suc k) cs else places_of needle (suc k) cs
 
 -- An empty needle stands nowhere.
 abbrev pub found_at : Text → Text → List ℕ
@@ -114,18 +112,10 @@ place_text (Some k) = count_text k
 abbrev pub unbalanced : Text
 unbalanced = literal "char map list unbalanced"
 
--- keys and values in turn
-abbrev pub pairs : List Text → List (Text × Text)
-pairs (key ∷ value ∷ ts) = (key, value) ∷ pairs ts
-pairs _ = []
-
-abbrev pub mapping_of : List Text → Answer (List (Text × Text))
-mapping_of ts = if length ts % 2 == 0 then Ok (pairs ts) else Err unbalanced
-
 -- an empty key begins no text
 abbrev pub key_begins : Text → Text → Bool
 key_begins [] t = false
-key_begins (k ∷ ks) t = begins_with (k ∷ ks) t
+key_begins (k ∷ ks) t = is_beginning (k ∷ ks) t
 
 -- the first pair whose key begins the text
 abbrev pub pair_for : List (Text × Text) → Text → Option (Text × Text)
@@ -152,11 +142,12 @@ abbrev pub string_map : List Text → Answer Text
 string_map ws = do
   w ← two_arguments (literal "string map mapping string") ws
   es ← elements_of w.0
-  ps ← mapping_of es
+  ps ← pairs_else unbalanced es
   Ok (mapped ps 0 w.1)
 
 -- ---- string trim, trimleft, trimright
 
+-- is c one of these characters
 abbrev pub is_among : Text → ℕ → Bool
 is_among [] c = false
 is_among (d ∷ ds) c = (d == c) || is_among ds c
@@ -240,9 +231,15 @@ at_place t (negsuc k) = []
 abbrev pub part_of : Text → ℕ → ℕ → Text
 part_of t first behind = drop first (take behind t)
 
--- what is replaced ends behind its beginning: from `first` up to before `behind`, in place of it `new`
-abbrev pub replaced_text : Text → ℕ → ℕ → Text → Text
-replaced_text t first behind new = if nat_lt first behind then take first t ++ (new ++ drop behind t) else t
+-- first is above last, first is past the end, or last is below 0
+abbrev pub replaces_nothing : ℕ → ℤ → ℤ → Bool
+replaces_nothing size first last = int_lt last first || (not (int_lt first (pos size)) || int_lt last (pos 0))
+
+-- from the place `first` to the place `last`, those outside being the nearest one, stands `new`
+abbrev pub replaced_text : Text → ℤ → ℤ → Text → Text
+replaced_text t first last new =
+    if replaces_nothing (length t) first last then t
+    else take (clamp first (length t)) t ++ (new ++ drop (clamp (last +ℤ pos 1) (length t)) t)
 
 abbrev pub repeated_text : ℕ → Text → Text
 repeated_text zero t = []
@@ -289,7 +286,7 @@ module _ (dialect : Dialect) where
     w ← three_arguments (literal "string range string first last") ws
     first ← index dialect w.1 (length w.0)
     last ← index dialect w.2 (length w.0)
-    Ok (part_of w.0 (clamped first (length w.0)) (clamped (last +ℤ pos 1) (length w.0)))
+    Ok (part_of w.0 (clamp first (length w.0)) (clamp (last +ℤ pos 1) (length w.0)))
 
   -- string replace string first last ?string?
   abbrev pub string_replace : List Text → Answer Text
@@ -297,7 +294,7 @@ module _ (dialect : Dialect) where
     w ← three_or_four (literal "string replace string first last ?string?") ws
     first ← index dialect w.1 (length w.0)
     last ← index dialect w.2 (length w.0)
-    Ok (replaced_text w.0 (clamped first (length w.0)) (clamped (last +ℤ pos 1) (length w.0)) (unwrap_or w.3 []))
+    Ok (replaced_text w.0 first last (unwrap_or w.3 []))
 
   -- string repeat string count: a count below 0 is as 0
   abbrev pub string_repeat : List Text → Answer Text

@@ -1,6 +1,7 @@
 -- Commands that give a variable a text made of the one that it has: append(n), incr(n), lappend(n), lset(n), dict(n). In a
 -- dialect of numbers.
-use Rattle.std.specs.Prelude.{List, [], ◌∷◌, ◌++◌, Ok}
+use Rattle.std.specs.Prelude.{◌-◌, List, [], ◌∷◌, ◌++◌, take, length, get_or, Ok}
+use Rattle.std.specs.List.{concat}
 use Rattle.tcl_chars.specs.Arith.{exact, ranged}
 use Rattle.tcl_chars.specs.declared.arithmetic.Op.TheVariants as op
 use Rattle.tcl_chars.specs.declared.numbers.Dialect.{Dialect}
@@ -74,20 +75,24 @@ old_of page.DictUnset ws = begins []
 
 -- append varName ?value ...?
 abbrev pub text_appended : Text → List Text → Text
-text_appended t [] = t
-text_appended t (w ∷ ws) = text_appended (t ++ w) ws
+text_appended t ws = t ++ concat ws
 
--- lset varName ?index ...? newValue: the last word is the new element
-abbrev pub lset_words : Dialect → Text → List Text → List Text → Answer Text
-lset_words dialect t indices [] = Ok t
-lset_words dialect t indices (v ∷ []) = lset dialect t indices v
-lset_words dialect t indices (i ∷ w ∷ ws) = lset_words dialect t (indices ++ i ∷ []) (w ∷ ws)
+-- the words but the last, and the last
+abbrev pub all_but_last : List Text → List Text
+all_but_last ws = take (length ws - 1) ws
 
--- dict set dictVarName key ?key ...? value: the last word is the value
-abbrev pub dict_set_words : Text → List Text → List Text → Answer Text
-dict_set_words t keys [] = Ok t
-dict_set_words t keys (v ∷ []) = dict_set t v keys
-dict_set_words t keys (k ∷ w ∷ ws) = dict_set_words t (keys ++ k ∷ []) (w ∷ ws)
+abbrev pub last_of : List Text → Text
+last_of ws = get_or ws (length ws - 1) []
+
+-- lset varName ?index ...? newValue
+abbrev pub lset_words : Dialect → Text → List Text → Answer Text
+lset_words dialect t [] = Ok t
+lset_words dialect t (w ∷ ws) = lset dialect t (all_but_last (w ∷ ws)) (last_of (w ∷ ws))
+
+-- dict set dictVarName key ?key ...? value
+abbrev pub dict_set_words : Text → List Text → Answer Text
+dict_set_words t [] = Ok t
+dict_set_words t (w ∷ ws) = dict_set t (last_of (w ∷ ws)) (all_but_last (w ∷ ws))
 
 -- dict append dictVarName key ?value ...?
 abbrev pub dict_append : Text → Text → List Text → Answer Text
@@ -116,9 +121,9 @@ module _ (dialect : Dialect) where
   updated page.Append t ws = Ok (text_appended t ws)
   updated page.Incr t ws = increased t ws
   updated page.Lappend t ws = lappend t ws
-  updated page.Lset t ws = lset_words dialect t [] ws
+  updated page.Lset t ws = lset_words dialect t ws
   updated page.DictAppend t ws = by_key t ws (dict_append t)
   updated page.DictIncr t ws = by_key t ws (dict_incr t)
   updated page.DictLappend t ws = by_key t ws (dict_lappend t)
-  updated page.DictSet t ws = dict_set_words t [] ws
+  updated page.DictSet t ws = dict_set_words t ws
   updated page.DictUnset t ws = dict_unset t ws

@@ -26,8 +26,8 @@ use Rattle.tcl_procs.specs.Renaming.{delete_page, move_page}
 use Rattle.tcl_table.specs.Rename.{renamed, renamed_by, Refuses}
 use Rattle.tcl_table.specs.declared.table.TableFault.{TableFault}
 use Rattle.tcl_table.specs.declared.table.TableFault.TheVariants as fault
-use Rattle.tcl_vars.specs.Comes.{BecomesIn}
-use Rattle.tcl_vars.specs.Ends.{first_step, DoesIn}
+use Rattle.tcl_steps.specs.Comes.{BecomesIn}
+use Rattle.tcl_steps.specs.Ends.{first_step, DoesIn}
 
 -- a page is done with a completion, and leaves this
 abbrev pub Leaves : Asks → Store → Completion → Store → Type 0

@@ -2,7 +2,7 @@
 use Rattle.std.proofs.Common.{◌≡◌, List, [], ◌∷◌, length, Some, Ok, Err, Result, refl, sym, ap, subst, ◌∙◌, arith}
 use Rattle.std.specs.declared.alloc.AllocError.{AllocError}
 use Rattle.tcl_chars.specs.Texts.{literal}
-use Rattle.tcl_control.specs.Asked.{IsAsked, at_once}
+use Rattle.tcl_steps.specs.Asked.{IsAsked, at_once}
 use Rattle.tcl_list.specs.Elements.{elements_of}
 use Rattle.tcl_meaning.specs.Asking.{Asks, usage}
 use Rattle.tcl_meaning.specs.Completions.{failure}

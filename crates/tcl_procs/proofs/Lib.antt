@@ -6,4 +6,3 @@ pub mod LinkLemmas
 pub mod LookingLemmas
 pub mod ReadingLemmas
 pub mod UplevelLemmas
-pub mod UsageLemmas

@@ -24,11 +24,11 @@ use Rattle.tcl_meaning.specs.State.{Commands, Store, active_frame, with_store, w
 use Rattle.tcl_meaning.specs.Tasks.{Done}
 use Rattle.tcl_meaning.specs.Value.{Value, Has, Fails, ◌>>=◌}
 use Rattle.tcl_pages.specs.Texts.{Text}
-use Rattle.tcl_vars.proofs.Endings.{has_on, fails_on, then_becomes}
-use Rattle.tcl_vars.specs.Comes.{Becomes, Comes, state_of}
-use Rattle.tcl_vars.specs.Ends.{Ends, EndsDone}
-use Rattle.tcl_vars.specs.declared.stop.Stop.{Stop}
-use Rattle.tcl_vars.specs.declared.stop.Stop.TheVariants as stop
+use Rattle.tcl_steps.proofs.Endings.{has_on, fails_on, then_becomes}
+use Rattle.tcl_steps.specs.Comes.{Becomes, Comes, state_of}
+use Rattle.tcl_steps.specs.Ends.{Ends, EndsDone}
+use Rattle.tcl_steps.specs.declared.stop.Stop.{Stop}
+use Rattle.tcl_steps.specs.declared.stop.Stop.TheVariants as stop
 
 -- ---- one link
 

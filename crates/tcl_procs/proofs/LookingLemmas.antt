@@ -21,8 +21,8 @@ use Rattle.tcl_pages.specs.Arguments.{one_argument}
 use Rattle.tcl_pages.specs.Texts.{Text}
 use Rattle.tcl_arguments.specs.UpToOne.{up_to_one}
 use Rattle.tcl_procs.specs.Looking.{of_kind}
-use Rattle.tcl_vars.specs.Comes.{BecomesIn}
-use Rattle.tcl_vars.specs.Ends.{first_step}
+use Rattle.tcl_steps.specs.Comes.{BecomesIn}
+use Rattle.tcl_steps.specs.Ends.{first_step}
 
 -- ---- the names that are listed, one after another
 

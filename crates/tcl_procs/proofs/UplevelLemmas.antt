@@ -3,7 +3,7 @@ use Rattle.std.proofs.Common.{◌≡◌, ◌≢◌, ◌-◌, Bool, true, false, 
 use Rattle.std.specs.Prelude.{if◌then◌else◌}
 use Rattle.std.specs.declared.alloc.AllocError.{AllocError}
 use Rattle.tcl_chars.specs.Texts.{literal}
-use Rattle.tcl_control.specs.Asked.{IsAsked}
+use Rattle.tcl_steps.specs.Asked.{IsAsked}
 use Rattle.tcl_frames.specs.Standing.{Standing}
 use Rattle.tcl_meaning.specs.Asking.{Asks, usage}
 use Rattle.tcl_meaning.specs.Completions.{wrong_words}
@@ -17,8 +17,8 @@ use Rattle.tcl_steps.specs.declared.step.Step.{Step}
 use Rattle.tcl_steps.specs.declared.step.Scope.{Scope}
 use Rattle.tcl_steps.specs.declared.step.Owes.{Owes}
 use Rattle.tcl_steps.specs.declared.step.Loop.{Loop}
-use Rattle.tcl_vars.specs.Comes.{state_of}
-use Rattle.tcl_vars.specs.Ends.{DoesAsk}
+use Rattle.tcl_steps.specs.Comes.{state_of}
+use Rattle.tcl_steps.specs.Ends.{DoesAsk}
 
 abbrev Asked : Type 0
 Asked = Result (Step Scope Owes Loop) AllocError

@@ -4,13 +4,12 @@ ghost use Rattle.std.specs.Str.{chars};
 ghost use Rattle.tcl_chars.specs.Answers.{Answers};
 ghost use Rattle.tcl_chars.specs.Messages.{about};
 ghost use Rattle.tcl_chars.specs.Texts.{literal, text_of};
-ghost use Rattle.tcl_control.specs.Asked.{IsAsked};
+ghost use Rattle.tcl_steps.specs.Asked.{IsAsked};
 ghost use Rattle.tcl_list.specs.Elements.{elements_of};
 ghost use Rattle.tcl_meaning.specs.ProcedurePages as spec;
 ghost use Rattle.tcl_procs.specs.Lambdas.{lambda_procedure};
 ghost use Rattle.tcl_table.specs.Procedures.{procedure_of};
 
-use crate::answers::usage;
 use crate::calls::call_procedure;
 use crate::formals::read_procedure;
 use std::alloc::{AllocError, Global};
@@ -18,7 +17,7 @@ use std::rc::RcStr;
 use tcl_arguments::text_at;
 use tcl_chars::{Fault, about};
 use tcl_list::split;
-use tcl_steps::{Completion, Loop, Owes, Scope, Step};
+use tcl_steps::{Completion, Loop, Owes, Scope, Step, usage};
 use tcl_table::Procedure;
 use tcl_values::Value;
 

@@ -1,14 +1,13 @@
 //! Procedures that are called: proc(n).
 ghost use Rattle.std.specs.Str.{chars};
-ghost use Rattle.tcl_control.specs.Asked.{IsAsked};
+ghost use Rattle.tcl_steps.specs.Asked.{IsAsked};
 ghost use Rattle.tcl_meaning.specs.ProcedurePages as spec;
 ghost use Rattle.tcl_table.specs.Procedures.{procedure_of};
 
-use crate::answers::usage;
 use crate::binding::bound;
 use crate::usages::procedure_usage;
 use std::alloc::{AllocError, Global};
-use tcl_steps::{Completion, Loop, Owes, Scope, Step};
+use tcl_steps::{Completion, Loop, Owes, Scope, Step, usage};
 use tcl_table::Procedure;
 use tcl_values::Value;
 

@@ -10,7 +10,7 @@ ghost use Rattle.tcl_meaning.specs.ProcedurePages as spec;
 ghost use Rattle.tcl_meaning.specs.State as state;
 ghost use Rattle.tcl_procs.specs.Renaming.{delete_page, move_page};
 ghost use Rattle.tcl_table.specs.Procedures.{procedure_of};
-ghost use Rattle.tcl_vars.specs.Ends.{DoesIn};
+ghost use Rattle.tcl_steps.specs.Ends.{DoesIn};
 
 use crate::formals::{is_empty, read_procedure};
 use std::alloc::{AllocError, Global};

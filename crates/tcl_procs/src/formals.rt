@@ -15,8 +15,8 @@ use tcl_list::split;
 use tcl_names::Layout;
 use tcl_table::{Formal, Procedure};
 
-// So many formals have places of their own. A name is looked for among them one by one, so that more would be found faster by
-// their order.
+// The greatest number of formals that have places of their own. A name is looked for among them one by one, so that more would be
+// found faster by their order.
 const PLACED: usize = 16;
 
 /// Has a text no character?

@@ -3,13 +3,11 @@
 //! `tcl_meaning/specs/SeenPages`.
 #![tactic(auto)]
 
-mod answers;
 mod apply;
 mod binding;
 mod calls;
 mod choosing;
 mod definitions;
-mod endings;
 mod formals;
 mod levels;
 mod links;

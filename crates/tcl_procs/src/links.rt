@@ -4,9 +4,8 @@ ghost use Rattle.std.specs.Str.{chars};
 ghost use Rattle.tcl_chars.specs.Texts.{text_of};
 ghost use Rattle.tcl_frames.specs.Levels.{level_of};
 ghost use Rattle.tcl_meaning.specs.ProcedurePages as spec;
-ghost use Rattle.tcl_vars.specs.Ends.{Does, Ends, EndsDone};
+ghost use Rattle.tcl_steps.specs.Ends.{Does, Ends, EndsDone};
 
-use crate::endings::closed;
 use crate::levels::{bad_level, find_level};
 use std::alloc::{AllocError, Global};
 use std::rc::RcStr;
@@ -14,9 +13,8 @@ use tcl_arguments::all_texts;
 use tcl_chars::message;
 use tcl_frames::{Frames, Level, LinkFault, without_colons};
 use tcl_meaning::LinkRefusal;
-use tcl_steps::Completion;
+use tcl_steps::{Completion, Stop, closed};
 use tcl_values::Value;
-use tcl_vars::Stop;
 
 // The error of a link that is refused. A word named the level.
 fn cant_link(

@@ -11,7 +11,7 @@ ghost use Rattle.tcl_meaning.specs.SeenPages as pages;
 ghost use Rattle.tcl_meaning.specs.VariablePages.{seen_page};
 ghost use Rattle.tcl_procs.specs.Looking.{LooksAtCommands};
 ghost use Rattle.tcl_table.specs.Procedures.{formal_of, procedure_of};
-ghost use Rattle.tcl_vars.specs.Ends.{DoesIn};
+ghost use Rattle.tcl_steps.specs.Ends.{DoesIn};
 
 use crate::choosing::command_names;
 use std::alloc::{AllocError, Global};

@@ -1,23 +1,22 @@
 //! Scripts that are run in the frame of a level: uplevel(n).
 ghost use Rattle.std.specs.Prelude.{◌≡◌, IfOk};
 ghost use Rattle.std.specs.Str.{chars};
-ghost use Rattle.tcl_control.specs.Asked.{IsAsked};
+ghost use Rattle.tcl_steps.specs.Asked.{IsAsked};
 ghost use Rattle.tcl_meaning.specs.Asking as asking;
 ghost use Rattle.tcl_meaning.specs.ProcedurePages as spec;
 ghost use Rattle.tcl_pages.specs.Lists as lists;
-ghost use Rattle.tcl_vars.specs.Ends.{DoesAsk};
+ghost use Rattle.tcl_steps.specs.Ends.{DoesAsk};
 
-use crate::answers::usage;
 use crate::levels::{bad_level, find_level, is_level};
 use std::alloc::{AllocError, Global};
 use tcl_arguments::text_at;
 use tcl_frames::Frames;
 use tcl_lists::concat;
-use tcl_steps::{Loop, Owes, Scope, Step};
+use tcl_steps::{Loop, Owes, Scope, Step, usage};
 use tcl_values::Value;
 
 // The words as one text: one word as it is, several as concat(n) joins them.
-#[tactic(auto, using(tcl_control::proofs::PageLemmas::one_is, tcl_control::proofs::PageLemmas::several_are))]
+#[tactic(auto, using(tcl_steps::proofs::WordLemmas::one_is, tcl_steps::proofs::WordLemmas::several_are))]
 fn one_text(alloc: Global, words: &mut [Value]) -> Result<Value, AllocError>
     ensures { IfOk result (λ text. text ≡ lists.one_text words.old) }
 {

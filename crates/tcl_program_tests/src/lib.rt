@@ -1,9 +1,6 @@
-//! The unit tests of what runs scripts: an interpreter, a run, a session and the tool. What no contract can say.
-//! That memory is there for an answer, that the definitions are the manual's, and how long scripts and large values fare.
+//! The unit tests of a session and of the tool: what no contract can say.
 #![tactic(auto)]
 
-#[cfg(test)]
-mod interp;
 #[cfg(test)]
 mod session;
 #[cfg(test)]

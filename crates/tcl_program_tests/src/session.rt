@@ -4,8 +4,7 @@ use tcl_chan::device::Input;
 use tcl_chan::faulty::{FaultyInput, FaultyOutput};
 use tcl_chan::memory::{MemoryInput, MemoryOutput};
 use tcl_chan::pieces::OneByte;
-use tcl_session::{SessionEnd, session};
-use tcl_shell::{refuse_words, tool};
+use tcl_shell::{SessionEnd, refuse_words, session, tool};
 
 /// More units than the tables below spend.
 const AMPLE: u64 = 1000;
@@ -191,7 +190,7 @@ fn refuses(alloc: Global) -> Result<bool, AllocError> {
     let mut out = MemoryOutput::new(alloc, 64)?;
     let mut err = MemoryOutput::new(alloc, 64)?;
     let status = refuse_words(alloc, &mut input, &mut out, &mut err);
-    let usage = b"usage: tclint ?-budget N? ?file arg ...?\n".as_slice();
+    let usage = b"usage: tclint ?-tcl9? ?-budget N? ?-slice N? ?file arg ...?\n".as_slice();
     Ok(status == 5 && out.bytes() == b"".as_slice() && err.bytes() == usage)
 }
 

@@ -16,6 +16,16 @@ fn files(rt: HostRuntime) {
         (&["-budget", "9223372036854775808", "a"], None),
         (&["-budget", "", "a"], None),
         (&["-budget"], None),
+        (&["-slice", "5", "a"], Some(2)),
+        (&["-budget", "7", "-slice", "5", "a", "b"], Some(4)),
+        (&["-slice", "5", "-budget", "3", "a"], Some(2)),
+        (&["-slice", "5", "-slice", "3"], Some(2)),
+        (&["-slice", "9223372036854775807", "a"], Some(2)),
+        (&["-slice", "9223372036854775808", "a"], None),
+        (&["-slice", "0", "a"], None),
+        (&["-slice", "5"], None),
+        (&["-budget", "7", "-slice"], None),
+        (&["a", "-slice", "5"], Some(0)),
     ] {
         assert!(rt; file_word(words) == place, "{} words", words.len());
     }
@@ -53,7 +63,7 @@ fn scripts_run(rt: HostRuntime) {
     }
 }
 
-static USAGE: &str = "usage: tclint ?-budget N? ?file arg ...?\n";
+static USAGE: &str = "usage: tclint ?-tcl9? ?-budget N? ?-slice N? ?file arg ...?\n";
 
 #[test]
 fn bad_words_and_files(rt: HostRuntime) {
@@ -65,6 +75,9 @@ fn bad_words_and_files(rt: HostRuntime) {
             Some(b"puts a".as_slice()),
             USAGE,
         ),
+        (&["-tcl9", "-tcl9", "a.tcl"], Some(b"puts a"), USAGE),
+        (&["-budget", "5", "-tcl9", "a.tcl"], Some(b"puts a"), USAGE),
+        (&["-slice", "5", "-tcl9"], Some(b"puts a"), USAGE),
         (&["a.tcl"], None, "couldn't read file \"a.tcl\"\n"),
         (
             &["a.tcl"],
@@ -87,6 +100,23 @@ fn budgets(rt: HostRuntime) {
     let want = ("a\n", "budget spent\n");
     let spent = answers(rt.alloc(), &words, Some(b"puts a; puts b"), 2, want);
     assert!(rt; spent == Ok(true));
+}
+
+#[test]
+fn numbers_of_tcl_9(rt: HostRuntime) {
+    let file = Some(b"puts [expr {010 + 1}]".as_slice());
+    for (words, want) in [
+        (["a.tcl"].as_slice(), "9\n"),
+        (&["-tcl9", "a.tcl"], "11\n"),
+        (&["-tcl9", "-budget", "02", "a.tcl"], "11\n"),
+        (&["-tcl9", "-budget", "2", "-slice", "1", "a.tcl"], "11\n"),
+        (&["a.tcl", "-tcl9"], "9\n"),
+    ] {
+        assert!(rt;
+            answers(rt.alloc(), words, file, 0, (want, "")) == Ok(true),
+            "{want}"
+        );
+    }
 }
 
 #[test]

@@ -1,7 +1,7 @@
 //! The answers as what a command asks for: it is done.
 
 ghost use Rattle.std.specs.Prelude.{◌≡◌};
-ghost use Rattle.tcl_control.specs.Asked.{IsAsked};
+ghost use Rattle.tcl_steps.specs.Asked.{IsAsked};
 ghost use Rattle.tcl_meaning.specs.VariablePages as spec;
 
 use crate::page::pure_page;

@@ -2,7 +2,7 @@
 
 ghost use Rattle.std.specs.Prelude.{◌≡◌};
 ghost use Rattle.tcl_chars.specs.Answers.{Answers};
-ghost use Rattle.tcl_pages.specs.Pure as spec;
+ghost use Rattle.tcl_meaning.specs.Pure as spec;
 
 use std::alloc::Global;
 use tcl_arguments::one_text;

@@ -1,12 +1,19 @@
-//! The commands whose answer their words alone decide, as one call: those on strings, lists and dictionaries, and
-//! `info complete`.
+//! Commands that are functions of their words, and commands with subcommands:
+//!
+//! - the commands whose answer their words alone decide, as one call: those on strings, lists and dictionaries, and
+//!   `info complete`;
+//! - which page a subcommand's name means at array(n), dict(n), info(n) and string(n), and what is said where there is none.
 #![tactic(auto)]
 
 mod answers;
 mod dicts;
 mod info;
 mod lists;
+mod messages;
 mod page;
+mod tables;
 
 pub use answers::pure_done;
+pub use messages::{subcommand_usage, unknown_subcommand};
 pub use page::pure_page;
+pub use tables::subcommand;

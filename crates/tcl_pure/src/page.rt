@@ -2,7 +2,7 @@
 
 ghost use Rattle.std.specs.Prelude.{◌≡◌};
 ghost use Rattle.tcl_chars.specs.Answers.{Answers};
-ghost use Rattle.tcl_pages.specs.Pure.{pure};
+ghost use Rattle.tcl_meaning.specs.Pure.{pure};
 
 use crate::dicts::dict_page;
 use crate::info::info_complete;
@@ -18,7 +18,7 @@ use tcl_values::Value;
 /// # Errors
 ///
 /// `Fault::Error` with the command's error, `Fault::Memory`.
-#[tactic(auto, unfolding(tcl_pages::specs::Pure::pure))]
+#[tactic(auto, unfolding(tcl_meaning::specs::Pure::pure))]
 pub fn pure_page(
     alloc: Global,
     dialect: Dialect,

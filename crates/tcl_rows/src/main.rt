@@ -1,7 +1,8 @@
 //! Worked rows: scripts whose outputs, ends and costs were worked out by hand. It prints what the interpreter makes of
-//! them, and the gate compares.
+//! them, and, where that is another thing, what it makes of them in parts of a few units; the gate compares.
 #![tactic(auto)]
 
+mod parts;
 mod rows;
 
 use std::process::ExitCode;
@@ -13,10 +14,13 @@ fn show_all(rt: &HostRuntime) -> io::Result<()> {
         let bytes = fs::read(rt, &name)?;
         let script = str::from_utf8(&bytes).unwrap_or("not UTF-8");
         let shown = rows::show(rt.alloc(), script)?;
-        println!(rt; "== {name}\n{shown}")?;
+        let parted = parts::show_parts(rt.alloc(), script)?;
+        println!(rt; "== {name}\n{shown}{parted}")?;
     }
     let shown = rows::show_failing(rt.alloc())?;
-    println!(rt; "== an output that fails\n{shown}")
+    println!(rt; "== an output that fails\n{shown}")?;
+    let shown = rows::show_dialects(rt.alloc())?;
+    println!(rt; "== numbers in both dialects{shown}")
 }
 
 fn main(rt: HostRuntime) -> ExitCode {

@@ -6,19 +6,19 @@ use tcl_chan::faulty::FaultyOutput;
 use tcl_chan::memory::{MemoryInput, MemoryOutput};
 use tcl_chan::world::World;
 use tcl_chars::Dialect;
-use tcl_interp::{Config, Interp, Outcome, Report, run};
+use tcl_interp::{Config, Interp, Outcome, Report, run, run_with};
 
-// More units than any row spends.
-const UNITS: u64 = 1000;
+/// More units than any row spends.
+pub(crate) const UNITS: u64 = 1000;
 
-// What a script finds on the input.
-const INPUT: &[u8] = b"a\r\nb";
+/// What a script finds on the input.
+pub(crate) const INPUT: &[u8] = b"a\r\nb";
 
-// The bytes of output that a row may hold.
-const CAPACITY: usize = 4096;
+/// The bytes of output that a row may hold.
+pub(crate) const CAPACITY: usize = 4096;
 
-// How an evaluation ended.
-fn told(alloc: Global, outcome: &Outcome) -> Result<String, AllocError> {
+/// How an evaluation ended.
+pub(crate) fn told(alloc: Global, outcome: &Outcome) -> Result<String, AllocError> {
     match outcome {
         Outcome::Done { code, result, .. } => format!(in alloc; "code {code}, result <{result}>"),
         Outcome::Budget => format!(in alloc; "budget spent"),
@@ -26,6 +26,7 @@ fn told(alloc: Global, outcome: &Outcome) -> Result<String, AllocError> {
         Outcome::Memory => format!(in alloc; "out of memory"),
         Outcome::Io => format!(in alloc; "read or write failed"),
         Outcome::Failed => format!(in alloc; "failed before"),
+        Outcome::Over => format!(in alloc; "over before"),
     }
 }
 
@@ -65,7 +66,7 @@ fn show_run(alloc: Global, script: &str, budget: u64) -> Result<Shown, AllocErro
     })
 }
 
-// One run of the script with so many units.
+// One run of the script with `budget` units.
 fn show_with(alloc: Global, script: &str, budget: u64) -> Result<String, AllocError> {
     let Shown { text, spent: _ } = show_run(alloc, script, budget)?;
     format!(in alloc; "with {budget} units:\n{text}")
@@ -114,4 +115,38 @@ pub(crate) fn show_failing(alloc: Global) -> Result<String, AllocError> {
     let ends = ends(alloc, &mut interp, &mut input, &mut out, &mut err)?;
     let bytes = out.inner().bytes().len();
     format!(in alloc; "{ends}\n{bytes} bytes")
+}
+
+// How a script ends in an interpreter of a dialect.
+fn ends_in(alloc: Global, dialect: Dialect, script: &str) -> Result<String, AllocError> {
+    let mut input = MemoryInput::new(INPUT);
+    let mut out = MemoryOutput::new(alloc, CAPACITY)?;
+    let mut err = MemoryOutput::new(alloc, CAPACITY)?;
+    let Report { outcome, interp: _ } = run_with(
+        alloc,
+        Config { dialect },
+        script,
+        &[],
+        &mut input,
+        &mut out,
+        &mut err,
+        UNITS,
+    );
+    told(alloc, &outcome)
+}
+
+/// How scripts over numbers end, with those of Tcl 8.6 and with those of Tcl 9.
+pub(crate) fn show_dialects(alloc: Global) -> Result<String, AllocError> {
+    let mut shown = String::new(alloc);
+    for script in [
+        "expr {010 + 1}",
+        "expr {08 + 1}",
+        "lsort -integer {010 9}",
+        "format %d 010",
+    ] {
+        let old = ends_in(alloc, Dialect::Tcl86, script)?;
+        let new = ends_in(alloc, Dialect::Tcl9, script)?;
+        write!(shown, "\n{script}: {old}; in Tcl 9: {new}")?;
+    }
+    Ok(shown)
 }

@@ -3,4 +3,4 @@
 
 mod scripts;
 
-pub use scripts::run;
+pub use scripts::{resume, run, start};

@@ -1,27 +1,30 @@
 //! A run of a script.
-ghost use Rattle.std.specs.Prelude.{◌≡◌};
+ghost use Rattle.std.specs.Prelude.{◌≡◌, IfOk};
 ghost use Rattle.std.specs.Str.{chars};
-ghost use Rattle.tcl_chars.specs.declared.numbers.Dialect.TheVariants as dialect;
 ghost use Rattle.tcl_meaning.specs.Completions.{nothing};
 ghost use Rattle.tcl_meaning.specs.Script.{Run};
 ghost use Rattle.tcl_meaning.specs.Tasks.{Script};
-ghost use Rattle.tcl_vars.specs.Comes.{state_of};
+ghost use Rattle.tcl_steps.specs.Comes.{state_of};
 ghost use Rattle.tcl_vm.specs.Engines.{is_io};
-ghost use Rattle.tcl_vm.specs.Machines.{Follows};
-ghost use Rattle.tcl_vm.specs.Turns.{Onward};
+ghost use Rattle.tcl_engine.specs.Answered.{host_views};
+ghost use Rattle.tcl_meaning.specs.State.{State};
+ghost use Rattle.tcl_vm.specs.Machines.{Begins, Ends, Follows, seen};
+ghost use Rattle.tcl_vm.specs.Turns.{Fits, Onward};
+ghost use Rattle.tcl_vm.specs.Unwinding.{Unwinds};
 
-use std::alloc::Global;
+use std::alloc::{AllocError, Global};
+use tcl_activation::Activation;
 use tcl_channels::Devices;
 use tcl_chars::message;
-use tcl_codes::Codes;
-use tcl_engine::host_over;
+use tcl_compile::Codes;
+use tcl_engine::{Undone, host_over};
 use tcl_frames::Frames;
-use tcl_steps::Completion;
+use tcl_steps::{Completion, Loop, Owes, Scope};
 use tcl_table::Table;
 use tcl_values::Value;
-use tcl_vm::Stop;
+use tcl_vm::{Paused, Stop};
 
-/// Runs a script over what an interpreter keeps and over devices, with so many units to spend: one for each command and each turn
+/// Runs a script over what an interpreter keeps and over devices. It may spend `units`, one for each command and each turn
 /// of a loop. Its completion, what scripts keep, the channels and the units that are left are those of the definition.
 ///
 /// # Errors
@@ -37,7 +40,7 @@ pub fn run<V: Devices>(
     units: &mut u64,
     script: &str,
 ) -> Result<Completion, Stop>
-    ensures follows { Follows result (Run dialect.Tcl86 (Script 1 nothing (chars script.now)) (state_of table.old (V.channels devices.old) units.old frames.old)) (state_of table.new (V.channels devices.new) units.new frames.new) }
+    ensures follows { Follows result (Run codes.old (Script 1 nothing (chars script.now)) (state_of table.old (V.channels devices.old) units.old frames.old)) (state_of table.new (V.channels devices.new) units.new frames.new) }
     ensures onward { Onward (state_of table.old (V.channels devices.old) units.old frames.old) (state_of table.new (V.channels devices.new) units.new frames.new) }
     ensures leaves { V.leaves (is_io result) devices.old devices.new }
     ensures dialect { codes.new ≡ codes.old }
@@ -45,6 +48,51 @@ pub fn run<V: Devices>(
     let text = Value::of_text(message(alloc, script)?);
     let mut host = host_over(alloc, frames, table, codes, devices, *units);
     let ended = tcl_vm::run(alloc, &mut host, text, 1);
+    *units = host.units();
+    ended
+}
+
+/// A machine at the beginning of a script of a host. Nothing is evaluated, and no unit spent.
+///
+/// # Errors
+///
+/// A growth was refused.
+pub fn start(
+    alloc: Global,
+    codes: &mut Codes,
+    script: &str,
+) -> Result<Paused<Activation, Undone, Scope, Owes, Loop>, AllocError>
+    ensures begins { IfOk result (λ paused. (s : State) → Begins codes.old (chars script.now) 1 (seen host_views paused s)) }
+    ensures dialect { codes.new ≡ codes.old }
+{
+    let code = codes.script(alloc, script)?;
+    let activation = Activation::new(alloc, code, 1)?;
+    Ok(Paused::new(alloc, activation))
+}
+
+/// Goes on over what an interpreter keeps and over devices, and may spend `units`. Where a unit is wanting, the machine stands where it goes
+/// on, its frames stand too, and what was done isn't done again.
+///
+/// # Errors
+///
+/// As those of `run`.
+pub fn resume<V: Devices>(
+    alloc: Global,
+    frames: &mut Frames,
+    table: &mut Table,
+    codes: &mut Codes,
+    devices: &mut V,
+    paused: &mut Paused<Activation, Undone, Scope, Owes, Loop>,
+    units: &mut u64,
+) -> Result<Completion, Stop>
+    requires fits { Fits (seen host_views paused.old (state_of table.old (V.channels devices.old) units.old frames.old)) }
+    requires unwinds { Unwinds (seen host_views paused.old (state_of table.old (V.channels devices.old) units.old frames.old)) }
+    ensures ends { Ends codes.old result (seen host_views paused.old (state_of table.old (V.channels devices.old) units.old frames.old)) (seen host_views paused.new (state_of table.new (V.channels devices.new) units.new frames.new)) }
+    ensures leaves { V.leaves (is_io result) devices.old devices.new }
+    ensures dialect { codes.new ≡ codes.old }
+{
+    let mut host = host_over(alloc, frames, table, codes, devices, *units);
+    let ended = tcl_vm::resume(&mut host, paused);
     *units = host.units();
     ended
 }

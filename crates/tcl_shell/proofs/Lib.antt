@@ -1,3 +1,6 @@
 mod JoinedNewlines
+mod TakenLines
 mod LinesLemmas
 mod ProgramLemmas
+mod Sessions
+mod Writes

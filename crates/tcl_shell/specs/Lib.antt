@@ -1,4 +1,8 @@
--- What the program answers for its words and its file.
+-- What the program answers for its words and its file, and what a session does with its input.
+pub mod Ends
+pub mod Faults
 pub mod Lines
 pub mod Program
+pub mod Session
+pub mod Turns
 pub mod Words

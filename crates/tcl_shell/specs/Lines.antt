@@ -26,7 +26,7 @@ SaidIf (Some text) old new = Said text old new
 -- the lines, with their newlines, in bytes
 
 abbrev pub usage_line : List ℕ
-usage_line = codes "usage: tclint ?-budget N? ?file arg ...?\n"
+usage_line = codes "usage: tclint ?-tcl9? ?-budget N? ?-slice N? ?file arg ...?\n"
 
 abbrev pub unreadable : List ℕ → List ℕ
 unreadable name = codes "couldn't read file \"" ++ (name ++ codes "\"\n")

@@ -5,7 +5,7 @@ use Rattle.std.specs.Str.{chars, IsUtf8}
 use Rattle.tcl_chan.specs.Characters.{input_chars}
 use Rattle.tcl_chan.specs.Newlines.{joined_newlines}
 use Rattle.tcl_channels.specs.Leaves.{Failures}
-use Rattle.tcl_chars.specs.declared.numbers.Dialect.TheVariants.{Tcl86}
+use Rattle.tcl_chars.specs.declared.numbers.Dialect.{Dialect}
 use Rattle.tcl_meaning.specs.Completions.{Completion}
 use Rattle.tcl_meaning.specs.Effects.{Got}
 use Rattle.tcl_meaning.specs.Run.{first_channels, run_with_args}
@@ -16,10 +16,10 @@ use Rattle.tcl_interp.specs.Report.{Reports}
 use Rattle.tcl_interp.specs.declared.host.Outcome.{Outcome}
 use Rattle.tcl_interp.specs.declared.host.Outcome.TheVariants as outcome
 use Rattle.tcl_interp.specs.declared.report.Report.{Report}
-use Rattle.tcl_session.specs.Ends.{Tells}
-use Rattle.tcl_session.specs.Session.{session}
-use Rattle.tcl_session.specs.declared.end.SessionEnd.{SessionEnd}
-use Rattle.tcl_session.specs.declared.end.SessionEnd.TheVariants as end
+use Rattle.tcl_shell.specs.Ends.{Tells}
+use Rattle.tcl_shell.specs.Session.{session}
+use Rattle.tcl_shell.specs.declared.end.SessionEnd.{SessionEnd}
+use Rattle.tcl_shell.specs.declared.end.SessionEnd.TheVariants as end
 use Rattle.tcl_shell.specs.Lines.{Told, told, Said, SaidIf, usage_line, unreadable, not_utf8, message_line, budget_spent, out_of_memory, broken}
 use Rattle.tcl_shell.specs.declared.words.Request.{Request}
 
@@ -59,6 +59,7 @@ status_of (outcome.Exit status) = status
 status_of outcome.Memory = 3
 status_of outcome.Io = 4
 status_of outcome.Failed = 4
+status_of outcome.Over = 4
 
 -- the line of an error with this message, where the status tells one
 abbrev pub error_line : ℕ → List ℕ → Option (List ℕ)
@@ -73,6 +74,7 @@ outcome_line (outcome.Exit status) = None
 outcome_line outcome.Memory = Some out_of_memory
 outcome_line outcome.Io = Some broken
 outcome_line outcome.Failed = Some broken
+outcome_line outcome.Over = Some broken
 
 -- The outcome of a run that ends as a session does. A session that ended by itself is told as `exit 0` is.
 abbrev pub outcome_by : SessionEnd → Outcome
@@ -98,10 +100,10 @@ pub record Ran {R W E : Type 0} (got : Got Completion) (status : ℕ) (old new :
   pub report : Report
   pub is_told : IsTold (Reports report got) report.outcome status old new
 
--- A session with so many units ends as its definition says, and is told.
-pub record RanSession {R W E : Type 0} (budget status : ℕ) (old new : Devices R W E) : Type 0 where
+-- A session in this dialect and with this budget ends as its definition says, and is told.
+pub record RanSession {R W E : Type 0} (dialect : Dialect) (budget status : ℕ) (old new : Devices R W E) : Type 0 where
   pub end : SessionEnd
-  pub is_told : IsTold (Tells end (session (channels_at old) budget)) (outcome_by end) status old new
+  pub is_told : IsTold (Tells end (session dialect (channels_at old) budget)) (outcome_by end) status old new
 
 -- The words or the file are refused with a line, and nothing else happens.
 pub record Refused {R W E : Type 0} (line : List ℕ) (status : ℕ) (old new : Devices R W E) : Type 0 where
@@ -115,21 +117,21 @@ abbrev pub file_name : List (List ℕ) → List ℕ
 file_name [] = []
 file_name (name ∷ words) = name
 
--- What the program does for the words from the file's name on, in UTF-8, and the bytes of the file, if it could be read.
-abbrev pub RunsFile : {R W E : Type 0} → ℕ → List (List ℕ) → Option (List ℕ) → ℕ → Devices R W E → Devices R W E → Type 0
-RunsFile budget words None status old new = Refused (unreadable (file_name words)) status old new
-RunsFile budget words (Some bytes) status old new =
-    (IsUtf8 bytes → Ran (run_with_args Tcl86 (joined_newlines (chars bytes)) (map chars words) (channels_at old) budget) status old new)
+-- What the program does in a dialect for the words from the file's name on, in UTF-8, and the bytes of the file, if it could be read.
+abbrev pub RunsFile : {R W E : Type 0} → Dialect → ℕ → List (List ℕ) → Option (List ℕ) → ℕ → Devices R W E → Devices R W E → Type 0
+RunsFile dialect budget words None status old new = Refused (unreadable (file_name words)) status old new
+RunsFile dialect budget words (Some bytes) status old new =
+    (IsUtf8 bytes → Ran (run_with_args dialect (joined_newlines (chars bytes)) (map chars words) (channels_at old) budget) status old new)
     × ((IsUtf8 bytes → ⊥) → Refused (not_utf8 (file_name words)) status old new)
 
 -- What the program does for its words, in UTF-8: it runs the file whose name stands at a place among them, or a session where no
 -- file is asked for.
-abbrev pub RunsAsked : {R W E : Type 0} → ℕ → Option ℕ → List (List ℕ) → Option (List ℕ) → ℕ → Devices R W E → Devices R W E → Type 0
-RunsAsked budget None words file status old new = RanSession budget status old new
-RunsAsked budget (Some place) words file status old new = RunsFile budget (drop place words) file status old new
+abbrev pub RunsAsked : {R W E : Type 0} → Dialect → ℕ → Option ℕ → List (List ℕ) → Option (List ℕ) → ℕ → Devices R W E → Devices R W E → Type 0
+RunsAsked dialect budget None words file status old new = RanSession dialect budget status old new
+RunsAsked dialect budget (Some place) words file status old new = RunsFile dialect budget (drop place words) file status old new
 
 -- What the program does for what its words ask, the words in UTF-8, and its file: the status that it answers, and the devices
--- before and after.
+-- before and after. What it does is the same with every slice.
 abbrev pub RunsWords : {R W E : Type 0} → Option Request → List (List ℕ) → Option (List ℕ) → ℕ → Devices R W E → Devices R W E → Type 0
 RunsWords None words file status old new = Refused usage_line status old new
-RunsWords (Some request) words file status old new = RunsAsked request.budget request.file words file status old new
+RunsWords (Some request) words file status old new = RunsAsked request.dialect request.budget request.file words file status old new

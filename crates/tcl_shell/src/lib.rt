@@ -1,9 +1,15 @@
-//! The program over devices: its words, its statuses and its lines.
+//! The program over devices: its words, its sessions, its statuses and its lines.
 #![tactic(auto)]
 
+mod end;
+mod input;
 mod lines;
 mod program;
+mod run;
+mod tell;
 mod words;
 
+pub use end::SessionEnd;
 pub use program::{refuse_words, tool};
+pub use run::{session, session_with};
 pub use words::file_word;

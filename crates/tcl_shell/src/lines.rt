@@ -66,7 +66,10 @@ fn put_line<R: Input, W: Output, E: Output>(
     ensures devices { SameDevices world.old world.new }
 {
     match line {
-        Line::Usage => world.puts(Out::Stderr, "usage: tclint ?-budget N? ?file arg ...?\n"),
+        Line::Usage => world.puts(
+            Out::Stderr,
+            "usage: tclint ?-tcl9? ?-budget N? ?-slice N? ?file arg ...?\n",
+        ),
         Line::Unread(name) => put_three(world, "couldn't read file \"", name, "\"\n"),
         Line::NotUtf8(name) => put_three(world, "file \"", name, "\" is not UTF-8\n"),
         Line::Message(message) => put_three(world, message, "\n", ""),

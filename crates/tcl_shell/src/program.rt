@@ -7,13 +7,14 @@ ghost use Rattle.tcl_shell.specs.Lines.{told, SaidIf, usage_line};
 ghost use Rattle.tcl_shell.specs.Program.{RanSession, Refused, RunsWords, RunsFile, devices, outcome_by, outcome_line, status_of};
 ghost use Rattle.tcl_shell.specs.Words.{request_of};
 
+use crate::end::SessionEnd;
 use crate::lines::{Line, say};
+use crate::run::session_with;
 use crate::words::read_request;
 use std::alloc::{AllocError, Global};
 use tcl_chan::device::{Input, Output};
 use tcl_chars::{begins, push, split_first};
-use tcl_interp::{Outcome, Report, run};
-use tcl_session::{SessionEnd, session};
+use tcl_interp::{Config, Outcome, Report, run_sliced};
 
 // Is the character the CR of a CR LF, where this follows it?
 #[tactic(auto, using(crate::proofs::JoinedNewlines::return_is))]
@@ -66,25 +67,27 @@ fn tell<R: Input, W: Output, E: Output>(
             say(alloc, reader, out, err, Line::Memory);
             3
         }
-        Outcome::Io | Outcome::Failed => {
+        Outcome::Io | Outcome::Failed | Outcome::Over => {
             say(alloc, reader, out, err, Line::Broken);
             4
         }
     }
 }
 
-// Runs the file that the first of the words names, if it could be read, with these words and a budget.
+// Runs the file that the first of the words names, if it could be read, with these words and a budget that is handed out in slices.
 fn run_file<R: Input, W: Output, E: Output>(
     alloc: Global,
+    config: Config,
     words: &[&str],
     file: Option<&[u8]>,
     reader: &mut R,
     out: &mut W,
     err: &mut E,
     budget: u64,
+    slice: u64,
 ) -> u8
     requires { 0 < length words.now }
-    ensures { RunsFile budget (map (λ word. word.now) words.now) (option_map (λ bytes. bytes.now) file.entry) result
+    ensures { RunsFile config.dialect budget (map (λ word. word.now) words.now) (option_map (λ bytes. bytes.now) file.entry) result
         (devices R.to_come R.failed_calls W.written W.failed_calls E.written E.failed_calls reader.old out.old err.old)
         (devices R.to_come R.failed_calls W.written W.failed_calls E.written E.failed_calls reader.new out.new err.new) }
 {
@@ -100,14 +103,16 @@ fn run_file<R: Input, W: Output, E: Output>(
     let Ok(script) = joined_lines(alloc, text) else {
         return tell(alloc, reader, out, err, Outcome::Memory);
     };
-    let Report { outcome, interp: _ } = run(
+    let Report { outcome, interp: _ } = run_sliced(
         alloc,
+        config,
         script.as_str(),
         words,
         reader,
         out,
         err,
         budget,
+        slice,
     );
     tell(alloc, reader, out, err, outcome)
 }
@@ -128,16 +133,17 @@ fn outcome_by(end: SessionEnd) -> Outcome
 // Runs a session, with a budget.
 fn run_session<R: Input, W: Output, E: Output>(
     alloc: Global,
+    config: Config,
     reader: &mut R,
     out: &mut W,
     err: &mut E,
     budget: u64,
 ) -> u8
-    ensures { RanSession budget result
+    ensures { RanSession config.dialect budget result
         (devices R.to_come R.failed_calls W.written W.failed_calls E.written E.failed_calls reader.old out.old err.old)
         (devices R.to_come R.failed_calls W.written W.failed_calls E.written E.failed_calls reader.new out.new err.new) }
 {
-    let end = session(alloc, reader, out, err, budget);
+    let end = session_with(alloc, config, reader, out, err, budget);
     tell(alloc, reader, out, err, outcome_by(end))
 }
 
@@ -176,16 +182,21 @@ pub fn tool<R: Input, W: Output, E: Output>(
     let Some(request) = read_request(words) else {
         return refuse_words(alloc, reader, out, err);
     };
+    let config = Config {
+        dialect: request.dialect,
+    };
     let Some(place) = request.file else {
-        return run_session(alloc, reader, out, err, request.budget);
+        return run_session(alloc, config, reader, out, err, request.budget);
     };
     run_file(
         alloc,
+        config,
         &words[place..],
         file,
         reader,
         out,
         err,
         request.budget,
+        request.slice,
     )
 }

@@ -1,3 +1,7 @@
+pub mod Asked
+pub mod Comes
 pub mod CompletionShape
+pub mod Ends
 pub mod Faults
+pub mod Pairs
 pub mod Views

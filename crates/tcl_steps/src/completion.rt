@@ -1,11 +1,13 @@
 //! How a command ended.
 ghost use Rattle.std.specs.Prelude.{◌≡◌, ◌≢◌, ◌++◌, true, false, IfOk, OnOk};
-ghost use Rattle.tcl_chars.specs.Texts.{text_of};
+ghost use Rattle.tcl_chars.specs.Texts.{literal, text_of};
 ghost use Rattle.tcl_meaning.specs.Completions.{ended, normal, failure, nothing, code_now, code_number, options_text};
-ghost use Rattle.tcl_pages.specs.DictPages.{flat};
+ghost use Rattle.tcl_meaning.specs.Handlers.{or_none, error_code};
+ghost use Rattle.tcl_pages.specs.DictPages.{flat, value_at};
 ghost use Rattle.tcl_pages.specs.Texts.{number_text};
 ghost use Rattle.tcl_meaning.specs.declared.code.Code.TheVariants as code;
 
+use crate::answers::is_word;
 use std::alloc::{AllocError, Global};
 use std::marker::Model;
 use std::rc::RcStr;
@@ -64,6 +66,20 @@ fn push_options(items: &mut Vec<Value>, options: &[(Value, Value)]) -> Result<()
         items.push(value.copy()?)?;
     }
     Ok(())
+}
+
+// The value of `-errorcode` among options, or `NONE` where it isn't there.
+fn error_code_among(alloc: Global, options: &[(Value, Value)]) -> Result<Value, AllocError>
+    ensures { IfOk result (λ code. code ≡ or_none (value_at (literal "-errorcode") options.now)) }
+{
+    let mut rest = options;
+    'options: while let [(name, value), others @ ..] = rest {
+        if is_word(alloc, name, "-errorcode")? {
+            return value.copy();
+        }
+        rest = others;
+    }
+    Ok(Value::of_text(message(alloc, "NONE")?))
 }
 
 impl Completion {
@@ -135,6 +151,13 @@ impl Completion {
         items.push(Value::of_count(alloc, self.level)?)?;
         push_options(&mut items, &self.options)?;
         Value::of_list(alloc, items)
+    }
+
+    /// The code of an error, for programs to read: `NONE` where it was given none. throw(n).
+    pub fn error_code(&self, alloc: Global) -> Result<Value, AllocError>
+        ensures { IfOk result (λ code. code ≡ error_code self.now) }
+    {
+        error_code_among(alloc, &self.options)
     }
 
     /// Is the code that is in force ok?

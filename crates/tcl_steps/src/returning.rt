@@ -7,7 +7,7 @@ use tcl_meaning::Code;
 use tcl_values::Value;
 
 impl Completion {
-    /// The end of a `return` with a code that waits for the end of so many procedures, and with options. The code `return` is `ok`
+    /// The end of a `return` with a code that waits for the end of `level` procedures, and with options. The code `return` is `ok`
     /// of a level more.
     pub fn returned(
         code: Code,

@@ -2,6 +2,7 @@
 
 use crate::completion::Completion;
 use tcl_frames::{Level, Variable};
+use tcl_meaning::Code;
 use tcl_names::PlacedNames;
 use tcl_values::{Row, Value};
 
@@ -18,17 +19,17 @@ pub enum Scope {
 
 /// Names of loop variables, and the elements that are left for them: foreach(n).
 #[derive(Drop)]
-pub struct Lane {
+pub struct LoopList {
     pub names: Vec<Value>,
     pub elements: Row,
-    /// So many elements have gone.
+    /// The number of elements that have gone.
     pub gone: usize,
 }
 
 /// A loop over the elements of lists: foreach(n), lmap(n), dict(n).
 #[derive(Drop)]
 pub struct Each {
-    pub lanes: Vec<Lane>,
+    pub lists: Vec<LoopList>,
     pub body: Value,
     /// The results so far, where they are gathered.
     pub results: Option<Vec<Value>>,
@@ -53,9 +54,35 @@ pub enum Loop {
 #[derive(Drop)]
 pub struct Others {
     pub clauses: Vec<(Value, Value)>,
-    /// So many of them have been evaluated.
+    /// The number of those that have been evaluated.
     pub gone: usize,
     pub otherwise: Option<Value>,
+}
+
+/// What a handler of `try` waits for: try(n).
+#[derive(Drop)]
+pub enum Catches {
+    /// An end with this code.
+    On(Code),
+    /// An error whose code is a list that begins with these elements.
+    Trap(Vec<Value>),
+}
+
+/// A handler of `try`.
+#[derive(Drop)]
+pub struct Handler {
+    pub catches: Catches,
+    /// The variables of the result and of the options. Further names are passed over.
+    pub names: Vec<Value>,
+    /// `-` stands for the script and the variables of the next handler that has another one.
+    pub script: Value,
+}
+
+/// What a `try` has behind its body.
+#[derive(Drop)]
+pub struct Handlers {
+    pub clauses: Vec<Handler>,
+    pub finally: Option<Value>,
 }
 
 /// What a command has still to do when what it asked for has ended.
@@ -100,6 +127,12 @@ pub enum Owes {
         body: Value,
     },
     EachBody(Each),
+    /// The body of a `try` has ended.
+    Trying(Handlers),
+    /// A handler's script has ended, and `finally` comes next.
+    Handling(Option<Value>),
+    /// The script of `finally` has ended, behind this completion.
+    Finishing(Completion),
 }
 
 /// What a command asks for before it goes on: where a script is run is an `S`, what is owed then an `O`, a loop an `L`.

@@ -6,7 +6,7 @@ use Rattle.std.proofs.lemmas.Str.{chars-IsAscii, chars-nil, IsAscii-drop, IsAsci
 use Rattle.std.specs.List.{slice_range}
 use Rattle.std.specs.Prelude.{ℤ, pos, negsuc}
 use Rattle.std.specs.Str.{chars, IsAscii, IsCharBoundary}
-use Rattle.tcl_pages.specs.Lists.{clamped}
+use Rattle.tcl_chars.specs.Index.{clamp}
 
 pub boundary : (bs : List ℕ) (i : ℕ) → IsAscii bs → i ≤ length bs → IsCharBoundary bs i
 boundary bs i h l = IsCharBoundary-from_ascii bs i h l
@@ -24,6 +24,6 @@ one_character bs k h =
 pub nothing_between : (bs : List ℕ) (a b : ℕ) → b ≤ a → chars [] ≡ drop a (take b bs)
 nothing_between bs a b l = chars-nil ∙ sym (drop_of_length-le (take b bs) (omega (arith, length-take b bs)))
 
-pub clamped_le : (z : ℤ) (n : ℕ) → clamped z n ≤ n
+pub clamped_le : (z : ℤ) (n : ℕ) → clamp z n ≤ n
 clamped_le (pos k) n = omega arith
 clamped_le (negsuc k) n = omega arith

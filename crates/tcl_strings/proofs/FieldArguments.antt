@@ -4,7 +4,7 @@ use Rattle.tcl_chars.specs.Messages.{number}
 use Rattle.tcl_chars.specs.Texts.{literal}
 use Rattle.tcl_chars.specs.declared.numbers.Dialect.{Dialect}
 use Rattle.tcl_pages.specs.Answers.{Answer, ◌>>=◌}
-use Rattle.tcl_pages.specs.Formats.{Taken, argument, size_within, width_from, precision_from, number_field, number_argument, width_taken, precision_taken, shown, field_taken, padded, scalar, first_characters}
+use Rattle.tcl_pages.specs.Formats.{Taken, argument, size_within, width_from, precision_from, number_field, number_argument, width_taken, precision_taken, sizes_taken, shown, field_taken, padded, scalar, first_characters}
 use Rattle.tcl_pages.specs.Texts.{Text}
 use Rattle.tcl_pages.specs.declared.formats.Conversion.{Conversion}
 use Rattle.tcl_pages.specs.declared.formats.Conversion.TheVariants as conversion
@@ -129,10 +129,12 @@ shown_fronted d f s conversion.Percent = none_fronted (Ok (literal "%")) (λ t. 
 
 -- ---- a field
 
+sizes_fronted : (d : Dialect) (f : Field) → Fronted (sizes_taken d f) (size_arguments f.width + precision_arguments f.precision)
+sizes_fronted d f = both_fronted (width_taken d f f.width) (λ w. precision_taken d w f.precision) (size_arguments f.width) (precision_arguments f.precision) (width_fronted d f f.width) (λ w. precision_fronted d w f.precision)
+
 field_fronted : (d : Dialect) (f : Field) → Fronted (field_taken d f) (arguments_of f)
 field_fronted d f =
-    both_fronted (width_taken d f f.width) (λ w. both (precision_taken d w f.precision) (λ p. shown d f p f.conversion)) (size_arguments f.width) (precision_arguments f.precision + converted_arguments f.conversion) (width_fronted d f f.width)
-    (λ w. both_fronted (precision_taken d w f.precision) (λ p. shown d f p f.conversion) (precision_arguments f.precision) (converted_arguments f.conversion) (precision_fronted d w f.precision) (λ p. shown_fronted d f p f.conversion))
+    both_fronted (sizes_taken d f) (λ s. shown d f s f.conversion) (size_arguments f.width + precision_arguments f.precision) (converted_arguments f.conversion) (sizes_fronted d f) (λ s. shown_fronted d f s f.conversion)
 
 pub field_takes_its_arguments : FieldTakesItsArguments
 field_takes_its_arguments d f = (field_fronted d f).0

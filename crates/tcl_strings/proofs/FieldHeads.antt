@@ -2,7 +2,8 @@
 use Rattle.std.proofs.Common.{◌≡◌, ℕ, ◌==◌, Bool, true, false, ◌||◌, [], ◌∷◌, ◌++◌, Option, Some, None, append_assoc, sym, ap, ◌∙◌, subst, refl, arith, inl, inr}
 use Rattle.std.proofs.lemmas.Bool.{cases_Bool, ne_eqb}
 use Rattle.tcl_chars.specs.Characters.{number_sign, space, star}
-use Rattle.tcl_pages.specs.Formats.{is_of, no_field, ends, converted, conversion_of, conversion_next, next_of}
+use Rattle.tcl_pages.specs.Formats.{no_field, ends, converted, conversion_of, conversion_next, next_of}
+use Rattle.tcl_pages.specs.Strings.{is_among}
 use Rattle.tcl_pages.specs.StringClasses.{is_digit}
 use Rattle.tcl_pages.specs.Texts.{Text}
 use Rattle.tcl_pages.specs.declared.formats.Conversion.{Conversion}
@@ -25,7 +26,7 @@ bare g = record g { width = size.Given 0; precision = None; conversion = convers
 
 same_flags : (t : Text) (g : Field) → IsFlags t g → flagged no_field t ≡ bare g
 same_flags t g h =
-    rw (h.1, h.2, h.3, h.4, h.5, or-false (is_of t minus), or-false (is_of t plus), or-false (is_of t space), or-false (is_of t zero_digit), or-false (is_of t number_sign)) refl
+    rw (h.1, h.2, h.3, h.4, h.5, or-false (is_among t minus), or-false (is_among t plus), or-false (is_among t space), or-false (is_among t zero_digit), or-false (is_among t number_sign)) refl
 
 flags_read : (t : Text) (g : Field) → IsFlags t g → Goes stage.Flags no_field t stage.Flags (bare g)
 flags_read t g h = subst (λ f. Goes stage.Flags no_field t stage.Flags f) (same_flags t g h) (flags_go no_field t h.0)
@@ -100,9 +101,9 @@ letter_step stage.BehindPrecision f c k i h = rw (no_letter_is c letter_l k h re
 letter_step stage.BehindL f c k i h = rw (no_letter_is c letter_l k h refl) refl
 letter_step stage.BehindLl f c k i h = refl
 
-pub field_read : (d rest : Text) (f : Field) → IsField d f → directive (d ++ rest) ≡ Some (part.Field f, rest)
+pub field_read : (d rest : Text) (f : Field) → IsField d f → directive (d ++ rest) ≡ record { part = Some (part.Field f, rest); field = record f { conversion = conversion.Percent } }
 field_read d rest f h =
     let r = head_go h.head f h.is_head in
     let before : Field = record f { conversion = conversion.Percent } in
     let step : next_of r.0 before h.letter ≡ ends (part.Field f) = letter_step r.0 before h.letter f.conversion r.1 h.is_letter ∙ ap (converted before h.letter) h.is_letter in
-    ap (λ t. directive (t ++ rest)) h.in_order ∙ ap directive (append_assoc h.head (h.letter ∷ []) rest) ∙ r.2 (h.letter ∷ rest) ∙ step_read (next_of r.0 before h.letter) (ends (part.Field f)) rest step
+    ap (λ t. directive (t ++ rest)) h.in_order ∙ ap directive (append_assoc h.head (h.letter ∷ []) rest) ∙ r.2 (h.letter ∷ rest) ∙ step_read before (next_of r.0 before h.letter) (ends (part.Field f)) rest step

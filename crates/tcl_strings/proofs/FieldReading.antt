@@ -12,7 +12,7 @@ use Rattle.tcl_pages.specs.declared.formats.FormatStage.{FormatStage}
 use Rattle.tcl_pages.specs.declared.formats.FormatStage.TheVariants as stage
 use Rattle.tcl_pages.specs.declared.formats.FormatStep.{FormatStep}
 use Rattle.tcl_strings.specs.FieldGrammar.{Begins, IsHead, IsField, NoLetter}
-use Rattle.tcl_strings.specs.FieldLaws.{part_or, part_read, directive, FieldIsRead, RefusalIsNoLetter, UnendedIsBeginning, OneField, FieldOrFault, Directive}
+use Rattle.tcl_strings.specs.FieldLaws.{Reading, part_or, part_read, directive, FieldIsRead, RefusalIsNoLetter, UnendedIsBeginning, OneField, FieldOrFault, Directive}
 use Rattle.tcl_strings.specs.FieldLaws as law
 use Rattle.tcl_strings.proofs.FieldHeads.{head_go, field_read}
 use Rattle.tcl_strings.proofs.FieldStages.{At, at_head, at_start, Onward, more, last, onward}
@@ -20,11 +20,20 @@ use Rattle.tcl_strings.proofs.FieldSteps.{Goes}
 
 -- ---- what is read stands there
 
-abbrev pub ReadOf : Text → Option (FormatPart × Text) → Type 0
-ReadOf t None = Begins t
-ReadOf t (Some (part.Character c, rest)) = ⊥
-ReadOf t (Some (part.Field f, rest)) = (d : Text) × (t ≡ d ++ rest) × IsField d f
-ReadOf t (Some (part.NoConversion c, rest)) = (head : Text) × (t ≡ head ++ c ∷ rest) × NoLetter head c
+abbrev pub ReadIs : Text → Field → Option (FormatPart × Text) → Type 0
+ReadIs t f None = IsHead t f
+ReadIs t f (Some (part.Character c, rest)) = ⊥
+ReadIs t f (Some (part.Field g, rest)) = (d : Text) × (t ≡ d ++ rest) × IsField d g
+ReadIs t f (Some (part.NoConversion c, rest)) = (head : Text) × (t ≡ head ++ c ∷ rest) × NoLetter head f c
+
+abbrev pub ReadOf : Text → Reading → Type 0
+ReadOf t r = ReadIs t r.field r.part
+
+abbrev part_in : Reading → Option (FormatPart × Text)
+part_in r = r.part
+
+abbrev pub open_at : Field → Reading
+open_at f = record { part = None; field = f }
 
 with_conversion : (t : Text) (f : Field) (k : Conversion) → IsHead t f → IsHead t (record f { conversion = k })
 with_conversion t f k h =
@@ -41,31 +50,31 @@ with_conversion t f k h =
     }
 
 -- what begins a field is not refused
-not_refused : (t : Text) (p : FormatPart) (rest : Text) → Begins t → directive t ≡ Some (p, rest) → ⊥
+not_refused : (t : Text) (p : FormatPart) (rest : Text) → Begins t → (directive t).part ≡ Some (p, rest) → ⊥
 not_refused t p rest b e =
     let r = head_go t b.0 b.1 in
-    let open_end : directive t ≡ None = ap directive (sym (append-nil t)) ∙ r.2 [] in
-    both (directive t) open_end e
+    let open_end : (directive t).part ≡ None = ap part_in (ap directive (sym (append-nil t)) ∙ r.2 []) in
+    both (directive t).part open_end e
   where
     both : (o : Option (FormatPart × Text)) → o ≡ None → o ≡ Some (p, rest) → ⊥
     both o a b = cc
 
-read_by : (h cs : Text) (f : Field) (c : ℕ) (o : Option Conversion) → conversion_of c ≡ o → IsHead h f → (directive (h ++ c ∷ []) ≡ part_or (converted f c o).part [] None)
-    → ReadOf (h ++ c ∷ cs) (part_or (converted f c o).part cs (part_read (converted f c o).stage (converted f c o).field cs))
-read_by h cs f c None e i r = (h, refl, record { begins = (f, i); no_more = λ b. not_refused (h ++ c ∷ []) (part.NoConversion c) [] b r; no_letter = e })
+read_by : (h cs : Text) (f : Field) (c : ℕ) (o : Option Conversion) → conversion_of c ≡ o → IsHead h f → (directive (h ++ c ∷ []) ≡ part_or (converted f c o).part f [] (open_at (converted f c o).field))
+    → ReadOf (h ++ c ∷ cs) (part_or (converted f c o).part f cs (part_read (converted f c o).stage (converted f c o).field cs))
+read_by h cs f c None e i r = (h, refl, record { is_head = i; no_more = λ b. not_refused (h ++ c ∷ []) (part.NoConversion c) [] b (ap part_in r); no_letter = e })
 read_by h cs f c (Some k) e i r =
     (h ++ c ∷ [], sym (append_assoc h (c ∷ []) cs), record { head = h; letter = c; in_order = refl; is_head = with_conversion h f k i; is_letter = e })
 
 read_on : (s : FormatStage) (f : Field) (h cs : Text) (c : ℕ) (x : FormatStep) → next_of s f c ≡ x → Onward h f c x → IsHead h f → Goes stage.Flags no_field h s f
-    → ((u : FormatStage) (g : Field) → At u (h ++ c ∷ []) g → Goes stage.Flags no_field (h ++ c ∷ []) u g → ReadOf ((h ++ c ∷ []) ++ cs) (part_read u g cs)) → ReadOf (h ++ c ∷ cs) (part_or x.part cs (part_read x.stage x.field cs))
+    → ((u : FormatStage) (g : Field) → At u (h ++ c ∷ []) g → Goes stage.Flags no_field (h ++ c ∷ []) u g → ReadOf ((h ++ c ∷ []) ++ cs) (part_read u g cs)) → ReadOf (h ++ c ∷ cs) (part_or x.part f cs (part_read x.stage x.field cs))
 read_on s f h cs c _ e (more u g a) i k later =
     subst (λ t. ReadOf t (part_read u g cs)) (append_assoc h (c ∷ []) cs)
-    (later u g a (λ rest. ap directive (append_assoc h (c ∷ []) rest) ∙ k (c ∷ rest) ∙ ap (λ (y : FormatStep). part_or y.part rest (part_read y.stage y.field rest)) e))
+    (later u g a (λ rest. ap directive (append_assoc h (c ∷ []) rest) ∙ k (c ∷ rest) ∙ ap (λ (y : FormatStep). part_or y.part f rest (part_read y.stage y.field rest)) e))
 read_on s f h cs c _ e last i k later =
-    read_by h cs f c (conversion_of c) refl i (k (c ∷ []) ∙ ap (λ (y : FormatStep). part_or y.part [] None) e)
+    read_by h cs f c (conversion_of c) refl i (k (c ∷ []) ∙ ap (λ (y : FormatStep). part_or y.part f [] (open_at y.field)) e)
 
 read_from : (s : FormatStage) (f : Field) (h t : Text) → At s h f → Goes stage.Flags no_field h s f → ReadOf (h ++ t) (part_read s f t)
-read_from s f h [] a k = (f, subst (λ t. IsHead t f) (sym (append-nil h)) (at_head s h f a))
+read_from s f h [] a k = subst (λ t. IsHead t f) (sym (append-nil h)) (at_head s h f a)
 read_from s f h (c ∷ cs) a k = read_on s f h cs c (next_of s f c) refl (onward s h f c a) (at_head s h f a) k (λ u g b l. read_from u g (h ++ c ∷ []) cs b l)
 
 pub read_of : (t : Text) → ReadOf t (directive t)
@@ -74,10 +83,7 @@ read_of t = read_from stage.Flags no_field [] t at_start (λ rest. refl)
 -- ---- the laws
 
 pub field_is_read : FieldIsRead
-field_is_read t rest f = (λ e. subst (ReadOf t) e (read_of t), λ h. ap directive h.1 ∙ field_read h.0 rest f h.2)
-
-some_step : (p : Option FormatPart) (rest : Text) (later : Option (FormatPart × Text)) (q : FormatPart) → p ≡ Some q → part_or p rest later ≡ Some (q, rest)
-some_step p rest later q e = ap (λ r. part_or r rest later) e
+field_is_read t rest f = (λ e. subst (ReadIs t (directive t).field) e (read_of t), λ h. ap part_in (ap directive h.1 ∙ field_read h.0 rest f h.2))
 
 last_of : Text → Option ℕ
 last_of [] = None
@@ -97,35 +103,42 @@ same_last s t c d e = inside (sym (last_is s c) ∙ ap last_of e ∙ last_is t d
     inside p = cc
 
 -- where the part that ends at c is no field, it is the refusal
-refused_at : (head : Text) (c : ℕ) (p : FormatPart) → NoLetter head c → ReadOf (head ++ c ∷ []) (Some (p, [])) → p ≡ part.NoConversion c
-refused_at head c (part.Character d) n r = absurd r
-refused_at head c (part.Field f) n r =
+refused_at : (head : Text) (f g : Field) (c : ℕ) (p : FormatPart) → NoLetter head f c → ReadIs (head ++ c ∷ []) g (Some (p, [])) → p ≡ part.NoConversion c
+refused_at head f g c (part.Character d) n r = absurd r
+refused_at head f g c (part.Field i) n r =
     let same : c ≡ r.2.letter = same_last head r.2.head c r.2.letter (r.1 ∙ append-nil r.0 ∙ r.2.in_order) in
     absurd (both (conversion_of c) n.no_letter (ap conversion_of same ∙ r.2.is_letter))
   where
-    both : (o : Option Conversion) → o ≡ None → o ≡ Some f.conversion → ⊥
+    both : (o : Option Conversion) → o ≡ None → o ≡ Some i.conversion → ⊥
     both o a b = cc
-refused_at head c (part.NoConversion d) n r = ap part.NoConversion (sym (same_last head r.0 c d r.1))
+refused_at head f g c (part.NoConversion d) n r = ap part.NoConversion (sym (same_last head r.0 c d r.1))
 
-refused_by : (head rest : Text) (c : ℕ) (o : Option FormatPart) (later : Option (FormatPart × Text)) → NoLetter head c → ReadOf (head ++ c ∷ []) (part_or o [] None) → part_or o rest later ≡ Some (part.NoConversion c, rest)
-refused_by head rest c None later n r = absurd (n.no_more r)
-refused_by head rest c (Some p) later n r = ap (λ q. Some (q, rest)) (refused_at head c p n r)
+abbrev pub refused_with : Field → ℕ → Text → Reading
+refused_with f c rest = record { part = Some (part.NoConversion c, rest); field = f }
 
-pub refusal_read : (head rest : Text) (c : ℕ) → NoLetter head c → directive (head ++ c ∷ rest) ≡ Some (part.NoConversion c, rest)
-refusal_read head rest c n =
-    let r = head_go head n.begins.0 n.begins.1 in
-    let before : Field = record (n.begins.0) { conversion = conversion.Percent } in
+refused_by : (head rest : Text) (f before behind : Field) (c : ℕ) (o : Option FormatPart) (later : Reading) → NoLetter head f c → ReadOf (head ++ c ∷ []) (part_or o before [] (open_at behind))
+    → part_or o before rest later ≡ refused_with before c rest
+refused_by head rest f before behind c None later n r = absurd (n.no_more (behind, r))
+refused_by head rest f before behind c (Some p) later n r = ap (λ q. record { part = Some (q, rest); field = before }) (refused_at head f before c p n r)
+
+pub refusal_read : (head rest : Text) (f : Field) (c : ℕ) → NoLetter head f c → directive (head ++ c ∷ rest) ≡ refused_with (record f { conversion = conversion.Percent }) c rest
+refusal_read head rest f c n =
+    let r = head_go head f n.is_head in
+    let before : Field = record f { conversion = conversion.Percent } in
     let x : FormatStep = next_of r.0 before c in
-    r.2 (c ∷ rest) ∙ refused_by head rest c x.part (part_read x.stage x.field rest) n (subst (ReadOf (head ++ c ∷ [])) (r.2 (c ∷ [])) (read_of (head ++ c ∷ [])))
+    r.2 (c ∷ rest) ∙ refused_by head rest f before x.field c x.part (part_read x.stage x.field rest) n (subst (ReadOf (head ++ c ∷ [])) (r.2 (c ∷ [])) (read_of (head ++ c ∷ [])))
 
 pub refusal_is_no_letter : RefusalIsNoLetter
-refusal_is_no_letter t rest c = (λ e. subst (ReadOf t) e (read_of t), λ h. ap directive h.1 ∙ refusal_read h.0 rest c h.2)
+refusal_is_no_letter t rest c = (
+  λ e. let h = subst (ReadIs t (directive t).field) e (read_of t) in (h.0, (directive t).field, h.1, h.2),
+  λ h. ap part_in (ap directive h.2 ∙ refusal_read h.0 rest h.1 c h.3),
+)
 
-pub beginning_read : (t : Text) → Begins t → directive t ≡ None
-beginning_read t b = let r = head_go t b.0 b.1 in ap directive (sym (append-nil t)) ∙ r.2 []
+pub beginning_read : (t : Text) (f : Field) → IsHead t f → directive t ≡ open_at (record f { conversion = conversion.Percent })
+beginning_read t f h = let r = head_go t f h in ap directive (sym (append-nil t)) ∙ r.2 []
 
 pub unended_is_beginning : UnendedIsBeginning
-unended_is_beginning t = (λ e. subst (ReadOf t) e (read_of t), beginning_read t)
+unended_is_beginning t = (λ e. ((directive t).field, subst (ReadIs t (directive t).field) e (read_of t)), λ b. ap part_in (beginning_read t b.0 b.1))
 
 abbrev rest_of : Option (FormatPart × Text) → Text
 rest_of None = []
@@ -145,14 +158,14 @@ same_reading f g rest behind r a b = (ap rest_of (sym a ∙ b), ap field_of (sym
 
 pub one_field : OneField
 one_field d e rest behind f g j h i =
-    let same = same_reading f g rest behind (directive (d ++ rest)) (field_read d rest f h) (ap directive j ∙ field_read e behind g i) in
+    let same = same_reading f g rest behind (directive (d ++ rest)).part (ap part_in (field_read d rest f h)) (ap part_in (ap directive j ∙ field_read e behind g i)) in
     (append_cancel_right d e rest (j ∙ ap (λ r. e ++ r) (sym same.0)), same.0, same.1)
 
-directive_of : (t : Text) (r : Option (FormatPart × Text)) → ReadOf t r → Directive t
-directive_of t None h = law.unended t h
-directive_of t (Some (part.Character c, rest)) h = absurd h
-directive_of t (Some (part.Field f, rest)) h = subst Directive (sym h.1) (law.field h.0 rest f h.2)
-directive_of t (Some (part.NoConversion c, rest)) h = subst Directive (sym h.1) (law.refused h.0 rest c h.2)
+directive_of : (t : Text) (f : Field) (r : Option (FormatPart × Text)) → ReadIs t f r → Directive t
+directive_of t f None h = law.unended t (f, h)
+directive_of t f (Some (part.Character c, rest)) h = absurd h
+directive_of t f (Some (part.Field g, rest)) h = subst Directive (sym h.1) (law.field h.0 rest g h.2)
+directive_of t f (Some (part.NoConversion c, rest)) h = subst Directive (sym h.1) (law.refused h.0 rest f c h.2)
 
 pub field_or_fault : FieldOrFault
-field_or_fault t = directive_of t (directive t) (read_of t)
+field_or_fault t = directive_of t (directive t).field (directive t).part (read_of t)

@@ -5,15 +5,17 @@ use Rattle.std.proofs.lemmas.List.{append-nil}
 use Rattle.std.specs.Char.{digit_value}
 use Rattle.std.specs.Str.Parse.{digits_value_after, digits_value}
 use Rattle.tcl_chars.specs.Characters.{number_sign, space, star}
-use Rattle.tcl_pages.specs.Formats.{is_of, no_field, on_to, digit_of, more_digits, more_precision, conversion_next, modifier_next, second_modifier_next, dot_next, precise_next, precision_next, width_next, more_width, flag_next, next_of}
+use Rattle.tcl_pages.specs.Formats.{no_field, on_to, digit_of, more_digits, more_precision, conversion_next, modifier_next, second_modifier_next, dot_next, precise_next, precision_next, width_next, more_width, flag_next, next_of}
+use Rattle.tcl_pages.specs.Strings.{is_among}
 use Rattle.tcl_pages.specs.StringClasses.{is_digit}
+use Rattle.tcl_pages.specs.StringLaws.{AllAre}
 use Rattle.tcl_pages.specs.Texts.{Text}
 use Rattle.tcl_pages.specs.declared.formats.Field.{Field}
 use Rattle.tcl_pages.specs.declared.formats.FormatStage.{FormatStage}
 use Rattle.tcl_pages.specs.declared.formats.FormatStage.TheVariants as stage
 use Rattle.tcl_pages.specs.declared.formats.FormatStep.{FormatStep}
 use Rattle.tcl_pages.specs.declared.formats.Size.TheVariants as size
-use Rattle.tcl_strings.specs.FieldGrammar.{minus, plus, zero_digit, dot, letter_l, AllAre, is_flag, IsFlags, size_of, IsWidth, IsPrecision, IsModifier, IsHead}
+use Rattle.tcl_strings.specs.FieldGrammar.{minus, plus, zero_digit, dot, letter_l, is_flag, IsFlags, size_of, IsWidth, IsPrecision, IsModifier, IsHead}
 use Rattle.tcl_strings.specs.FieldGrammar as grammar
 use Rattle.tcl_strings.proofs.FieldSteps.{value_again, first_value}
 
@@ -233,11 +235,11 @@ or_true : (b : Bool) → true ≡ (b || true)
 or_true true = refl
 or_true false = refl
 
-has_new : (t : Text) (c : ℕ) → (c == c) ≡ true → true ≡ is_of (t ++ c ∷ []) c
+has_new : (t : Text) (c : ℕ) → (c == c) ≡ true → true ≡ is_among (t ++ c ∷ []) c
 has_new [] c e = sym (ap (λ b. b || false) e)
 has_new (d ∷ ds) c e = or_true (d == c) ∙ ap (λ b. (d == c) || b) (has_new ds c e)
 
-has_others : (t : Text) (c n : ℕ) → (c == n) ≡ false → is_of t n ≡ is_of (t ++ c ∷ []) n
+has_others : (t : Text) (c n : ℕ) → (c == n) ≡ false → is_among t n ≡ is_among (t ++ c ∷ []) n
 has_others [] c n e = sym (ap (λ b. b || false) e)
 has_others (d ∷ ds) c n e = ap (λ b. (d == n) || b) (has_others ds c n e)
 

@@ -4,8 +4,10 @@ use Rattle.std.proofs.lemmas.Bool.{cases_Bool, and_parts, eqb-true, ne_eqb, leb-
 use Rattle.std.specs.Char.{digit_value}
 use Rattle.std.specs.Str.Parse.{digits_value_after}
 use Rattle.tcl_chars.specs.Characters.{number_sign, space, star}
-use Rattle.tcl_pages.specs.Formats.{is_of, on_to, digit_of, next_of}
+use Rattle.tcl_pages.specs.Formats.{on_to, digit_of, next_of}
+use Rattle.tcl_pages.specs.Strings.{is_among}
 use Rattle.tcl_pages.specs.StringClasses.{is_digit}
+use Rattle.tcl_pages.specs.StringLaws.{AllAre}
 use Rattle.tcl_pages.specs.Texts.{Text}
 use Rattle.tcl_pages.specs.declared.formats.Field.{Field}
 use Rattle.tcl_pages.specs.declared.formats.FormatStage.{FormatStage}
@@ -13,7 +15,7 @@ use Rattle.tcl_pages.specs.declared.formats.FormatStage.TheVariants as stage
 use Rattle.tcl_pages.specs.declared.formats.FormatStep.{FormatStep}
 use Rattle.tcl_pages.specs.declared.formats.Size.{Size}
 use Rattle.tcl_pages.specs.declared.formats.Size.TheVariants as size
-use Rattle.tcl_strings.specs.FieldGrammar.{minus, plus, zero_digit, dot, letter_l, AllAre, is_flag, IsFlags, size_of, IsWidth, IsPrecision, IsModifier, IsHead, IsField}
+use Rattle.tcl_strings.specs.FieldGrammar.{minus, plus, zero_digit, dot, letter_l, is_flag, IsFlags, size_of, IsWidth, IsPrecision, IsModifier, IsHead, IsField}
 use Rattle.tcl_strings.specs.FieldGrammar as grammar
 use Rattle.tcl_strings.specs.FieldLaws.{part_or, part_read}
 
@@ -21,11 +23,11 @@ use Rattle.tcl_strings.specs.FieldLaws.{part_or, part_read}
 abbrev pub Goes : FormatStage → Field → Text → FormatStage → Field → Type 0
 Goes s f t u g = (rest : Text) → part_read s f (t ++ rest) ≡ part_read u g rest
 
-pub step_read : (x y : FormatStep) (rest : Text) → x ≡ y → part_or x.part rest (part_read x.stage x.field rest) ≡ part_or y.part rest (part_read y.stage y.field rest)
-step_read x y rest e = ap (λ (z : FormatStep). part_or z.part rest (part_read z.stage z.field rest)) e
+pub step_read : (f : Field) (x y : FormatStep) (rest : Text) → x ≡ y → part_or x.part f rest (part_read x.stage x.field rest) ≡ part_or y.part f rest (part_read y.stage y.field rest)
+step_read f x y rest e = ap (λ (z : FormatStep). part_or z.part f rest (part_read z.stage z.field rest)) e
 
 goes_on : (s u v : FormatStage) (f g h : Field) (c : ℕ) (cs : Text) → next_of s f c ≡ on_to u g → Goes u g cs v h → Goes s f (c ∷ cs) v h
-goes_on s u v f g h c cs e k rest = step_read (next_of s f c) (on_to u g) (cs ++ rest) e ∙ k rest
+goes_on s u v f g h c cs e k rest = step_read f (next_of s f c) (on_to u g) (cs ++ rest) e ∙ k rest
 
 pub goes_then : (s u v : FormatStage) (f g h : Field) (t more : Text) → Goes s f t u g → Goes u g more v h → Goes s f (t ++ more) v h
 goes_then s u v f g h t more a b rest = ap (part_read s f) (append_assoc t more rest) ∙ a (more ++ rest) ∙ b rest
@@ -61,12 +63,12 @@ first_value c h = let b = digit_bounds c h in sym (small (digit_of c) (omega (ar
 
 abbrev pub flagged : Field → Text → Field
 flagged f t =
-    record f { minus = is_of t minus || f.minus; plus = is_of t plus || f.plus; gap = is_of t space || f.gap; zeros = is_of t zero_digit || f.zeros; hash = is_of t number_sign || f.hash }
+    record f { minus = is_among t minus || f.minus; plus = is_among t plus || f.plus; gap = is_among t space || f.gap; zeros = is_among t zero_digit || f.zeros; hash = is_among t number_sign || f.hash }
 
-of_cases : (d : ℕ) (ds : Text) (c : ℕ) → is_of (d ∷ ds) c ≡ true → (d ≡ c) ⊎ (is_of ds c ≡ true)
+of_cases : (d : ℕ) (ds : Text) (c : ℕ) → is_among (d ∷ ds) c ≡ true → (d ≡ c) ⊎ (is_among ds c ≡ true)
 of_cases d ds c h = elim (cases_Bool (d == c)) [
   | inl t ↦ inl (eqb-true d c t)
-  | inr n ↦ inr (sym (ap (λ b. b || is_of ds c) n) ∙ h)
+  | inr n ↦ inr (sym (ap (λ b. b || is_among ds c) n) ∙ h)
 ]
 
 pub each_flag : (P : ℕ → Type 0) → P minus → P plus → P space → P zero_digit → P number_sign → (c : ℕ) → is_flag c ≡ true → P c
@@ -98,7 +100,7 @@ or_swap false false b = refl
 
 flagged_more : (f : Field) (c : ℕ) (cs : Text) → flagged (flagged f (c ∷ [])) cs ≡ flagged f (c ∷ cs)
 flagged_more f c cs =
-    rw (or_swap (is_of cs minus) (c == minus) f.minus, or_swap (is_of cs plus) (c == plus) f.plus, or_swap (is_of cs space) (c == space) f.gap, or_swap (is_of cs zero_digit) (c == zero_digit) f.zeros, or_swap (is_of cs number_sign) (c == number_sign) f.hash)
+    rw (or_swap (is_among cs minus) (c == minus) f.minus, or_swap (is_among cs plus) (c == plus) f.plus, or_swap (is_among cs space) (c == space) f.gap, or_swap (is_among cs zero_digit) (c == zero_digit) f.zeros, or_swap (is_among cs number_sign) (c == number_sign) f.hash)
     refl
 
 pub flags_go : (f : Field) (t : Text) → AllAre is_flag t → Goes stage.Flags f t stage.Flags (flagged f t)

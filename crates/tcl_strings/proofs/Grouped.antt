@@ -4,7 +4,9 @@ use Rattle.std.specs.Prelude.{filter, cond}
 use Rattle.std.proofs.lemmas.Bool.{cases_Bool, cond-true, cond-false, ne_eqb, eqb-true, eq-eqb, false≢true}
 use Rattle.std.proofs.lemmas.List.{get_or-set_same, get_or-set_other, append-nil, length-set, take_all}
 use Rattle.std.proofs.lemmas.List.Elements.{filter-append}
-use Rattle.tcl_pages.specs.Strings.{pair_for, key_begins, begins_with, pairs}
+use Rattle.tcl_chars.specs.Truth.{is_beginning}
+use Rattle.tcl_pages.specs.Dictionaries.{pairs}
+use Rattle.tcl_pages.specs.Strings.{pair_for, key_begins}
 use Rattle.tcl_pages.specs.Texts.{Text}
 use Rattle.tcl_values.specs.Kept.{Kept, texts}
 use Rattle.tcl_strings.specs.Taken.{taken_by}
@@ -13,7 +15,7 @@ use Rattle.tcl_strings.specs.Grouped.{Pair, group_of, falls_into, Grouped, Group
 -- a key that doesn't fall into the group of a text's first character doesn't begin the text
 skipped : (n c : ℕ) (cs key : Text) → falls_into n (group_of n c) key ≡ false → key_begins key (c ∷ cs) ≡ false
 skipped n c cs [] h = refl
-skipped n c cs (k ∷ ks) h = ap (λ b. b && begins_with ks cs) (ne_eqb k c (λ e. false≢true (sym h ∙ eq-eqb (group_of n k) (group_of n c) (ap (group_of n) e))))
+skipped n c cs (k ∷ ks) h = ap (λ b. b && is_beginning ks cs) (ne_eqb k c (λ e. false≢true (sym h ∙ eq-eqb (group_of n k) (group_of n c) (ap (group_of n) e))))
 
 found_still : (n c : ℕ) (cs : Text) (ps : List Pair) → pair_for (filter (λ p. falls_into n (group_of n c) p.0) ps) (c ∷ cs) ≡ pair_for ps (c ∷ cs)
 found_still n c cs [] = refl

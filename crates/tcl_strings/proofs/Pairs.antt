@@ -2,11 +2,12 @@
 use Rattle.std.proofs.Common.{◌≡◌, ◌<◌, ◌≤◌, ◌-◌, ℕ, zero, suc, true, List, [], ◌∷◌, ◌++◌, append_assoc, length, drop, Option, Some, None, unwrap_or, refl, sym, ap, ◌∙◌, subst, arith}
 use Rattle.std.proofs.lemmas.Bool.{and_parts, false≢true}
 use Rattle.std.proofs.lemmas.List.{length-drop}
-use Rattle.tcl_pages.specs.Strings.{begins_with, key_begins, pair_for, said_for, key_rest, mapped}
+use Rattle.tcl_chars.specs.Truth.{is_beginning}
+use Rattle.tcl_pages.specs.Strings.{key_begins, pair_for, said_for, key_rest, mapped}
 use Rattle.tcl_pages.specs.Texts.{Text}
 use Rattle.tcl_strings.specs.Taken.{taken_by}
 
-begins_longer : (k t : Text) → begins_with k t ≡ true → length k ≤ length t
+begins_longer : (k t : Text) → is_beginning k t ≡ true → length k ≤ length t
 begins_longer [] t h = omega arith
 begins_longer (c ∷ cs) [] h = absurd (false≢true h)
 begins_longer (c ∷ cs) (d ∷ ds) h = let p = and_parts _ _ h in omega (arith, begins_longer cs ds p.1)

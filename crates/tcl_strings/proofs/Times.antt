@@ -1,4 +1,4 @@
--- A text so many times.
+-- A text, repeated n times.
 use Rattle.std.proofs.Common.{◌≡◌, ◌<◌, ◌-◌, ℕ, zero, suc, List, [], ◌++◌, append_assoc, refl, sym, ap, ◌∙◌, arith}
 use Rattle.tcl_pages.specs.Strings.{repeated_text}
 

@@ -25,7 +25,7 @@ converted_arguments conversion.Percent = 0
 converted_arguments _ = 1
 
 abbrev pub arguments_of : Field → ℕ
-arguments_of f = size_arguments f.width + (precision_arguments f.precision + converted_arguments f.conversion)
+arguments_of f = size_arguments f.width + precision_arguments f.precision + converted_arguments f.conversion
 
 -- The first n texts of ws are taken, those behind them are left, and what is answered is the same whatever stands behind.
 pub record TakesFront {A : Type 0} (take : List Text → Taken A) (n : ℕ) (ws left : List Text) (a : A) : Type 0 where
@@ -41,7 +41,7 @@ pub data FrontFault {A : Type 0} (take : List Text → Taken A) (n : ℕ) (ws : 
 
 -- ---- laws
 
--- What a field shows is a function of the field and of its own arguments: the next ones, so many as it has `*` and one to be
+-- What a field shows is a function of the field and of its own arguments: the next ones, as many as it has `*` and one to be
 -- converted.
 abbrev pub FieldTakesItsArguments : Type 0
 FieldTakesItsArguments = (dialect : Dialect) (f : Field) (ws left : List Text) (shows : Text) → field_taken dialect f ws ≡ Ok (shows, left) → TakesFront (field_taken dialect f) (arguments_of f) ws left shows

@@ -1,17 +1,16 @@
 -- The directives of a format, said by their parts rather than by a reader (format(n)): the text behind `%` is flags in any order,
 -- a width, a precision, a size modifier and a letter. All but the letter may be omitted.
-use Rattle.std.specs.Prelude.{◌≡◌, ◌≢◌, ℕ, min, Bool, true, [], ◌∷◌, ◌++◌, Option, Some, None}
+use Rattle.std.specs.Prelude.{◌≡◌, ◌≢◌, ℕ, min, Bool, [], ◌∷◌, ◌++◌, Option, Some, None}
 use Rattle.std.specs.Str.Parse.{digits_value}
 use Rattle.tcl_chars.specs.Characters.{number_sign, space, star}
-use Rattle.tcl_pages.specs.Formats.{is_of, conversion_of}
+use Rattle.tcl_pages.specs.Formats.{percent, conversion_of}
 use Rattle.tcl_pages.specs.StringClasses.{is_digit}
+use Rattle.tcl_pages.specs.StringLaws.{AllAre}
+use Rattle.tcl_pages.specs.Strings.{is_among}
 use Rattle.tcl_pages.specs.Texts.{Text}
 use Rattle.tcl_pages.specs.declared.formats.Field.{Field}
 use Rattle.tcl_pages.specs.declared.formats.Size.{Size}
 use Rattle.tcl_pages.specs.declared.formats.Size.TheVariants as size
-
-abbrev pub percent : ℕ
-percent = 37
 
 abbrev pub minus : ℕ
 minus = 45
@@ -28,24 +27,20 @@ dot = 46
 abbrev pub letter_l : ℕ
 letter_l = 108
 
-abbrev pub AllAre : (ℕ → Bool) → Text → Type 0
-AllAre test [] = Unit {0}
-AllAre test (c ∷ cs) = (test c ≡ true) × AllAre test cs
-
 -- ---- flags
 
 abbrev pub is_flag : ℕ → Bool
-is_flag = is_of (minus ∷ plus ∷ space ∷ zero_digit ∷ number_sign ∷ [])
+is_flag = is_among (minus ∷ plus ∷ space ∷ zero_digit ∷ number_sign ∷ [])
 
 -- Flags in any order, and as often as one likes: the field has those that stand in the text.
 abbrev pub IsFlags : Text → Field → Type 0
 IsFlags t f =
     AllAre is_flag t
-    × (f.minus ≡ is_of t minus)
-    × (f.plus ≡ is_of t plus)
-    × (f.gap ≡ is_of t space)
-    × (f.zeros ≡ is_of t zero_digit)
-    × (f.hash ≡ is_of t number_sign)
+    × (f.minus ≡ is_among t minus)
+    × (f.plus ≡ is_among t plus)
+    × (f.gap ≡ is_among t space)
+    × (f.zeros ≡ is_among t zero_digit)
+    × (f.hash ≡ is_among t number_sign)
 
 -- ---- sizes
 
@@ -100,7 +95,12 @@ abbrev pub Begins : Text → Type 0
 Begins t = (f : Field) × IsHead t f
 
 -- A letter must stand behind the head, and c is none, nor does a part go on with it.
-pub record NoLetter (head : Text) (c : ℕ) : Type 0 where
-  pub begins : Begins head
+pub record NoLetter (head : Text) (f : Field) (c : ℕ) : Type 0 where
+  pub is_head : IsHead head f
   pub no_more : Begins (head ++ c ∷ []) → ⊥
   pub no_letter : conversion_of c ≡ None
+
+-- Where the letter must stand, the text ends or has none.
+abbrev pub Lacks : Text → Field → Text → Type 0
+Lacks head f [] = IsHead head f
+Lacks head f (c ∷ rest) = NoLetter head f c

@@ -6,11 +6,11 @@ use Rattle.tcl_pages.specs.Texts.{Text}
 abbrev pub Pair : Type 0
 Pair = Text × Text
 
--- the group, of so many, of keys with this first character
+-- which of `count` groups the keys with this first character are in
 abbrev pub group_of : ℕ → ℕ → ℕ
 group_of count c = c % count
 
--- has a key its place in the group k of so many; an empty key has none
+-- is a key in group k of `count`; an empty key is in none
 abbrev pub falls_into : ℕ → ℕ → Text → Bool
 falls_into count k [] = false
 falls_into count k (c ∷ cs) = group_of count c == k

@@ -5,7 +5,8 @@ ghost use Rattle.std.specs.Str.{chars, IsAscii};
 ghost use Rattle.tcl_pages.specs.Strings as spec;
 
 use memchr::memmem;
-use tcl_arguments::{behind, clamped};
+use tcl_arguments::behind;
+use tcl_chars::clamp;
 
 /// The character at a place, and nothing where the text has no such place.
 #[tactic(auto, using(crate::proofs::Bytes::boundary, crate::proofs::Bytes::one_character, crate::proofs::Empty::no_chars, crate::proofs::Empty::nothing_behind))]
@@ -44,7 +45,7 @@ pub(crate) fn first_in_bytes(needle: &str, text: &str, start: i128) -> Option<us
     if needle.is_empty() {
         return None;
     }
-    let from = clamped(start, text.len());
+    let from = clamp(start, text.len());
     let place = memmem::find(&text.as_bytes()[from..], needle.as_bytes())?;
     Some(from + place)
 }

@@ -65,7 +65,7 @@ fn all_raised(alloc: Global, text: &str) -> Result<String, AllocError>
     Ok(said)
 }
 
-/// The text so many times.
+/// The text, repeated `count` times.
 #[tactic(auto, using(crate::proofs::Empty::no_chars))]
 fn repeated(alloc: Global, text: &str, count: usize) -> Result<String, AllocError>
     ensures { IfOk result (λ s. chars (string_bytes s) ≡ spec.repeated_text count (chars text.now)) }
@@ -82,7 +82,7 @@ fn repeated(alloc: Global, text: &str, count: usize) -> Result<String, AllocErro
     Ok(said)
 }
 
-/// The text so many times; an empty one where the count is below 0.
+/// The text, repeated `count` times; an empty one where the count is below 0.
 #[tactic(auto, using(crate::proofs::Empty::no_chars))]
 fn times(alloc: Global, text: &str, count: i64) -> Result<String, AllocError>
     ensures { IfOk result (λ s. chars (string_bytes s) ≡ spec.times_text count (chars text.now)) }
@@ -132,7 +132,7 @@ pub fn string_toupper(alloc: Global, words: &mut [Value]) -> Result<Value, Fault
     Ok(Value::of_string(alloc, all_raised(alloc, text.as_str())?)?)
 }
 
-/// `string repeat string count`: the text so many times.
+/// `string repeat string count`: the text, repeated `count` times.
 ///
 /// # Errors
 ///

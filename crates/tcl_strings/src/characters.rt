@@ -9,7 +9,7 @@ use std::alloc::{AllocError, Global};
 use tcl_chars::split_first;
 use tcl_values::Value;
 
-/// So many characters, those of ASCII, have a place of their own.
+/// The number of characters that have a place of their own: those of ASCII.
 const ASCII: usize = 128;
 
 /// A text of fewer bytes is split with no such places.
@@ -23,7 +23,7 @@ pub(crate) struct Singles {
 }
 
 impl Singles {
-    /// None was made. So many characters have places.
+    /// None was made yet. The first `count` characters have places.
     fn new(alloc: Global, count: usize) -> Result<Singles, AllocError> {
         let mut made = Vec::with_capacity(alloc, count)?;
         while made.len() < count {

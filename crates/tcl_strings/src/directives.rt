@@ -61,7 +61,7 @@ fn conversion_of(c: char) -> Option<Conversion>
     }
 }
 
-/// Where a conversion must stand.
+/// What a character does where a conversion must stand.
 fn conversion_next(field: Field, c: char) -> FormatStep
     ensures { result ≡ spec.conversion_next field c }
 {
@@ -74,7 +74,7 @@ fn conversion_next(field: Field, c: char) -> FormatStep
     }
 }
 
-/// Where `l` may stand.
+/// What a character does where `l` may stand.
 fn modifier_next(field: Field, c: char) -> FormatStep
     ensures { result ≡ spec.modifier_next field c }
 {
@@ -84,7 +84,7 @@ fn modifier_next(field: Field, c: char) -> FormatStep
     conversion_next(field, c)
 }
 
-/// Where a second `l` may stand.
+/// What a character does where a second `l` may stand.
 fn second_modifier_next(field: Field, c: char) -> FormatStep
     ensures { result ≡ spec.second_modifier_next field c }
 {
@@ -94,7 +94,7 @@ fn second_modifier_next(field: Field, c: char) -> FormatStep
     conversion_next(field, c)
 }
 
-/// Where a precision may begin.
+/// What a character does where a precision may begin.
 fn dot_next(field: Field, c: char) -> FormatStep
     ensures { result ≡ spec.dot_next field c }
 {
@@ -135,7 +135,7 @@ fn more_precision(precision: Option<Size>, c: char) -> Option<Size>
     }
 }
 
-/// Where a width may begin.
+/// What a character does where a width may begin.
 fn width_next(field: Field, c: char) -> FormatStep
     ensures { result ≡ spec.width_next field c }
 {
@@ -150,7 +150,7 @@ fn width_next(field: Field, c: char) -> FormatStep
     dot_next(field, c)
 }
 
-/// Where a flag may stand.
+/// What a character does where a flag may stand.
 fn flag_next(field: Field, c: char) -> FormatStep
     ensures { result ≡ spec.flag_next field c }
 {
@@ -177,7 +177,7 @@ fn flag_next(field: Field, c: char) -> FormatStep
     on_to(FormatStage::Flags, flagged)
 }
 
-/// Outside of a field.
+/// What a character outside of a field does.
 fn plain_next(c: char) -> FormatStep
     ensures { result ≡ spec.plain_next c }
 {
@@ -187,7 +187,7 @@ fn plain_next(c: char) -> FormatStep
     ends(FormatPart::Character(c))
 }
 
-/// Behind a digit of a width.
+/// What a character behind a digit of a width does.
 fn more_width(field: Field, c: char) -> FormatStep
     ensures { result ≡ spec.more_width field c }
 {
@@ -198,7 +198,7 @@ fn more_width(field: Field, c: char) -> FormatStep
     dot_next(field, c)
 }
 
-/// Where a digit of a precision may stand.
+/// What a character does where a digit of a precision may stand.
 fn precise_next(field: Field, c: char) -> FormatStep
     ensures { result ≡ spec.precise_next field c }
 {
@@ -209,7 +209,7 @@ fn precise_next(field: Field, c: char) -> FormatStep
     modifier_next(field, c)
 }
 
-/// Behind the dot.
+/// What a character behind the dot does.
 fn precision_next(field: Field, c: char) -> FormatStep
     ensures { result ≡ spec.precision_next field c }
 {

@@ -11,7 +11,7 @@ use std::alloc::{AllocError, Global};
 use tcl_chars::{push, push_text};
 use tcl_pages::{Field, Layout, NumberForm};
 
-/// Writes a character so many times at the end of a text.
+/// Writes a character `count` times at the end of a text.
 fn push_many(text: &mut String, c: char, count: usize) -> Result<(), AllocError>
     ensures { OnOk result (chars (string_bytes text.new) ≡ chars (string_bytes text.old) ++ replicate count c) }
 {
@@ -172,7 +172,7 @@ pub(crate) fn scalar(number: i64) -> char
     }
 }
 
-/// The first characters, so many as the precision says, or all.
+/// The first characters, as many as the precision says, or all.
 pub(crate) fn first_characters(precision: Option<u32>, text: &str) -> &str
     ensures { chars result.now ≡ spec.first_characters precision (chars text.now) }
 {

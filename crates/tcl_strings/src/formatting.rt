@@ -175,6 +175,19 @@ fn shown(
     }
 }
 
+/// The layout of a field, and the arguments that are left.
+fn sizes_taken(
+    alloc: Global,
+    field: Field,
+    args: &[RcStr],
+    dialect: Dialect,
+) -> Result<(Layout, &[RcStr]), Fault>
+    ensures { Answers (λ r. (r.0, map text_of r.1.now)) result (spec.sizes_taken dialect field (map text_of args.now)) }
+{
+    let (wide, args) = width_taken(alloc, field, args, dialect)?;
+    precision_taken(alloc, wide, field.precision, args, dialect)
+}
+
 /// What a field shows, and the arguments that are left.
 fn field_taken(
     alloc: Global,
@@ -185,8 +198,7 @@ fn field_taken(
     ensures { Answers (λ r. (chars (string_bytes r.0), map text_of r.1.now)) result
         (spec.field_taken dialect field (map text_of args.now)) }
 {
-    let (wide, args) = width_taken(alloc, field, args, dialect)?;
-    let (layout, args) = precision_taken(alloc, wide, field.precision, args, dialect)?;
+    let (layout, args) = sizes_taken(alloc, field, args, dialect)?;
     shown(alloc, field, layout, args, dialect)
 }
 
@@ -198,16 +210,18 @@ fn bad_field(alloc: Global, c: char) -> Result<RcStr, AllocError>
     about(alloc, "bad field specifier", text.as_str(), "")
 }
 
-/// Writes what a part shows at the end of a text, and answers the arguments that are left.
+/// Writes what a part shows at the end of a text, and answers the arguments that are left. The field is what was read of one
+/// in front of the part's last character.
 fn push_part<'a>(
     alloc: Global,
     said: &mut String,
+    so_far: Field,
     part: Option<FormatPart>,
     args: &'a [RcStr],
     dialect: Dialect,
 ) -> Result<&'a [RcStr], Fault>
     ensures { Answers (λ r. (chars (string_bytes said.new), map text_of r.now)) result
-        (shown_behind (chars (string_bytes said.old)) (spec.step_taken dialect part (map text_of args.now))) }
+        (shown_behind (chars (string_bytes said.old)) (spec.step_taken dialect so_far part (map text_of args.now))) }
 {
     match part {
         None => Ok(args),
@@ -220,7 +234,10 @@ fn push_part<'a>(
             push_text(said, text.as_str())?;
             Ok(rest)
         }
-        Some(FormatPart::NoConversion(c)) => Err(Fault::Error(bad_field(alloc, c)?)),
+        Some(FormatPart::NoConversion(c)) => {
+            sizes_taken(alloc, so_far, args, dialect)?;
+            Err(Fault::Error(bad_field(alloc, c)?))
+        }
     }
 }
 
@@ -232,12 +249,19 @@ fn is_plain(stage: FormatStage) -> bool
 }
 
 /// May a format end there?
-fn at_end(alloc: Global, stage: FormatStage) -> Result<(), Fault>
-    ensures { Answers (λ u. []) result (spec.at_end stage) }
+fn at_end(
+    alloc: Global,
+    stage: FormatStage,
+    so_far: Field,
+    args: &[RcStr],
+    dialect: Dialect,
+) -> Result<(), Fault>
+    ensures { Answers (λ u. []) result (spec.at_end dialect stage so_far (map text_of args.now)) }
 {
     if is_plain(stage) {
         return Ok(());
     }
+    sizes_taken(alloc, so_far, args, dialect)?;
     Err(Fault::Error(message(alloc, "format string ended in middle of field specifier")?))
 }
 
@@ -253,11 +277,11 @@ fn formatted(alloc: Global, format: &str, args: &[RcStr], dialect: Dialect) -> R
     let mut field = no_field();
     'characters: loop {
         let Some((c, after)) = split_first(rest) else {
-            at_end(alloc, stage)?;
+            at_end(alloc, stage, field, left, dialect)?;
             return Ok(said);
         };
         let step = next_of(stage, field, c);
-        left = push_part(alloc, &mut said, step.part, left, dialect)?;
+        left = push_part(alloc, &mut said, field, step.part, left, dialect)?;
         stage = step.stage;
         field = step.field;
         rest = after;

@@ -2,6 +2,7 @@
 
 ghost use Rattle.std.specs.Prelude.{◌≡◌, ◌<◌, ◌++◌, ◌∷◌, [], true, false, length, drop, option_map, MatchOption, IfOk, IfSome, OnOk};
 ghost use Rattle.std.specs.Str.{chars};
+ghost use Rattle.tcl_pages.specs.Dictionaries.{pairs};
 ghost use Rattle.tcl_pages.specs.Strings as spec;
 ghost use Rattle.tcl_strings.specs.Grouped.{Grouped, group_of, pair_among, with_pair};
 ghost use Rattle.tcl_strings.specs.Taken.{taken_by};
@@ -13,10 +14,10 @@ use std::marker::Model;
 use tcl_chars::split_first;
 use tcl_values::Element;
 
-/// Up to so many elements of a list of keys and values make one group.
+/// A list of keys and values makes one group if it has at most this number of elements.
 const FEW: usize = 16;
 
-/// So many groups have the pairs of a longer list.
+/// The number of groups that the pairs of a longer list are put into.
 const GROUPS: usize = 128;
 
 /// Some pairs of keys and values, in the order of their list.
@@ -81,7 +82,7 @@ impl<'a> Group<'a> {
     }
 }
 
-/// The group, of so many, that has the keys with this first character.
+/// Which of `count` groups has the keys with this first character.
 fn place_of(c: char, count: usize) -> usize
     requires { 0 < count }
     ensures place { result ≡ group_of count c }
@@ -90,7 +91,7 @@ fn place_of(c: char, count: usize) -> usize
     c as usize % count
 }
 
-/// So many groups with no pair.
+/// `count` groups with no pair in them.
 fn empty_groups<'a>(alloc: Global, count: usize) -> Result<Vec<Group<'a>>, AllocError>
     requires { 0 < count }
     ensures { IfOk result (λ groups. Grouped [] groups.items) }
@@ -116,7 +117,7 @@ fn put_pair<'a>(groups: &mut Vec<Group<'a>>, key: &'a str, value: &'a str) -> Re
 
 /// Keys and values in turn, in groups by the first characters of the keys: one group where they are few.
 pub(crate) fn grouped<'a>(alloc: Global, items: &'a [Element]) -> Result<Vec<Group<'a>>, AllocError>
-    ensures { IfOk result (λ groups. Grouped (spec.pairs (texts items.now)) groups.items) }
+    ensures { IfOk result (λ groups. Grouped (pairs (texts items.now)) groups.items) }
 {
     let count = if items.len() <= FEW { 1 } else { GROUPS };
     let mut groups = empty_groups(alloc, count)?;

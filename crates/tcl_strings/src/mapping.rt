@@ -4,6 +4,7 @@ ghost use Rattle.std.specs.Prelude.{◌≡◌, IfOk};
 ghost use Rattle.std.specs.Str.{chars};
 ghost use Rattle.std.specs.String.{string_bytes};
 ghost use Rattle.tcl_chars.specs.Answers.{Answers};
+ghost use Rattle.tcl_pages.specs.Dictionaries.{pairs};
 ghost use Rattle.tcl_pages.specs.Strings as spec;
 ghost use Rattle.tcl_values.specs.Kept.{texts};
 
@@ -16,7 +17,7 @@ use tcl_values::{Element, Value};
 
 /// The text with values in place of keys, from the left; what was written isn't read again.
 fn mapped(alloc: Global, items: &[Element], text: &str) -> Result<String, AllocError>
-    ensures { IfOk result (λ s. chars (string_bytes s) ≡ spec.mapped (spec.pairs (texts items.now)) 0 (chars text.now)) }
+    ensures { IfOk result (λ s. chars (string_bytes s) ≡ spec.mapped (pairs (texts items.now)) 0 (chars text.now)) }
 {
     let groups = grouped(alloc, items)?;
     let mut said = room(alloc, text.len())?;

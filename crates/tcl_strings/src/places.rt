@@ -11,9 +11,9 @@ use crate::ascii::{character_at, characters_between};
 use std::alloc::{AllocError, Global};
 use std::rc::RcStr;
 use tcl_arguments::{
-    behind, clamped, index_of, one_text, text_at, three_or_four_texts, three_texts, two_texts,
+    behind, index_of, one_text, text_at, three_or_four_texts, three_texts, two_texts,
 };
-use tcl_chars::{Dialect, Fault, before, push_text, split_first};
+use tcl_chars::{Dialect, Fault, before, clamp, push_text, split_first};
 use tcl_values::Value;
 
 /// How many characters the text has.
@@ -23,7 +23,7 @@ pub(crate) fn count(text: &str) -> usize
     text.chars().count()
 }
 
-/// An empty text with room for so many bytes.
+/// An empty text with room for `size` bytes.
 #[tactic(auto, using(crate::proofs::Empty::no_chars))]
 pub(crate) fn room(alloc: Global, size: usize) -> Result<String, AllocError>
     ensures { IfOk result (λ s. chars (string_bytes s) ≡ []) }
@@ -31,7 +31,7 @@ pub(crate) fn room(alloc: Global, size: usize) -> Result<String, AllocError>
     String::with_capacity(alloc, size)
 }
 
-/// The text without its first characters, so many, or without all of them where there are fewer.
+/// The text without its first `count` characters, or without all of them where there are fewer.
 pub(crate) fn rest(text: &str, count: usize) -> &str
     ensures { chars result.now ≡ drop count (chars text.now) }
 {
@@ -47,7 +47,7 @@ pub(crate) fn rest(text: &str, count: usize) -> &str
     rest
 }
 
-/// The first characters of the text, so many, or all of them where there are fewer.
+/// The first `count` characters of the text, or all of them where there are fewer.
 pub(crate) fn front(text: &str, count: usize) -> &str
     ensures { chars result.now ≡ take count (chars text.now) }
 {
@@ -69,24 +69,32 @@ fn at_place(text: &str, place: i128, count: usize) -> &str
     front(rest(text, place as usize), 1)
 }
 
-/// The text with `new` in place of the characters from `first` on, in front of `behind`.
+/// Is first above last or past the end, or last below 0?
+fn replaces_nothing(count: usize, first: i128, last: i128) -> bool
+    ensures { result ≡ spec.replaces_nothing count first last }
+{
+    last < first || first >= i128::from(count as u64) || last < 0
+}
+
+/// The text with `new` in place of the characters from the first place to the last one.
 fn replaced(
     alloc: Global,
     text: &str,
-    first: usize,
-    behind: usize,
+    first: i128,
+    last: i128,
     new: &str,
+    count: usize,
 ) -> Result<String, AllocError>
-    ensures { IfOk result (λ s. chars (string_bytes s)
-        ≡ spec.replaced_text (chars text.now) first behind (chars new.now)) }
+    requires { count ≡ length (chars text.now) }
+    ensures { IfOk result (λ s. chars (string_bytes s) ≡ spec.replaced_text (chars text.now) first last (chars new.now)) }
 {
-    if first >= behind {
+    if replaces_nothing(count, first, last) {
         return String::from_str(alloc, text);
     }
     let mut changed = room(alloc, text.len())?;
-    push_text(&mut changed, front(text, first))?;
+    push_text(&mut changed, front(text, clamp(first, count)))?;
     push_text(&mut changed, new)?;
-    push_text(&mut changed, rest(text, behind))?;
+    push_text(&mut changed, rest(text, behind(last, count)))?;
     Ok(changed)
 }
 
@@ -172,7 +180,7 @@ pub fn string_range(alloc: Global, words: &mut [Value], dialect: Dialect) -> Res
             let count = text.len();
             let first = index_of(alloc, first.as_str(), count, dialect)?;
             let last = index_of(alloc, last.as_str(), count, dialect)?;
-            let part = characters_between(text, clamped(first, count), behind(last, count));
+            let part = characters_between(text, clamp(first, count), behind(last, count));
             return Ok(value_of(alloc, part)?);
         }
     }
@@ -182,7 +190,7 @@ pub fn string_range(alloc: Global, words: &mut [Value], dialect: Dialect) -> Res
     let last = index_of(alloc, last.as_str(), count, dialect)?;
     let part = rest(
         front(text.as_str(), behind(last, count)),
-        clamped(first, count),
+        clamp(first, count),
     );
     Ok(value_of(alloc, part)?)
 }
@@ -216,12 +224,6 @@ pub fn string_replace(alloc: Global, words: &mut [Value], dialect: Dialect) -> R
     let count = count(text.as_str());
     let first = index_of(alloc, first.as_str(), count, dialect)?;
     let last = index_of(alloc, last.as_str(), count, dialect)?;
-    let changed = replaced(
-        alloc,
-        text.as_str(),
-        clamped(first, count),
-        behind(last, count),
-        or_empty(&new),
-    )?;
+    let changed = replaced(alloc, text.as_str(), first, last, or_empty(&new), count)?;
     Ok(Value::of_string(alloc, changed)?)
 }

@@ -4,6 +4,7 @@ ghost use Rattle.std.specs.Prelude.{◌≡◌, true, false, length, drop, option
 ghost use Rattle.std.specs.Str.{chars};
 ghost use Rattle.tcl_chars.specs.Answers.{Answers};
 ghost use Rattle.tcl_chars.specs.Texts.{text_of};
+ghost use Rattle.tcl_chars.specs.Truth.{is_beginning};
 ghost use Rattle.tcl_pages.specs.Strings as spec;
 
 use crate::ascii::{first_in_bytes, last_in_bytes};
@@ -29,8 +30,8 @@ fn order_text(order: Ordering) -> &'static str
 
 /// What the text has left behind a front, if it begins with it.
 pub(crate) fn behind_front<'a>(front: &str, text: &'a str) -> Option<&'a str>
-    ensures begins { MatchOption result (spec.begins_with (chars front.now) (chars text.now) ≡ false)
-        (λ rest. spec.begins_with (chars front.now) (chars text.now) ≡ true) }
+    ensures begins { MatchOption result (is_beginning (chars front.now) (chars text.now) ≡ false)
+        (λ rest. is_beginning (chars front.now) (chars text.now) ≡ true) }
     ensures rest { IfSome result (λ rest. chars rest.now ≡ drop (length (chars front.now)) (chars text.now)) }
 {
     let mut wanted = front;
@@ -61,7 +62,7 @@ fn ends_by(size: usize, end: i128, place: usize) -> bool
     i128::from(place as u64) + i128::from(size as u64) - 1 <= end
 }
 
-/// The first place, not before the start, where the needle stands in a text of so many characters.
+/// The first place, not before the start, where the needle stands in a text of `count` characters.
 fn first_place(needle: &str, text: &str, count: usize, start: i128) -> Option<usize>
     requires { count ≡ length (chars text.now) }
     ensures { result ≡ spec.first_from start (spec.found_at (chars needle.now) (chars text.now)) }
@@ -79,7 +80,7 @@ fn first_place(needle: &str, text: &str, count: usize, start: i128) -> Option<us
     None
 }
 
-/// The last place where the needle stands in a text of so many characters, and ends at the end at the latest.
+/// The last place where the needle stands in a text of `text_size` characters, and ends at `end` at the latest.
 fn last_place(needle: &str, text: &str, text_size: usize, end: i128) -> Option<usize>
     requires { text_size ≡ length (chars text.now) }
     ensures { result ≡ spec.last_until (length (chars needle.now)) end None (spec.found_at (chars needle.now) (chars text.now)) }
@@ -109,7 +110,7 @@ fn place_value(alloc: Global, place: Option<usize>) -> Result<Value, AllocError>
     }
 }
 
-/// Where a search begins among so many characters: at the first one where no index is given.
+/// Where a search begins among `count` characters: at the first one where no index is given.
 fn start_of(
     alloc: Global,
     index: &Option<RcStr>,
@@ -124,7 +125,7 @@ fn start_of(
     }
 }
 
-/// What is found ends there at the latest, among so many characters: at the last one where no index is given.
+/// Where, among `count` characters, what is found must end at the latest: at the last one where no index is given.
 fn end_of(
     alloc: Global,
     index: &Option<RcStr>,

@@ -11,7 +11,7 @@ use tcl_names::HashedNames;
 use tcl_pages::{ListPage, PurePage, StringPage, UpdatePage};
 
 // The built-in commands by their names.
-const BUILT_INS: [(&str, BuiltIn); 50] = [
+const BUILT_INS: [(&str, BuiltIn); 52] = [
     ("string", BuiltIn::Ensemble(Ensemble::String)),
     ("info", BuiltIn::Ensemble(Ensemble::Info)),
     ("dict", BuiltIn::Ensemble(Ensemble::Dict)),
@@ -80,6 +80,8 @@ const BUILT_INS: [(&str, BuiltIn); 50] = [
     ("read", BuiltIn::Page(Page::Read)),
     ("gets", BuiltIn::Page(Page::Gets)),
     ("puts", BuiltIn::Page(Page::Puts)),
+    ("try", BuiltIn::Page(Page::Try)),
+    ("throw", BuiltIn::Page(Page::Throw)),
     ("exit", BuiltIn::Page(Page::Exit)),
     ("return", BuiltIn::Page(Page::Return)),
     ("error", BuiltIn::Page(Page::Error)),

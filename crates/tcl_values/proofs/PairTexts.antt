@@ -7,9 +7,10 @@ use Rattle.tcl_chars.proofs.Same.{text_is}
 use Rattle.tcl_chars.specs.Texts.{same_text}
 use Rattle.tcl_list.specs.Elements.{elements_of}
 use Rattle.tcl_pages.specs.Answers.{Answer, ◌>>=◌}
-use Rattle.tcl_pages.specs.Dictionaries.{Pairs, put_key, put_keys, with_pair, in_pairs, pairs_of}
+use Rattle.tcl_pages.specs.Dictionaries.{Pairs, put_key, put_keys, in_pairs, pairs_of}
 use Rattle.tcl_pages.specs.DictPages.{flat, dictionary, without_key}
 use Rattle.tcl_pages.proofs.Glob.{same_truth}
+use Rattle.tcl_pages.proofs.InPairs.{with_pair, pair_ahead}
 use Rattle.tcl_pages.specs.Texts.{Text}
 use Rattle.tcl_values.specs.Kept.{Kept, texts}
 use Rattle.tcl_values.specs.Paired.{has_key, AreDistinct, read_pairs}
@@ -85,7 +86,7 @@ puts_back qs (p ∷ ps) d =
 
 in_flat : (ps : Pairs) → in_pairs (flat ps) ≡ Ok ps
 in_flat [] = refl
-in_flat (p ∷ ps) = ap (with_pair p.0 p.1) (in_flat ps)
+in_flat (p ∷ ps) = pair_ahead _ p.0 p.1 (flat ps) ∙ ap (with_pair p.0 p.1) (in_flat ps)
 
 reads_pairs : (ps : Pairs) → AreDistinct ps → pairs_of (dictionary ps) ≡ Ok ps
 unfolding pairs_of
@@ -132,5 +133,5 @@ two_in ps k v (Err t) = refl
 pub read_two : (ps new : Pairs) (rest behind after : List Kept) (k v : Kept) (kt vt : Text) → rest ≡ k ∷ behind → behind ≡ v ∷ after → kt ≡ k.text → vt ≡ v.text → new ≡ put_key ps kt vt → read_pairs new (texts after) ≡ read_pairs ps (texts rest)
 read_two ps new rest behind after k v kt vt r b ke ve n =
     ap (λ qs. read_pairs qs (texts after)) (n ∙ (λ i. put_key ps (ke i) (ve i)))
-    ∙ two_in ps k.text v.text (in_pairs (texts after))
+    ∙ two_in ps k.text v.text (in_pairs (texts after)) ∙ ap (λ r. r >>= λ qs. Ok (put_keys ps qs)) (sym (pair_ahead _ k.text v.text (texts after)))
     ∙ sym (ap (λ es. read_pairs ps (texts es)) (r ∙ ap (λ es. k ∷ es) b))

@@ -22,7 +22,7 @@ pushed t x = elements_of t >>= λ es. Ok (written (es ++ x ∷ []))
 abbrev pub lengthened : List ℕ → List (List ℕ) → Result (List ℕ) (List ℕ)
 lengthened t xs = elements_of t >>= λ es. Ok (written (es ++ xs))
 
--- the text of a list of so many elements, from a place on: lrange(n)
+-- the text of a list of n elements, those from place i on, or of fewer where there aren't as many: lrange(n)
 abbrev pub part_of : List ℕ → ℕ → ℕ → Result (List ℕ) (List ℕ)
 part_of t i n = elements_of t >>= λ es. Ok (written (take n (drop i es)))
 

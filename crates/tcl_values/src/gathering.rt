@@ -81,7 +81,7 @@ fn add_values(
     Ok(deepest)
 }
 
-/// Adds copies of elements so many times.
+/// Adds copies of the elements `more`, `count` times over.
 fn add_times(items: &mut Vec<Element>, more: &[Element], count: u64) -> Result<(), AllocError>
     ensures texts { OnOk result (texts items.new.items ≡ texts items.old.items ++ times count (texts more.now)) }
     ensures depth { OnOk result (depth_over items.new.items ≤ max (depth_over items.old.items) (depth_over more.now)) }
@@ -105,7 +105,7 @@ fn depth_within(elements: &[Element], most: u8) -> u8
 }
 
 impl Gathering {
-    /// None yet, with room for so many.
+    /// None yet, with room for `count` elements.
     pub fn with_capacity(alloc: Global, count: usize) -> Result<Gathering, AllocError>
         ensures { IfOk result (λ g. g ≡ []) }
     {
@@ -115,7 +115,8 @@ impl Gathering {
         })
     }
 
-    /// Behind them those of a row from the place `first` on, in front of `last`. What is kept of them is shared.
+    /// The elements, and behind them those of a row from the place `first` on, up to `last` and without it. What is kept of them is
+    /// shared.
     pub fn with_part(self, row: &Row, first: usize, last: usize) -> Result<Gathering, AllocError>
         ensures { IfOk result (λ g. g ≡ self ++ drop first (take last row.now)) }
     {
@@ -127,7 +128,7 @@ impl Gathering {
         })
     }
 
-    /// Behind them values.
+    /// The elements, and behind them the values.
     pub fn with_values(self, alloc: Global, values: &[Value]) -> Result<Gathering, AllocError>
         ensures { IfOk result (λ g. g ≡ self ++ values.now) }
     {
@@ -136,7 +137,7 @@ impl Gathering {
         Ok(Gathering { depth, items })
     }
 
-    /// They the other way round.
+    /// The elements in reverse order.
     pub fn reversed(self) -> Gathering
         ensures { result ≡ reverse self }
     {
@@ -146,7 +147,7 @@ impl Gathering {
         Gathering { depth, items }
     }
 
-    /// They so many times.
+    /// The elements, repeated `count` times.
     pub fn repeated(self, alloc: Global, count: u64) -> Result<Gathering, AllocError>
         ensures { IfOk result (λ g. g ≡ times count self) }
     {

@@ -233,7 +233,7 @@ pub(crate) fn gathered(alloc: Global, items: Vec<Element>) -> Result<Rc<Items>, 
     Ok(Rc::new(alloc, row)?)
 }
 
-/// Copies of some elements of a list: of those from a place on, so many.
+/// Copies of `count` elements of a list, from the place `first` on.
 pub(crate) fn part(
     alloc: Global,
     row: &Items,
@@ -304,7 +304,7 @@ pub(crate) fn take_element(row: &mut Rc<Items>, index: usize) -> Result<Element,
     }
 }
 
-/// Puts so many elements behind the first ones at the end.
+/// Moves the `count` elements that stand behind the first `first` ones to the end.
 fn rotate_tail(elements: &mut Vec<Element>, first: usize, count: usize)
     requires { first + count ≤ length elements.old.items }
     ensures { elements.new.items ≡ rotated first count elements.old.items }
@@ -312,7 +312,7 @@ fn rotate_tail(elements: &mut Vec<Element>, first: usize, count: usize)
     elements[first..].rotate_left(count);
 }
 
-/// Puts elements in the place of so many others behind the first ones.
+/// Puts elements in the place of the `count` that stand behind the first `first` ones.
 fn splice_elements(
     elements: &mut Vec<Element>,
     first: usize,
@@ -335,7 +335,8 @@ fn splice_elements(
     Ok(())
 }
 
-/// Puts elements in the place of so many others of a list behind the first ones, in place where nobody else holds the list.
+/// Puts elements in the place of the `count` elements of a list that stand behind the first `first` ones, in place where nobody else
+/// holds the list.
 pub(crate) fn splice(
     row: &mut Rc<Items>,
     first: usize,
@@ -354,7 +355,7 @@ pub(crate) fn splice(
     splice_own(own, first, count, inserted)
 }
 
-/// How deep a list is in which new elements stand in the place of so many others: it was `whole` deep, and a list of the new ones
+/// How deep a list is in which new elements stand in the place of `gone` others: it was `whole` deep, and a list of the new ones
 /// is `new` deep. Where they only came to the others, no element is looked at.
 fn depth_with(elements: &[Element], whole: u8, new: u8, gone: usize) -> u8
     requires added { gone ≡ 0 → depth_over elements.now ≡ max whole new }
@@ -367,7 +368,7 @@ fn depth_with(elements: &[Element], whole: u8, new: u8, gone: usize) -> u8
     deepest(elements)
 }
 
-/// Puts elements in the place of so many others of a list behind the first ones.
+/// Puts elements in the place of the `count` elements of a list that stand behind the first `first` ones.
 fn splice_own(
     own: &mut Items,
     first: usize,

@@ -204,6 +204,20 @@ impl Value {
         })
     }
 
+    /// The value of a text that is the decimal text of a number, which it says in every dialect.
+    pub fn of_decimal(text: &str) -> Option<Value>
+        ensures { IfSome result (λ v. v ≡ chars text.now) }
+    {
+        match text.parse::<i64>() {
+            Ok(n) => if is_decimal(n, text) {
+                Some(Value::of_int(n))
+            } else {
+                None
+            },
+            Err(_) => None,
+        }
+    }
+
     /// The value that is a number's decimal text.
     pub fn of_int(n: i64) -> Value
         ensures { result ≡ signed_decimal n }

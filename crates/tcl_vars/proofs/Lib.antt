@@ -1,8 +1,9 @@
-pub mod VariableLemmas
-pub mod Endings
-pub mod PutLemmas
-pub mod SetLemmas
-pub mod UpdateLemmas
-pub mod UnsetLemmas
 pub mod AssignLemmas
-pub mod FrameCounts
+pub mod ElementLemmas
+pub mod JoinLemmas
+pub mod PutLemmas
+pub mod ReplaceLemmas
+pub mod SetLemmas
+pub mod UnsetLemmas
+pub mod UpdateLemmas
+pub mod WayLemmas

@@ -9,11 +9,11 @@ use Rattle.tcl_meaning.specs.Value.{Has, Fails}
 use Rattle.tcl_meaning.specs.Variables.{read, set}
 use Rattle.tcl_meaning.specs.VariablePages.{set_page}
 use Rattle.tcl_frames.specs.Standing.{Standing}
-use Rattle.tcl_vars.proofs.Endings.{has_on, fails_on}
-use Rattle.tcl_vars.specs.Comes.{Comes}
-use Rattle.tcl_vars.specs.Ends.{Ends, EndsDone}
-use Rattle.tcl_vars.specs.declared.stop.Stop.{Stop}
-use Rattle.tcl_vars.specs.declared.stop.Stop.TheVariants as stop
+use Rattle.tcl_steps.proofs.Endings.{has_on, fails_on}
+use Rattle.tcl_steps.specs.Comes.{Comes}
+use Rattle.tcl_steps.specs.Ends.{Ends, EndsDone}
+use Rattle.tcl_steps.specs.declared.stop.Stop.{Stop}
+use Rattle.tcl_steps.specs.declared.stop.Stop.TheVariants as stop
 
 pub set_reads : (ws : List Text) (f : Standing) (name t : Text) → length ws ≡ 1 → name ≡ get_or ws 0 [] → Comes (read name) f (Has t) f → Comes (set_page ws) f (Has (Done (normal t))) f
 unfolding set_page

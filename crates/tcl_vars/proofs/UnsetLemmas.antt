@@ -1,5 +1,5 @@
 -- unset(n): the names from left to right.
-use Rattle.std.proofs.Common.{◌≡◌, ◌≢◌, ℕ, zero, suc, ◌+◌, ◌≤◌, ◌<◌, Bool, true, false, List, [], ◌∷◌, length, drop, get_or, Result, Ok, Err, OnOk, OnErr, refl, sym, ap, subst, ◌∙◌, arith}
+use Rattle.std.proofs.Common.{◌≡◌, ◌≢◌, ℕ, ◌+◌, ◌≤◌, ◌<◌, Bool, true, false, List, [], ◌∷◌, length, drop, get_or, Result, Ok, Err, OnOk, OnErr, refl, sym, ap, subst, ◌∙◌, arith}
 use Rattle.std.specs.Prelude.{IfErr, if◌then◌else◌}
 use Rattle.tcl_chars.specs.Texts.{literal, same_text}
 use Rattle.tcl_pages.specs.Texts.{Text}
@@ -13,26 +13,13 @@ use Rattle.tcl_meaning.specs.Value.{Value, Has, Fails}
 use Rattle.tcl_meaning.specs.Variables.{remove_change, unset}
 use Rattle.tcl_meaning.specs.VariablePages.{unset_all, unset_if, make_if, behind_dashes, unset_page}
 use Rattle.tcl_frames.specs.Standing.{Standing, store_of, applied}
-use Rattle.tcl_vars.proofs.Endings.{has_on, fails_on, then_becomes}
-use Rattle.tcl_vars.specs.Comes.{Becomes, Comes, state_of}
-use Rattle.tcl_vars.specs.Ends.{Ends, EndsDone}
+use Rattle.tcl_steps.proofs.Endings.{has_on, fails_on, then_becomes}
+use Rattle.tcl_steps.proofs.WordLemmas.{word_and_rest, none_left}
+use Rattle.tcl_steps.specs.Comes.{Becomes, Comes, state_of}
+use Rattle.tcl_steps.specs.Ends.{Ends, EndsDone}
 use Rattle.tcl_vars.specs.Unsetting.{unset_quietly}
-use Rattle.tcl_vars.specs.declared.stop.Stop.{Stop}
-use Rattle.tcl_vars.specs.declared.stop.Stop.TheVariants as stop
-
--- the words from a place on: one, and the rest
-pub word_and_rest : (ws : List Text) (n : ℕ) → n < length ws → drop n ws ≡ get_or ws n [] ∷ drop (n + 1) ws
-word_and_rest [] n h = absurd (omega arith)
-word_and_rest (w ∷ ws) zero h = refl
-word_and_rest (w ∷ ws) (suc n) h =
-    let e : suc n + 1 ≡ suc (n + 1) = omega arith in
-    word_and_rest ws n (omega arith) ∙ ap (λ (k : ℕ). get_or ws n [] ∷ drop k (w ∷ ws)) (sym e)
-
-pub none_left : (ws : List Text) (n : ℕ) → length ws ≤ n → drop n ws ≡ []
-none_left [] zero h = refl
-none_left [] (suc n) h = refl
-none_left (w ∷ ws) zero h = absurd (omega arith)
-none_left (w ∷ ws) (suc n) h = none_left ws n (omega arith)
+use Rattle.tcl_steps.specs.declared.stop.Stop.{Stop}
+use Rattle.tcl_steps.specs.declared.stop.Stop.TheVariants as stop
 
 module _ (ws : List Text) (n : ℕ) (name : Text) (p : Asks) (before f g : Standing) (there : n < length ws) (is : name ≡ get_or ws n []) where
   here : drop n ws ≡ name ∷ drop (n + 1) ws

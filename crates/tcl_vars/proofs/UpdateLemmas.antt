@@ -21,13 +21,13 @@ use Rattle.tcl_meaning.specs.Value.{Value, Has, Fails, ◌>>=◌, judged}
 use Rattle.tcl_meaning.specs.Variables.{get, set}
 use Rattle.tcl_meaning.specs.VariablePages.{old_text, update_page}
 use Rattle.tcl_frames.specs.Standing.{Standing, store_of, with_put}
-use Rattle.tcl_vars.proofs.Endings.{has_on, fails_on}
+use Rattle.tcl_steps.proofs.Endings.{has_on, fails_on}
 use Rattle.tcl_vars.proofs.PutLemmas.{put_again, put_gives}
-use Rattle.tcl_vars.specs.Comes.{Becomes, Comes, state_of}
-use Rattle.tcl_vars.specs.Ends.{Ends, EndsDone, Gives, stop_of}
+use Rattle.tcl_steps.specs.Comes.{Becomes, Comes, state_of}
+use Rattle.tcl_steps.specs.Ends.{Ends, EndsDone, Gives, stop_of}
 use Rattle.tcl_vars.specs.Updating.{AddsOne, Fits, usage_of, IsTaken, becomes, from_old, on_variable}
-use Rattle.tcl_vars.specs.declared.stop.Stop.{Stop}
-use Rattle.tcl_vars.specs.declared.stop.Stop.TheVariants as stop
+use Rattle.tcl_steps.specs.declared.stop.Stop.{Stop}
+use Rattle.tcl_steps.specs.declared.stop.Stop.TheVariants as stop
 
 -- ---- the words
 

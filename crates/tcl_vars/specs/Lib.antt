@@ -1,4 +1,3 @@
-pub mod Comes
-pub mod Ends
 pub mod Unsetting
 pub mod Updating
+pub mod Way

@@ -18,7 +18,7 @@ use Rattle.tcl_vars.specs.declared.first.First.TheVariants as first
 
 -- ---- the words
 
--- a command takes so many words
+-- a command takes n words
 abbrev pub Fits : UpdatePage → ℕ → Type 0
 Fits page.Append n = 1 ≤ n
 Fits page.Incr n = (1 ≤ n) × (n ≤ 2)
@@ -30,7 +30,7 @@ Fits page.DictLappend n = 2 ≤ n
 Fits page.DictSet n = 3 ≤ n
 Fits page.DictUnset n = 2 ≤ n
 
--- among so many words no increment is: it is 1
+-- there is no increment among n words: it is 1
 abbrev pub AddsOne : UpdatePage → ℕ → Type 0
 AddsOne page.Incr n = n ≡ 1
 AddsOne page.DictIncr n = n ≡ 2
@@ -47,7 +47,7 @@ usage_of page.DictLappend = literal "dict lappend dictVarName key ?value ...?"
 usage_of page.DictSet = literal "dict set dictVarName key ?key ...? value"
 usage_of page.DictUnset = literal "dict unset dictVarName key ?key ...?"
 
--- so many words stand behind the name
+-- n words stand behind the name
 abbrev pub IsTaken : UpdatePage → ℕ → Type 0
 IsTaken page.DictIncr n = n ≡ 2
 IsTaken page.DictSet n = 2 ≤ n

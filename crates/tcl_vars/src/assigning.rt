@@ -1,20 +1,17 @@
 //! Variables that get texts, from left to right: lassign(n), catch(n).
 ghost use Rattle.std.specs.Prelude.{◌≡◌, ℕ, ◌<◌, ◌≤◌, List, [], drop, length, get_or, IfOk};
-ghost use Rattle.tcl_chars.specs.Answers.{Answers};
-ghost use Rattle.tcl_list.specs.Elements.{elements_of};
 ghost use Rattle.tcl_meaning.specs.Variables.{set_all};
 ghost use Rattle.tcl_meaning.specs.VariablePages.{lassign_page};
 ghost use Rattle.tcl_pages.specs.Lists.{rest_behind};
 ghost use Rattle.tcl_pages.specs.Texts.{Text};
-ghost use Rattle.tcl_vars.specs.Ends.{Does, Ends, EndsDone};
+ghost use Rattle.tcl_steps.specs.Ends.{Does, Ends, EndsDone};
 
-use crate::stop::{Stop, closed, stop_by};
-use crate::variables::assign;
+use crate::words::list_at;
 use std::alloc::{AllocError, Global};
 use tcl_arguments::text_at;
-use tcl_chars::{Fault, message};
+use tcl_chars::message;
 use tcl_frames::Frames;
-use tcl_steps::Completion;
+use tcl_steps::{Completion, Stop, assign, closed, stop_by};
 use tcl_values::Value;
 
 // The value at a place, or the empty text.
@@ -42,15 +39,6 @@ pub(crate) fn assign_all(
         assign(alloc, frames, name.as_str(), value)?;
     }
     Ok(())
-}
-
-// The elements of the word at a place.
-fn list_at(alloc: Global, words: &mut [Value], place: usize) -> Result<Vec<Value>, Fault>
-    requires { place < length words.old }
-    ensures list { Answers (λ v. v.items) result (elements_of (get_or words.old place [])) }
-    ensures same { words.new ≡ words.old }
-{
-    words[place].list(alloc)
 }
 
 // How many words stand behind the first one.

@@ -2,13 +2,12 @@
 ghost use Rattle.std.specs.Prelude.{◌≡◌, ◌<◌, ◌∷◌, [], ℕ, length, get_or, IfOk};
 ghost use Rattle.tcl_meaning.specs.CodePages.{after_catch};
 ghost use Rattle.tcl_meaning.specs.Completions.{options_text};
-ghost use Rattle.tcl_vars.specs.Ends.{Does, EndsDone};
+ghost use Rattle.tcl_steps.specs.Ends.{Does, EndsDone};
 
 use crate::assigning::assign_all;
-use crate::stop::{Stop, closed};
 use std::alloc::{AllocError, Global};
 use tcl_frames::Frames;
-use tcl_steps::{Completion, code_value};
+use tcl_steps::{Completion, Stop, closed, code_value};
 use tcl_values::Value;
 
 // What the variables get: the result, and the options where a second name asks for them.

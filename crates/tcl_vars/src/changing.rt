@@ -4,11 +4,14 @@ ghost use Rattle.tcl_pages.specs.Updates.{increased, updated};
 ghost use Rattle.tcl_values.specs.Lists.{Leaves};
 ghost use Rattle.tcl_vars.specs.Updating.{IsTaken};
 
+use crate::elements::lappend;
+use crate::number::incr;
+use crate::replacing::lset;
+use crate::text::append;
 use std::alloc::Global;
 use tcl_chars::{Dialect, Fault};
 use tcl_dicts::{dict_append, dict_incr, dict_lappend, dict_set, dict_unset};
 use tcl_pages::UpdatePage;
-use tcl_updates::{append, incr, lappend, lset};
 use tcl_values::Value;
 
 // incr(n): the first word is the increment.

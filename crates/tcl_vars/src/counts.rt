@@ -8,7 +8,7 @@ use std::alloc::{AllocError, Global};
 use tcl_pages::UpdatePage;
 use tcl_values::Value;
 
-/// Does a command take so many words?
+/// Does a command take `count` words?
 pub(crate) fn fits(page: UpdatePage, count: usize) -> bool
     ensures yes { result ≡ true → Fits page count }
     ensures no { result ≡ false → Fits page count → ⊥ }
@@ -22,7 +22,7 @@ pub(crate) fn fits(page: UpdatePage, count: usize) -> bool
     }
 }
 
-/// Is no increment among so many words?
+/// Is no increment among the words, if there are `count` of them?
 pub(crate) fn adds_one(page: UpdatePage, count: usize) -> bool
     ensures yes { result ≡ true → AddsOne page count }
     ensures no { result ≡ false → AddsOne page count → ⊥ }

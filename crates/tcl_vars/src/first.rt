@@ -3,15 +3,14 @@ ghost use Rattle.std.specs.Prelude.{◌≡◌, Err};
 ghost use Rattle.std.specs.Str.{chars};
 ghost use Rattle.tcl_meaning.specs.VariablePages.{old_text};
 ghost use Rattle.tcl_pages.specs.Updates.{old_of, begins, must_be_there};
-ghost use Rattle.tcl_vars.specs.Ends.{Gives};
+ghost use Rattle.tcl_steps.specs.Ends.{Gives};
 ghost use Rattle.tcl_vars.specs.Updating.{seen_first};
 
-use crate::stop::Stop;
 use std::alloc::Global;
 use tcl_chars::message;
 use tcl_meaning::Refusal;
 use tcl_pages::UpdatePage;
-use tcl_steps::Completion;
+use tcl_steps::{Completion, Stop};
 use tcl_values::Value;
 
 /// From which text a variable's new one is made.

@@ -2,14 +2,12 @@
 ghost use Rattle.std.specs.Prelude.{◌≡◌, OnErr};
 ghost use Rattle.tcl_meaning.specs.Tasks.{Done};
 ghost use Rattle.tcl_meaning.specs.VariablePages.{set_page};
-ghost use Rattle.tcl_vars.specs.Ends.{Does, EndsDone};
+ghost use Rattle.tcl_steps.specs.Ends.{Does, EndsDone};
 
-use crate::stop::{Stop, closed};
-use crate::variables::{assign, read};
 use std::alloc::{AllocError, Global};
 use tcl_arguments::text_at;
 use tcl_frames::Frames;
-use tcl_steps::Completion;
+use tcl_steps::{Completion, Stop, assign, closed, read};
 use tcl_values::Value;
 
 /// `set varName ?newValue?`: reads a variable, or gives it a text.

@@ -4,17 +4,15 @@ ghost use Rattle.std.specs.Str.{chars};
 ghost use Rattle.tcl_chars.specs.Texts.{same_text};
 ghost use Rattle.tcl_meaning.specs.Value.{Has};
 ghost use Rattle.tcl_meaning.specs.VariablePages.{behind_dashes, unset_all, unset_if, unset_page};
-ghost use Rattle.tcl_vars.specs.Comes.{Comes};
-ghost use Rattle.tcl_vars.specs.Ends.{Does, EndsDone};
+ghost use Rattle.tcl_steps.specs.Comes.{Comes};
+ghost use Rattle.tcl_steps.specs.Ends.{Does, EndsDone};
 ghost use Rattle.tcl_vars.specs.Unsetting.{unset_quietly};
 
-use crate::stop::{Stop, closed};
-use crate::variables::remove;
 use std::alloc::{AllocError, Global};
 use tcl_arguments::text_at;
 use tcl_chars::is_text;
 use tcl_frames::Frames;
-use tcl_steps::Completion;
+use tcl_steps::{Completion, Stop, closed, remove};
 use tcl_values::Value;
 
 // Does the word at a place say this?

@@ -25,29 +25,28 @@ use Rattle.tcl_code.specs.Means.{EndsAs, Means, MeansExpr}
 use Rattle.tcl_code.specs.Valid.{Valid, bare}
 use Rattle.tcl_vm.specs.Fitting.{answered, FitsHere, FitsThen, AllFit}
 use Rattle.tcl_vm.specs.Standing.{Running, Undone, Nothing, undone_of, undo, Waiting, Machine, Comes, Returns, Lands, IsLost, left_of_page, paid_back}
-use Rattle.tcl_vm.specs.Turns.{Next, Asking, Ending, Config, Stands, StandsBy, all_owed, all_left, left, On, Begun, Used, Turned, Over, Paused, Exited, BrokenOff}
+use Rattle.tcl_vm.specs.Turns.{Next, Asking, Ending, Config, Stands, StandsBy, all_owed, all_paid, all_left, left, On, Begun, Used, Turned, Over, Paused, Exited, BrokenOff}
 use Rattle.tcl_vm.proofs.Forward.{outputs_same}
 use Rattle.tcl_vm.proofs.Returning.{value_of, done_goes, done_ends, owed_lands, run_is, run_returns, evaluate_returns, too_deep_ends, pay_is, lands_as, lands_broke, stepped, exited, broken}
-use Rattle.tcl_vm.proofs.Turning.{config, stands_on, agrees_on, part_on, is_same, all_weaker}
+use Rattle.tcl_vm.proofs.Turning.{config, stands_on, agrees_on, part_on, is_same}
 
 -- ---- those that wait
 
-all_push : (ws : List Waiting) (w : Waiting) (p k : ℕ) → AllFit ws k → FitsThen w.caller p → AllFit (ws ++ w ∷ []) (p + k)
-all_push [] w p k h f = (p, k, f, tt, omega arith)
-all_push (v ∷ ws) w p k h f = (h.0, p + h.1, h.2, all_push ws w p h.1 h.3 f, let z = h.4 in omega arith)
+all_push : (ws : List Waiting) (w : Waiting) → AllFit ws → FitsThen w.caller w.paid → AllFit (ws ++ w ∷ [])
+all_push [] w h f = (f, tt)
+all_push (v ∷ ws) w h f = (h.0, all_push ws w h.1 f)
 
-record PoppedFit (ws : List Waiting) (w : Waiting) (n : ℕ) : Type 0 where
-  pub paid : ℕ
-  pub others : ℕ
-  pub caller : FitsThen w.caller paid
-  pub waiting : AllFit ws others
-  pub within : paid + others ≤ n
+record PoppedFit (ws : List Waiting) (w : Waiting) : Type 0 where
+  pub caller : FitsThen w.caller w.paid
+  pub waiting : AllFit ws
 
-all_pop : (ws : List Waiting) (w : Waiting) (n : ℕ) → AllFit (ws ++ w ∷ []) n → PoppedFit ws w n
-all_pop [] w n h = record { paid = h.0; others = 0; caller = h.2; waiting = tt; within = let z = h.4 in omega arith }
-all_pop (v ∷ ws) w n h =
-    let x = all_pop ws w h.1 h.3 in
-    record { paid = x.paid; others = h.0 + x.others; caller = x.caller; waiting = (h.0, x.others, h.2, x.waiting, omega arith); within = let z = h.4 in let y = x.within in omega arith }
+all_pop : (ws : List Waiting) (w : Waiting) → AllFit (ws ++ w ∷ []) → PoppedFit ws w
+all_pop [] w h = record { caller = h.0; waiting = tt }
+all_pop (v ∷ ws) w h = let x = all_pop ws w h.1 in record { caller = x.caller; waiting = (h.0, x.waiting) }
+
+paid_push : (ws : List Waiting) (w : Waiting) → all_paid (ws ++ w ∷ []) ≡ all_paid ws + w.paid
+paid_push [] w = refl
+paid_push (v ∷ ws) w = let e = paid_push ws w in omega arith
 
 owed_push : (ws : List Waiting) (w : Waiting) → all_owed (ws ++ w ∷ []) ≡ all_owed ws + questions_owed w.owes
 owed_push [] w = refl
@@ -67,8 +66,8 @@ entered_grow (At level) s = outputs_same s.channels
 entered_grow (Within vs) s = outputs_same s.channels
 
 -- a page waits for what was begun
-abbrev pub pushed : Running → Owes → Undone → Machine → Machine
-pushed a o u m = record { current = a; callers = m.callers ++ (record { owes = o; undone = u; caller = m.current }) ∷ [] }
+abbrev pub pushed : Running → Owes → Undone → ℕ → Machine → Machine
+pushed a o u n m = record { current = a; callers = m.callers ++ (record { owes = o; undone = u; caller = m.current; paid = n }) ∷ [] }
 
 -- a frame that is entered and left at once
 pub undo_entered : (scope : Scope) (s : State) → undo (undone_of scope s) (entered scope s) ≡ s
@@ -86,7 +85,7 @@ module _ (dialect : Dialect) where
   pub on_done : (m : Machine) (n : ℕ) (s : State) (c : Completion) → code_now c ≡ how.Ok → Turned dialect On (config (Asking (Done c)) m n s) (config Next (record { current = answered m.current c; callers = m.callers }) n s)
   on_done m n s c k = record {
     stands = stands_on dialect _ _ (outputs_same s.channels) (λ r h. record { either = inl (done_goes dialect m c s r k (lands_as dialect m _ _ r (done_is m.current.spot.depth c s) h)) });
-    fits = λ f. record { by = (f.by.0, f.by.1, f.by.2.then_fits c, f.by.3, f.by.4); room = f.room };
+    fits = λ f. record { by = (f.by.0.then_fits c, f.by.1) };
     less = λ f. (omega arith, omega arith, omega arith);
     onward = record { spends = omega arith; adds = outputs_same s.channels };
   }
@@ -94,7 +93,7 @@ module _ (dialect : Dialect) where
   pub on_failed : (m : Machine) (n : ℕ) (s : State) (c : Completion) → (code_now c ≡ how.Ok → ⊥) → Turned dialect On (config (Asking (Done c)) m n s) (config (Ending c) m n s)
   on_failed m n s c k = record {
     stands = stands_on dialect (config (Asking (Done c)) m n s) (config (Ending c) m n s) (outputs_same s.channels) (λ r h. record { either = inl (done_ends dialect m c s r k (lands_as dialect m _ _ r (done_is m.current.spot.depth c s) h)) });
-    fits = λ f. record { by = all_weaker m.callers f.by.1 n f.by.3 (let z = f.by.4 in omega arith); room = f.room };
+    fits = λ f. record { by = f.by.1 };
     less = λ f. (omega arith, omega arith, omega arith);
     onward = record { spends = omega arith; adds = outputs_same s.channels };
   }
@@ -105,29 +104,31 @@ module _ (dialect : Dialect) where
   comes_by {meant} code d s h le = let x = (h.ends d s (meant d s) le).1 refl in record { steps = x.0; ends = x.1 }
 
   pub on_run : (m : Machine) (n : ℕ) (s : State) (scope : Scope) (t : Text) (o : Owes) (code : List Instruction) → Means dialect code t → m.current.spot.depth < most_depth
-      → Turned dialect Begun (config (Asking (tasks.Run scope t o)) m n s) (config Next (pushed (record { code = code; spot = first_spot (m.current.spot.depth + 1) }) o (undone_of scope s) m) n (entered scope s))
+      → Turned dialect Begun (config (Asking (tasks.Run scope t o)) m n s) (config Next (pushed (record { code = code; spot = first_spot (m.current.spot.depth + 1) }) o (undone_of scope s) n m) 0 (entered scope s))
   on_run m n s scope t o code means lt =
       let d = m.current.spot.depth in
       let u = entered_units scope s in
       let g = entered_grow scope s in
-      let q = owed_push m.callers (record { owes = o; undone = undone_of scope s; caller = m.current }) in
+      let q = owed_push m.callers (record { owes = o; undone = undone_of scope s; caller = m.current; paid = n }) in
+      let z = paid_push m.callers (record { owes = o; undone = undone_of scope s; caller = m.current; paid = n }) in
       record {
-        stands = stands_on dialect (config (Asking (tasks.Run scope t o)) m n s) _ g (λ r h. record { either = inl (record { mid = Run dialect (inside d t) (entered scope s); runs = comes_by code (d + 1) (entered scope s) means (omega arith); returns = run_returns dialect m scope t o s r h }) });
-        fits = λ f. let room = f.room in record { by = (0, f.by.0 + f.by.1, begun_fits code (d + 1) means.valid (omega arith), all_push m.callers _ f.by.0 f.by.1 f.by.3 f.by.2, let z = f.by.4 in omega arith); room = omega arith };
+        stands = stands_on dialect (config (Asking (tasks.Run scope t o)) m n s) _ g (λ r h. record { either = inl (record { mid = Run dialect (inside d t) (entered scope s); runs = comes_by code (d + 1) (entered scope s) means (omega arith); returns = run_returns dialect m scope t o n s r h }) });
+        fits = λ f. record { by = (begun_fits code (d + 1) means.valid (omega arith), all_push m.callers _ f.by.1 f.by.0) };
         less = λ f. (omega arith, omega arith);
         onward = record { spends = omega arith; adds = g };
       }
 
   pub on_evaluate : (m : Machine) (n : ℕ) (s : State) (t : Text) (o : Owes) (code : List Instruction) → MeansExpr dialect code t → m.current.spot.depth ≤ most_depth
-      → Turned dialect Begun (config (Asking (Evaluate t o)) m n s) (config Next (pushed (record { code = code; spot = first_spot m.current.spot.depth }) o Nothing m) n s)
+      → Turned dialect Begun (config (Asking (Evaluate t o)) m n s) (config Next (pushed (record { code = code; spot = first_spot m.current.spot.depth }) o Nothing n m) 0 s)
   on_evaluate m n s t o code means le =
       let d = m.current.spot.depth in
-      let q = owed_push m.callers (record { owes = o; undone = Nothing; caller = m.current }) in
+      let q = owed_push m.callers (record { owes = o; undone = Nothing; caller = m.current; paid = n }) in
+      let z = paid_push m.callers (record { owes = o; undone = Nothing; caller = m.current; paid = n }) in
       let same = exec_bind (Run dialect) (expression dialect d t) (λ v. Give (completed v)) s in
       record {
         stands = stands_on dialect (config (Asking (Evaluate t o)) m n s) _ (outputs_same s.channels)
-            (λ r h. record { either = inl (record { mid = value_of dialect d t s; runs = subst (λ x. Comes dialect (record { code = code; spot = first_spot d }) s x) same (comes_by code d s means le); returns = evaluate_returns dialect m t o s r h }) });
-        fits = λ f. record { by = (0, f.by.0 + f.by.1, begun_fits code d means.valid le, all_push m.callers _ f.by.0 f.by.1 f.by.3 f.by.2, let z = f.by.4 in omega arith); room = f.room };
+            (λ r h. record { either = inl (record { mid = value_of dialect d t s; runs = subst (λ x. Comes dialect (record { code = code; spot = first_spot d }) s x) same (comes_by code d s means le); returns = evaluate_returns dialect m t o n s r h }) });
+        fits = λ f. record { by = (begun_fits code d means.valid le, all_push m.callers _ f.by.1 f.by.0) };
         less = λ f. (omega arith, omega arith);
         onward = record { spends = omega arith; adds = outputs_same s.channels };
       }
@@ -153,14 +154,14 @@ module _ (dialect : Dialect) where
     deep_lands r h =
         let d = m.current.spot.depth in
         lands_as dialect m _ _ r
-        (run_is dialect m scope script o s
-        ∙ ap (paid_back dialect (record { owes = o; undone = undone_of scope s; caller = m.current })) (too_deep_ends dialect (d + 1) nothing script (entered scope s) (omega arith))
+        (run_is dialect m scope script o n s
+        ∙ ap (paid_back dialect (record { owes = o; undone = undone_of scope s; caller = m.current; paid = n })) (too_deep_ends dialect (d + 1) nothing script (entered scope s) (omega arith))
         ∙ ap (λ x. exec (Run dialect) (page_in dialect d (owed dialect o too_deep)) x) (undo_entered scope s)) h
 
     pub on_deep : (v : Value Step) (step : Step) → value_step v ≡ step → Agrees (does (owed dialect o too_deep) s) (Gives v t) → t.units ≡ s.units → questions step ≤ questions_owed o → Turned dialect Begun (config (Asking (tasks.Run scope script o)) m n s) (config (Asking step) m n t)
     on_deep v step q a u k = record {
       stands = page_stands (config (Asking (tasks.Run scope script o)) m n s) m (owed dialect o too_deep) s t g (omega arith) deep_lands n v step q a;
-      fits = λ f. let room = f.room in record { by = f.by; room = omega arith };
+      fits = λ f. record { by = f.by };
       less = λ f. (omega arith, omega arith);
       onward = record { spends = omega arith; adds = g };
     }
@@ -188,7 +189,7 @@ module _ (dialect : Dialect) where
     pub on_paid : (v : Value Step) (step : Step) → value_step v ≡ step → Agrees (does (turned loop) (with_units k s)) (Gives v t) → t.units ≡ k → Turned dialect Used (config (Asking (Pay loop)) m n s) (config (Asking step) m n t)
     on_paid v step q a u = record {
       stands = page_stands (config (Asking (Pay loop)) m n s) m (turned loop) (with_units k s) t g (omega arith) (λ r h. pay_lands m s k loop r e h) n v step q a;
-      fits = λ f. let room = f.room in record { by = f.by; room = omega arith };
+      fits = λ f. record { by = f.by };
       less = λ f. omega arith;
       onward = record { spends = omega arith; adds = g };
     }
@@ -214,11 +215,11 @@ module _ (dialect : Dialect) where
     abbrev back : Machine
     back = record { current = w.caller; callers = ws }
 
-    pub on_back : (v : Value Step) (step : Step) → value_step v ≡ step → Agrees (does (owed dialect w.owes c) (undo w.undone s)) (Gives v t) → t.units ≡ s.units → questions step ≤ questions_owed w.owes → Turned dialect On ending (config (Asking step) back n t)
+    pub on_back : (v : Value Step) (step : Step) → value_step v ≡ step → Agrees (does (owed dialect w.owes c) (undo w.undone s)) (Gives v t) → t.units ≡ s.units → questions step ≤ questions_owed w.owes → Turned dialect On ending (config (Asking step) back w.paid t)
     on_back v step q h u k = record {
-      stands = page_stands ending back (owed dialect w.owes c) (undo w.undone s) t g (omega arith) (λ r x. owed_lands dialect ws w c s r x) n v step q h;
-      fits = λ f. let x = all_pop ws w n f.by in let room = f.room in record { by = (x.paid, x.others, x.caller, x.waiting, x.within); room = omega arith };
-      less = λ f. let p = owed_push ws w in let l = left_push ws w in (omega arith, omega arith, omega arith);
+      stands = page_stands ending back (owed dialect w.owes c) (undo w.undone s) t g (omega arith) (λ r x. owed_lands dialect ws w c s r x) w.paid v step q h;
+      fits = λ f. let x = all_pop ws w f.by in record { by = (x.caller, x.waiting) };
+      less = λ f. let p = owed_push ws w in let l = left_push ws w in let z = paid_push ws w in (omega arith, omega arith, omega arith);
       onward = record { spends = omega arith; adds = g };
     }
 

@@ -21,7 +21,7 @@ use Rattle.tcl_vm.specs.Fitting.{answered}
 use Rattle.tcl_vm.specs.Machines.{waiting_of, waitings, machine_of, Stops}
 use Rattle.tcl_vm.specs.Standing.{Running, Undone, Nothing, Back, Gone, undone_of, undo}
 use Rattle.tcl_vm.specs.Standing as standing
-use Rattle.tcl_vm.specs.Turns.{Turn, Next, Asking, Ending, Config, Onward, Turned, On, Begun, Used, Over, Paused, Exited, BrokenOff}
+use Rattle.tcl_vm.specs.Turns.{Turn, Next, Asking, Ending, Config, Fits, Onward, Later, Turned, On, Begun, Used, Over, Paused, Pauses, Exited, BrokenOff}
 use Rattle.tcl_vm.specs.Unwinding.{CanUndo, SameFrames, Unwinds}
 use Rattle.tcl_vm.proofs.Unwinding.{can_undo, unwinds_back, unwinds_entered, unwinds_stay}
 use Rattle.tcl_vm.specs.declared.engine.Stop.{Stop}
@@ -30,8 +30,10 @@ use Rattle.tcl_steps.specs.declared.step.Step.{Step as Asked}
 use Rattle.tcl_vm.specs.declared.machine.Machine.{Machine}
 use Rattle.tcl_vm.specs.declared.machine.Waiting.{Waiting}
 use Rattle.tcl_vm.proofs.Turning.{config, refused}
-use Rattle.tcl_vm.proofs.Answering.{pushed, on_done, on_run, on_evaluate, on_deep, on_deep_exit, on_deep_broken, on_unpaid, on_paid, on_paid_exit, on_paid_broken, on_end, on_back, on_back_exit, on_back_broken}
+use Rattle.tcl_vm.proofs.Answering.{pushed, on_done, on_failed, on_run, on_evaluate, on_deep, on_deep_exit, on_deep_broken, on_unpaid, on_paid, on_paid_exit, on_paid_broken, on_end, on_back, on_back_exit, on_back_broken}
 use Rattle.tcl_meaning.proofs.Runs.{entered_units, entered_channels}
+use Rattle.tcl_meaning.specs.Beginnings.{more}
+use Rattle.tcl_vm.proofs.Later.{answers_later, onward_later, entered_later, undone_later, undo_later, spent_later}
 
 undo_channels : (u : Undone) (s : State) → (undo u s).channels ≡ s.channels
 undo_channels Nothing s = refl
@@ -79,24 +81,24 @@ module _ {A U S O L : Type 0} (dialect : Dialect) (views : Views A U S O L) wher
   abbrev begun_from : Config → standing.Machine → ℕ → State → Type 0
   begun_from c k n t = Turned dialect Begun c (config Next k n t)
 
-  begun_is : (m n : Machine A U O) (a : A) (o : O) (u : U) → n.current ≡ a → n.callers.items ≡ m.callers.items ++ (record { owes = o; undone = u; caller = m.current }) ∷ []
-      → machine_of views n ≡ pushed (views.running a) (views.owes o) (views.undone u) (machine_of views m)
+  begun_is : (m n : Machine A U O) (a : A) (o : O) (u : U) → n.current ≡ a → n.callers.items ≡ m.callers.items ++ (record { owes = o; undone = u; caller = m.current; paid = m.paid }) ∷ []
+      → machine_of views n ≡ pushed (views.running a) (views.owes o) (views.undone u) m.paid (machine_of views m)
   begun_is m n a o u e q =
       ap (λ x. record { current = views.running x; callers = waitings views n.callers.items }) e
-      ∙ ap (λ ws. record { current = views.running a; callers = ws }) (ap (waitings views) q ∙ waitings_push views m.callers.items (record { owes = o; undone = u; caller = m.current }))
+      ∙ ap (λ ws. record { current = views.running a; callers = ws }) (ap (waitings views) q ∙ waitings_push views m.callers.items (record { owes = o; undone = u; caller = m.current; paid = m.paid }))
 
-  begun_by : (c : Config) (m n : Machine A U O) (a : A) (o : O) (u : U) (b : Running) (w : Undone) (s t : State) → n.current ≡ a → n.callers.items ≡ m.callers.items ++ (record { owes = o; undone = u; caller = m.current }) ∷ [] → n.paid ≡ m.paid
-      → views.running a ≡ b → views.undone u ≡ w → t ≡ s → begun_from c (pushed b (views.owes o) w (machine_of views m)) m.paid s → begun_from c (machine_of views n) n.paid t
+  begun_by : (c : Config) (m n : Machine A U O) (a : A) (o : O) (u : U) (b : Running) (w : Undone) (s t : State) → n.current ≡ a → n.callers.items ≡ m.callers.items ++ (record { owes = o; undone = u; caller = m.current; paid = m.paid }) ∷ [] → n.paid ≡ 0
+      → views.running a ≡ b → views.undone u ≡ w → t ≡ s → begun_from c (pushed b (views.owes o) w m.paid (machine_of views m)) 0 s → begun_from c (machine_of views n) n.paid t
   begun_by c m n a o u b w s t e q p r v k h =
-      let f = begun_is m n a o u e q ∙ ap (λ x. pushed x (views.owes o) (views.undone u) (machine_of views m)) r ∙ ap (λ x. pushed b (views.owes o) x (machine_of views m)) v in
-      subst (λ x. begun_from c (machine_of views n) n.paid x) (sym k) (subst (λ x. begun_from c (machine_of views n) x s) (sym p) (subst (λ x. begun_from c x m.paid s) (sym f) h))
+      let f = begun_is m n a o u e q ∙ ap (λ x. pushed x (views.owes o) (views.undone u) m.paid (machine_of views m)) r ∙ ap (λ x. pushed b (views.owes o) x m.paid (machine_of views m)) v in
+      subst (λ x. begun_from c (machine_of views n) n.paid x) (sym k) (subst (λ x. begun_from c (machine_of views n) x s) (sym p) (subst (λ x. begun_from c x 0 s) (sym f) h))
 
   spot_is : (a : Running) (d : ℕ) → a.spot ≡ first_spot d → a ≡ record { code = a.code; spot = first_spot d }
   spot_is a d e = ap (λ q. record { code = a.code; spot = q }) e
 
   pub run_made : (m n : Machine A U O) (a : A) (scope : S) (text : Text) (o : O) (u : U) (d : ℕ) (s s1 t : State) → d ≡ (views.running m.current).spot.depth → d < most_depth → BeginsAs (Means dialect) text (d + 1) (views.running a) → s1 ≡ s
       → views.undone u ≡ undone_of (views.scope scope) s1 → t ≡ entered (views.scope scope) s1
-      → n.current ≡ a → n.callers.items ≡ m.callers.items ++ (record { owes = o; undone = u; caller = m.current }) ∷ [] → n.paid ≡ m.paid
+      → n.current ≡ a → n.callers.items ≡ m.callers.items ++ (record { owes = o; undone = u; caller = m.current; paid = m.paid }) ∷ [] → n.paid ≡ 0
       → begun_from (config (Asking (Run (views.scope scope) text (views.owes o))) (machine_of views m) m.paid s) (machine_of views n) n.paid t
   run_made m n a scope text o u d s s1 t k lt b q w v e f p =
       let sc = views.scope scope in
@@ -108,7 +110,7 @@ module _ {A U S O L : Type 0} (dialect : Dialect) (views : Views A U S O L) wher
 
   pub evaluate_made : (m n : Machine A U O) (a : A) (text : Text) (o : O) (u : U) (d : ℕ) (s t : State) → d ≡ (views.running m.current).spot.depth → d ≤ most_depth → BeginsAs (MeansExpr dialect) text d (views.running a) → t ≡ s
       → views.undone u ≡ Nothing
-      → n.current ≡ a → n.callers.items ≡ m.callers.items ++ (record { owes = o; undone = u; caller = m.current }) ∷ [] → n.paid ≡ m.paid
+      → n.current ≡ a → n.callers.items ≡ m.callers.items ++ (record { owes = o; undone = u; caller = m.current; paid = m.paid }) ∷ [] → n.paid ≡ 0
       → begun_from (config (Asking (Evaluate text (views.owes o))) (machine_of views m) m.paid s) (machine_of views n) n.paid t
   evaluate_made m n a text o u d s t k le b q w e f p =
       begun_by (config (Asking (Evaluate text (views.owes o))) (machine_of views m) m.paid s) m n a o u (record { code = (views.running a).code; spot = first_spot (views.running m.current).spot.depth }) Nothing s t e f p
@@ -183,10 +185,10 @@ module _ {A U S O L : Type 0} (dialect : Dialect) (views : Views A U S O L) wher
     grown = subst (λ x. OutputsBegin x t.channels) (ap (λ x. x.channels) q ∙ undo_channels (views.undone w.undone) s) g.adds
 
     pub back_made : (asked : Asked S O L) → Answers views (does (owed dialect (views.owes w.owes) (completion_of c)) s1) (Ok asked) t → questions (step_of views asked) ≤ questions_owed (views.owes w.owes) → t.units ≡ s1.units
-        → Turned dialect On (ended (machine_of views m)) (config (Asking (step_of views asked)) (record { current = views.running w.caller; callers = waitings views ws }) m.paid t)
+        → Turned dialect On (ended (machine_of views m)) (config (Asking (step_of views asked)) (record { current = views.running w.caller; callers = waitings views ws }) w.paid t)
     back_made asked a f u =
         let x = subst (λ y. Answers views (does (owed dialect (views.owes w.owes) (completion_of c)) y) (Ok asked) t) q a in
-        subst (λ k. Turned dialect On (ended k) (config (Asking (step_of views asked)) (record { current = views.running w.caller; callers = waitings views ws }) m.paid t)) same
+        subst (λ k. Turned dialect On (ended k) (config (Asking (step_of views asked)) (record { current = views.running w.caller; callers = waitings views ws }) w.paid t)) same
         (on_back dialect (views.running m.current) (waitings views ws) (waiting_of views w) m.paid s t (completion_of c) grown x.0 (step_of views asked) x.1 x.2 (u ∙ ap (λ y. y.units) q ∙ undo_units (views.undone w.undone) s) f)
 
     pub back_stops : (x : Stop) → Answers views (does (owed dialect (views.owes w.owes) (completion_of c)) s1) (Err x) t → Stops dialect x (ended (machine_of views m)) t
@@ -203,16 +205,16 @@ module _ {A U S O L : Type 0} (views : Views A U S O L) where
   -- ---- what can be undone
 
   pub run_unwinds : (m n : Machine A U O) (scope : S) (o : O) (u : U) (s s1 t : State) → s1 ≡ s → views.undone u ≡ undone_of (views.scope scope) s1 → t ≡ entered (views.scope scope) s1 → CanUndo (views.undone u) t
-      → n.callers.items ≡ m.callers.items ++ (record { owes = o; undone = u; caller = m.current }) ∷ [] → (x y : Turn) (p q : ℕ) → Unwinds (config x (machine_of views m) p s) → Unwinds (config y (machine_of views n) q t)
+      → n.callers.items ≡ m.callers.items ++ (record { owes = o; undone = u; caller = m.current; paid = m.paid }) ∷ [] → (x y : Turn) (p q : ℕ) → Unwinds (config x (machine_of views m) p s) → Unwinds (config y (machine_of views n) q t)
   run_unwinds m n scope o u s s1 t e v w can f x y p q h =
-      let new : Waiting A U O = record { owes = o; undone = u; caller = m.current } in
+      let new : Waiting A U O = record { owes = o; undone = u; caller = m.current; paid = m.paid } in
       unwinds_entered (config x (machine_of views m) p s) (config y (machine_of views n) q t) (waiting_of views new) (views.scope scope)
       (ap (waitings views) f ∙ waitings_push views m.callers.items new) (v ∙ ap (undone_of (views.scope scope)) e) (w ∙ ap (entered (views.scope scope)) e) can h
 
-  pub evaluate_unwinds : (m n : Machine A U O) (o : O) (u : U) (s t : State) → t ≡ s → views.undone u ≡ Nothing → n.callers.items ≡ m.callers.items ++ (record { owes = o; undone = u; caller = m.current }) ∷ []
+  pub evaluate_unwinds : (m n : Machine A U O) (o : O) (u : U) (s t : State) → t ≡ s → views.undone u ≡ Nothing → n.callers.items ≡ m.callers.items ++ (record { owes = o; undone = u; caller = m.current; paid = m.paid }) ∷ []
       → (x y : Turn) (p q : ℕ) → Unwinds (config x (machine_of views m) p s) → Unwinds (config y (machine_of views n) q t)
   evaluate_unwinds m n o u s t e v f x y p q h =
-      let new : Waiting A U O = record { owes = o; undone = u; caller = m.current } in
+      let new : Waiting A U O = record { owes = o; undone = u; caller = m.current; paid = m.paid } in
       unwinds_stay (config x (machine_of views m) p s) (config y (machine_of views n) q t) (waiting_of views new) (ap (waitings views) f ∙ waitings_push views m.callers.items new) v e h
 
   pub back_can : (m : Machine A U O) (ws : List (Waiting A U O)) (w : Waiting A U O) (s : State) → m.callers.items ≡ ws ++ w ∷ [] → (x : Turn) (p : ℕ) → Unwinds (config x (machine_of views m) p s) → CanUndo (views.undone w.undone) s
@@ -222,3 +224,62 @@ module _ {A U S O L : Type 0} (views : Views A U S O L) where
       → (x y : Turn) (p q : ℕ) (a : Running) → Unwinds (config x (machine_of views m) p s) → Unwinds (config y (record { current = a; callers = waitings views ws }) q t)
   back_unwinds m ws w s s1 t e k f x y p q a h =
       unwinds_back (config x (machine_of views m) p s) (config y (record { current = a; callers = waitings views ws }) q t) (waiting_of views w) (ap (waitings views) e ∙ waitings_push views ws w) (subst (λ z. SameFrames z t) k f) h
+
+-- ---- with more units
+
+module _ {A U S O L : Type 0} (dialect : Dialect) (views : Views A U S O L) where
+  pub done_later : (m : Machine A U O) (a : A) (s : State) (c : Completion) → code_now (completion_of c) ≡ how.Ok → views.running a ≡ answered (views.running m.current) (completion_of c)
+      → Later dialect (config (Asking (Done (completion_of c))) (machine_of views m) m.paid s) (config Next (record { current = views.running a; callers = waitings views m.callers.items }) m.paid s)
+  done_later m a s c k e = record { stands = λ b r y. (done_made dialect views m a (more b s) c k e).stands r y }
+
+  pub failed_later : (m : standing.Machine) (n : ℕ) (s : State) (c : Completion) → (code_now c ≡ how.Ok → ⊥) → Later dialect (config (Asking (Done c)) m n s) (config (Ending c) m n s)
+  failed_later m n s c k = record { stands = λ b r y. (on_failed dialect m n (more b s) c k).stands r y }
+
+  pub run_later : (m n : Machine A U O) (a : A) (scope : S) (text : Text) (o : O) (u : U) (d : ℕ) (s s1 t : State) → d ≡ (views.running m.current).spot.depth → d < most_depth → BeginsAs (Means dialect) text (d + 1) (views.running a) → s1 ≡ s
+      → views.undone u ≡ undone_of (views.scope scope) s1 → t ≡ entered (views.scope scope) s1
+      → n.current ≡ a → n.callers.items ≡ m.callers.items ++ (record { owes = o; undone = u; caller = m.current; paid = m.paid }) ∷ [] → n.paid ≡ 0
+      → Later dialect (config (Asking (Run (views.scope scope) text (views.owes o))) (machine_of views m) m.paid s) (config Next (machine_of views n) n.paid t)
+  run_later m n a scope text o u d s s1 t k lt g q w v e f p = record {
+    stands = λ b r y. (run_made dialect views m n a scope text o u d (more b s) (more b s1) (more b t) k lt g (ap (more b) q) (w ∙ sym (undone_later b (views.scope scope) s1)) (ap (more b) v ∙ sym (entered_later b (views.scope scope) s1)) e f p).stands r y;
+  }
+
+  pub evaluate_later : (m n : Machine A U O) (a : A) (text : Text) (o : O) (u : U) (d : ℕ) (s t : State) → d ≡ (views.running m.current).spot.depth → d ≤ most_depth → BeginsAs (MeansExpr dialect) text d (views.running a) → t ≡ s
+      → views.undone u ≡ Nothing
+      → n.current ≡ a → n.callers.items ≡ m.callers.items ++ (record { owes = o; undone = u; caller = m.current; paid = m.paid }) ∷ [] → n.paid ≡ 0
+      → Later dialect (config (Asking (Evaluate text (views.owes o))) (machine_of views m) m.paid s) (config Next (machine_of views n) n.paid t)
+  evaluate_later m n a text o u d s t k le g q w e f p = record { stands = λ b r y. (evaluate_made dialect views m n a text o u d (more b s) (more b t) k le g (ap (more b) q) w e f p).stands r y }
+
+  pub deep_later : (m : Machine A U O) (s t : State) (scope : S) (text : Text) (o : O) (d : ℕ) (c : Completion) → d ≡ (views.running m.current).spot.depth → most_depth ≤ d → completion_of c ≡ too_deep → Onward s t
+      → (asked : Asked S O L) → Answers views (does (owed dialect (views.owes o) (completion_of c)) s) (Ok asked) t → questions (step_of views asked) ≤ questions_owed (views.owes o) → t.units ≡ s.units
+      → Later dialect (config (Asking (Run (views.scope scope) text (views.owes o))) (machine_of views m) m.paid s) (config (Asking (step_of views asked)) (machine_of views m) m.paid t)
+  deep_later m s t scope text o d c k le q g asked h f u = record {
+    stands = λ b r y. (deep_made dialect views m (more b s) (more b t) scope text o d c k le q (onward_later b s t g) asked (answers_later b views (owed dialect (views.owes o) (completion_of c)) s t asked h) f (omega arith)).stands r y;
+  }
+
+  pub paid_later : (m : Machine A U O) (turns : L) (s s1 t : State) (x : Bool) → x ≡ true → Spent x s s1 → Onward s1 t → (asked : Asked S O L) → Answers views (does (turned (views.turns turns)) s1) (Ok asked) t → t.units ≡ s1.units
+      → Later dialect (config (Asking (Pay (views.turns turns))) (machine_of views m) m.paid s) (config (Asking (step_of views asked)) (machine_of views m) m.paid t)
+  paid_later m turns s s1 t x e h g asked a u =
+      let h1 = subst (λ y. Spent y s s1) e h in
+      record {
+        stands = λ b r y. (paid_made dialect views m turns (more b s) (more b s1) (more b t) true refl (spent_later b s s1 h1) (onward_later b s1 t g) asked (answers_later b views (turned (views.turns turns)) s1 t asked a) (omega arith)).stands r y;
+      }
+
+  pub back_later : (m : Machine A U O) (ws : List (Waiting A U O)) (w : Waiting A U O) (s s1 t : State) (c : Completion) → m.callers.items ≡ ws ++ w ∷ [] → s1 ≡ undo (views.undone w.undone) s → Onward s1 t
+      → (asked : Asked S O L) → Answers views (does (owed dialect (views.owes w.owes) (completion_of c)) s1) (Ok asked) t → questions (step_of views asked) ≤ questions_owed (views.owes w.owes) → t.units ≡ s1.units
+      → Later dialect (config (Ending (completion_of c)) (machine_of views m) m.paid s) (config (Asking (step_of views asked)) (record { current = views.running w.caller; callers = waitings views ws }) w.paid t)
+  back_later m ws w s s1 t c e q g asked a f u = record {
+    stands = λ b r y. (back_made dialect views m ws w (more b s) (more b s1) (more b t) c e (ap (more b) q ∙ sym (undo_later b (views.undone w.undone) s)) (onward_later b s1 t g) asked (answers_later b views (owed dialect (views.owes w.owes) (completion_of c)) s1 t asked a) f (omega arith)).stands r y;
+  }
+
+  -- a unit is wanting for a turn
+  pub unpaid_pauses : (m : Machine A U O) (turns : L) (s t : State) (x : Bool) → x ≡ false → Spent x s t → Pauses dialect (config (Asking (Pay (views.turns turns))) (machine_of views m) m.paid s) (config (Asking (Pay (views.turns turns))) (machine_of views m) m.paid t)
+  unpaid_pauses m turns s t x e h =
+      let y = subst (λ z. Spent z s t) e h in
+      record {
+        paused = unpaid_made dialect views m turns s t x e h;
+        later = subst (λ z. Later dialect (config (Asking (Pay (views.turns turns))) (machine_of views m) m.paid s) (config (Asking (Pay (views.turns turns))) (machine_of views m) m.paid z)) (sym y.1) (record { stands = λ b r k. k });
+        spent = ap (λ z. z.units) y.1 ∙ y.0;
+      }
+
+  pub unpaid_fits : (m : Machine A U O) (turns : L) (s t : State) (x : Bool) → x ≡ false → Spent x s t → Fits (config (Asking (Pay (views.turns turns))) (machine_of views m) m.paid s) → Fits (config (Asking (Pay (views.turns turns))) (machine_of views m) m.paid t)
+  unpaid_fits m turns s t x e h f = subst (λ z. Fits (config (Asking (Pay (views.turns turns))) (machine_of views m) m.paid z)) (sym (subst (λ z. Spent z s t) e h).1) f

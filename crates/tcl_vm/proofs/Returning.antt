@@ -163,18 +163,18 @@ module _ (dialect : Dialect) where
   on_got_same (Untold c) f h k = refl
 
   -- a page that runs a script comes to what it comes to when the script has ended
-  pub run_is : (m : Machine) (scope : Scope) (t : Text) (o : Owes) (s : State)
-      → left_of_page dialect m.current.spot.depth (tasks.Run scope t o) s ≡ paid_back dialect (record { owes = o; undone = undone_of scope s; caller = m.current }) (Run dialect (inside m.current.spot.depth t) (entered scope s))
-  run_is m scope t o s =
+  pub run_is : (m : Machine) (scope : Scope) (t : Text) (o : Owes) (n : ℕ) (s : State)
+      → left_of_page dialect m.current.spot.depth (tasks.Run scope t o) s ≡ paid_back dialect (record { owes = o; undone = undone_of scope s; caller = m.current; paid = n }) (Run dialect (inside m.current.spot.depth t) (entered scope s))
+  run_is m scope t o n s =
       let d = m.current.spot.depth in
       ap (λ p. exec (Run dialect) p s) (run_answered dialect d scope t o)
       ∙ on_got_same (Run dialect (inside d t) (entered scope s)) _ _ (λ c after. ap (λ u. exec (Run dialect) (page_in dialect d (owed dialect o c)) u) (sym (returned_undo scope s after)))
 
-  pub run_returns : (m : Machine) (scope : Scope) (t : Text) (o : Owes) (s : State) (r : Got Completion) → Lands dialect m (left_of_page dialect m.current.spot.depth (tasks.Run scope t o) s) r
-      → Returns dialect (m.callers ++ (record { owes = o; undone = undone_of scope s; caller = m.current }) ∷ []) (Run dialect (inside m.current.spot.depth t) (entered scope s)) r
-  run_returns m scope t o s r h =
-      let w : Waiting = record { owes = o; undone = undone_of scope s; caller = m.current } in
-      returns_push m.callers w (Run dialect (inside m.current.spot.depth t) (entered scope s)) h.mid r (subst (λ x. After dialect m.current x h.mid) (run_is m scope t o s) h.lands) h.returns
+  pub run_returns : (m : Machine) (scope : Scope) (t : Text) (o : Owes) (n : ℕ) (s : State) (r : Got Completion) → Lands dialect m (left_of_page dialect m.current.spot.depth (tasks.Run scope t o) s) r
+      → Returns dialect (m.callers ++ (record { owes = o; undone = undone_of scope s; caller = m.current; paid = n }) ∷ []) (Run dialect (inside m.current.spot.depth t) (entered scope s)) r
+  run_returns m scope t o n s r h =
+      let w : Waiting = record { owes = o; undone = undone_of scope s; caller = m.current; paid = n } in
+      returns_push m.callers w (Run dialect (inside m.current.spot.depth t) (entered scope s)) h.mid r (subst (λ x. After dialect m.current x h.mid) (run_is m scope t o n s) h.lands) h.returns
 
   -- what an expression comes to, as a completion
   abbrev pub value_of : ℕ → Text → State → Got Completion
@@ -186,11 +186,11 @@ module _ (dialect : Dialect) where
   on_got_completed (Exits n x) f = refl
   on_got_completed (Untold c) f = refl
 
-  pub evaluate_returns : (m : Machine) (t : Text) (o : Owes) (s : State) (r : Got Completion) → Lands dialect m (left_of_page dialect m.current.spot.depth (Evaluate t o) s) r
-      → Returns dialect (m.callers ++ (record { owes = o; undone = Nothing; caller = m.current }) ∷ []) (value_of m.current.spot.depth t s) r
-  evaluate_returns m t o s r h =
+  pub evaluate_returns : (m : Machine) (t : Text) (o : Owes) (n : ℕ) (s : State) (r : Got Completion) → Lands dialect m (left_of_page dialect m.current.spot.depth (Evaluate t o) s) r
+      → Returns dialect (m.callers ++ (record { owes = o; undone = Nothing; caller = m.current; paid = n }) ∷ []) (value_of m.current.spot.depth t s) r
+  evaluate_returns m t o n s r h =
       let d = m.current.spot.depth in
-      let w : Waiting = record { owes = o; undone = Nothing; caller = m.current } in
+      let w : Waiting = record { owes = o; undone = Nothing; caller = m.current; paid = n } in
       let same : left_of_page dialect d (Evaluate t o) s ≡ paid_back dialect w (value_of d t s) =
       ap (λ p. exec (Run dialect) p s) (expression_answered dialect d t o)
       ∙ exec_bind (Run dialect) (expression dialect d t) (λ v. page_in dialect d (owed dialect o (completed v))) s

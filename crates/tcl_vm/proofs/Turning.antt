@@ -17,7 +17,7 @@ use Rattle.tcl_meaning.proofs.Onward.{outputs_trans}
 use Rattle.tcl_meaning.proofs.Runs.{exec_goes}
 use Rattle.tcl_code.specs.Instructions.{Spend, Turn as TurnBack}
 use Rattle.tcl_code.specs.Machine.{Spot, To, Ends, Calls}
-use Rattle.tcl_vm.specs.Fitting.{FitsHere, AllFit}
+use Rattle.tcl_vm.specs.Fitting.{FitsHere, FitsThen}
 use Rattle.tcl_vm.specs.Standing.{here, Waiting, Machine, Goes, Lands, IsLost, left_of_page}
 use Rattle.tcl_vm.specs.Turns.{Turn, Next, Asking, Ending, Config, Stands, StandsBy, Fits, On, Used, Less, Turned, Paused, Exited, BrokenOff}
 use Rattle.tcl_vm.proofs.Fitting.{MoveFits, here_fits, fits_inside}
@@ -50,11 +50,6 @@ agrees_same (Untold c) = outputs_same c
 
 pub is_same : (r real : Got Completion) → r ≡ real → Agrees r real
 is_same r real e = subst (Agrees r) e (agrees_same r)
-
--- fewer are paid for than that
-pub all_weaker : (ws : List Waiting) (k n : ℕ) → AllFit ws k → k ≤ n → AllFit ws n
-all_weaker [] k n h le = tt
-all_weaker (w ∷ ws) k n h le = (h.0, h.1, h.2, h.3, let z = h.4 in omega arith)
 
 module _ (dialect : Dialect) where
   -- a turn from what stands to what stands
@@ -107,11 +102,9 @@ module _ (dialect : Dialect) where
       where
         made : Fits (config Next m n s) → Fits (config Next (moved_to m q) n t) × Less On (config Next m n s) (config Next (moved_to m q) n t)
         made f =
-            let x = to_fits f.by.0 f.by.2 in
-            let room = f.room in
-            let le = f.by.4 in
+            let x = to_fits n f.by.0 in
             ⊎_elim
-            (λ y. (record { by = (x.0, f.by.1, x.1, f.by.3, let z = y.0 in omega arith); room = omega arith }, (omega arith, omega arith, let z = less_left x.0 x.1 y.1 in omega arith)))
+            (λ y. (record { by = (subst (FitsHere (record { code = m.current.code; spot = q })) y.0 x.1, f.by.1) }, (omega arith, omega arith, let z = less_left x.0 x.1 y.1 in omega arith)))
             (⊎_elim (λ y. absurd (let z = y.3 in omega arith)) (λ y. absurd (let z = y.3 in omega arith)))
             x.2
 
@@ -125,13 +118,11 @@ module _ (dialect : Dialect) where
       where
         made : Fits (config Next m n s) → Fits (config Next (moved_to m q) (n + 1) t) × Less On (config Next m n s) (config Next (moved_to m q) (n + 1) t)
         made f =
-            let x = to_fits f.by.0 f.by.2 in
-            let room = f.room in
-            let le = f.by.4 in
+            let x = to_fits n f.by.0 in
             ⊎_elim
             (λ y. absurd (let z = y.2 in omega arith))
             (⊎_elim
-            (λ y. (record { by = (x.0, f.by.1, x.1, f.by.3, let z = y.1 in omega arith); room = omega arith }, (omega arith, omega arith, let z = less_left x.0 x.1 y.2 in omega arith)))
+            (λ y. (record { by = (subst (FitsHere (record { code = m.current.code; spot = q })) y.1 x.1, f.by.1) }, (omega arith, omega arith, let z = less_left x.0 x.1 y.2 in omega arith)))
             (λ y. absurd (let z : Some Spend ≡ Some (TurnBack y.0) = sym i ∙ y.1 in cc)))
             x.2
 
@@ -145,21 +136,19 @@ module _ (dialect : Dialect) where
       where
         made : Fits (config Next m n s) → Fits (config Next (moved_to m q) n t)
         made f =
-            let x = to_fits f.by.0 f.by.2 in
-            let room = f.room in
-            let le = f.by.4 in
+            let x = to_fits n f.by.0 in
             ⊎_elim
             (λ y. absurd (let z = y.2 in omega arith))
             (⊎_elim
             (λ y. absurd (let z : Some (TurnBack k) ≡ Some Spend = sym i ∙ y.0 in cc))
-            (λ y. record { by = (x.0, f.by.1, x.1, f.by.3, let z = y.2 in omega arith); room = omega arith }))
+            (λ y. record { by = (subst (FitsHere (record { code = m.current.code; spot = q })) y.2 x.1, f.by.1) }))
             x.2
 
   -- the code ends
   pub on_over : (m : Machine) (n : ℕ) (s t : State) (c : Completion) → here dialect m.current s ≡ Ends (Gives c t) → t.units ≡ s.units → OutputsBegin s.channels t.channels → Turned dialect On (config Next m n s) (config (Ending c) m n t)
   on_over m n s t c e u g = record {
     stands = stands_on (config Next m n s) (config (Ending c) m n t) g (λ r h. record { either = inl (goes_ends dialect m s (Gives c t) r h e) });
-    fits = λ f. let room = f.room in record { by = all_weaker m.callers f.by.1 n f.by.3 (let le = f.by.4 in omega arith); room = omega arith };
+    fits = λ f. record { by = f.by.1 };
     less = λ f. (omega arith, omega arith, omega arith);
     onward = record { spends = omega arith; adds = g };
   }
@@ -178,7 +167,7 @@ module _ (dialect : Dialect) where
 
     -- it has been paid for
     pub called_paid : Fits (config Next m n s) → 1 ≤ n
-    called_paid f = let x = calls_fit f.by.0 f.by.2 in let y = x.2 in let le = f.by.4 in omega arith
+    called_paid f = let x = calls_fit n f.by.0 in let y = x.2 in omega arith
 
     lands_called : (r : Got Completion) → Goes dialect m s r → Lands dialect (moved_to m q) (exec (Run dialect) (page_in dialect q.depth (invoked dialect words)) s) r
     lands_called r h = goes_calls dialect m s s words q r h e
@@ -189,11 +178,10 @@ module _ (dialect : Dialect) where
       stands = stands_on (config Next m n s) (config (Asking step) (moved_to m q) (n - 1) t) g
           (λ r h. record { either = subst (λ x. Lands dialect (moved_to m q) (left_of_page dialect q.depth x t) r ⊎ IsLost t r) k (stepped dialect (moved_to m q) (invoked dialect words) s t v r a (lands_called r h)) });
       fits = λ f.
-          let x = calls_fit f.by.0 f.by.2 in
+          let x = calls_fit n f.by.0 in
           let y = x.2 in
-          let le = f.by.4 in
-          let room = f.room in
-          record { by = (x.0, f.by.1, x.1, f.by.3, omega arith); room = omega arith };
+          let e : x.0 ≡ n - 1 = omega arith in
+          record { by = (subst (FitsThen (record { code = m.current.code; spot = q })) e x.1, f.by.1) };
       less = λ f. let one = called_paid f in omega arith;
       onward = record { spends = omega arith; adds = g };
     }

@@ -37,6 +37,8 @@ pub record Waiting : Type 0 where
   pub owes : Owes
   pub undone : Undone
   pub caller : Running
+  -- how many commands are paid for in the caller that haven't been called yet
+  pub paid : ℕ
 
 -- those that wait stand in the order of their calls
 pub record Machine : Type 0 where

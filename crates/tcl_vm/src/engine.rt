@@ -1,6 +1,6 @@
 //! What a machine runs over: codes, pages, and what scripts keep.
 
-ghost use Rattle.std.specs.Prelude.{◌≡◌, ◌≤◌, ◌<◌, ◌+◌, ◌^◌, ℕ, Bool, false, OnOk, OnErr, IfOk};
+ghost use Rattle.std.specs.Prelude.{◌≡◌, ◌≤◌, Bool, false, OnOk, OnErr, IfOk};
 ghost use Rattle.tcl_chars.specs.declared.numbers.Dialect.{Dialect};
 ghost use Rattle.tcl_meaning.specs.Asking.{questions_owed, questions};
 ghost use Rattle.tcl_meaning.specs.Completions.{too_deep};
@@ -71,6 +71,8 @@ pub enum Progress<S, O, L> {
     Asks(Step<S, O, L>),
     /// The code has ended.
     Over(Completion),
+    /// A unit is wanting, and the code stands where it goes on.
+    Unpaid,
 }
 
 /// What a machine runs over: codes, pages, and what scripts keep.
@@ -86,7 +88,8 @@ pub trait Engine {
     /// A loop before its next turn.
     type Loop: Drop;
 
-    ghost dialect: { Dialect };
+    /// Which texts are numbers.
+    ghost dialect: { Self → Dialect };
 
     ghost views: { Views Self.Activation Self.Undone Self.Scope Self.Owes Self.Loop };
 
@@ -96,16 +99,15 @@ pub trait Engine {
     /// What calls leave of what the definition doesn't see, as the devices; in the last of them a device failed or not.
     ghost leaves: { Bool → Self → Self → Type 0 };
 
-    /// Instructions, and the commands that they call, until a unit has paid for a turn back, a command asks for something, or the
-    /// code has ended. The commands that units pay for on the way are counted until they are called.
+    /// Instructions, and the commands that they call, until a unit has paid for a turn back, a command asks for something, the
+    /// code has ended, or a unit is wanting. The commands that units pay for on the way are counted until they are called.
     fn step(
         &mut self,
         activation: &mut Self::Activation,
         paid: &mut u64,
     ) -> Result<Progress<Self::Scope, Self::Owes, Self::Loop>, Stop>
-        requires fits { (n : ℕ) × FitsHere (views.running activation.old) n × (n ≤ paid.old) }
-        requires room { (shown self.old).units + paid.old < 2 ^ 64 }
-        ensures makes { Strides dialect views result (position (views.running activation.old) paid.old (shown self.old)) (position (views.running activation.new) paid.new (shown self.new)) }
+        requires { FitsHere (views.running activation.old) paid.old }
+        ensures makes { Strides (dialect self.old) views result (position (views.running activation.old) paid.old (shown self.old)) (position (views.running activation.new) paid.new (shown self.new)) }
         ensures frames { IfOk result (λ _. SameFrames (shown self.old) (shown self.new)) }
         ensures leaves { leaves (is_io result) self.old self.new };
 
@@ -128,14 +130,14 @@ pub trait Engine {
     /// The code of a script, at its beginning.
     fn script(&mut self, text: Value, depth: u64) -> Result<Self::Activation, AllocError>
         requires { depth ≤ most_depth }
-        ensures begins { IfOk result (λ a. BeginsAs (Means dialect) text depth (views.running a)) }
+        ensures begins { IfOk result (λ a. BeginsAs (Means (dialect self.old)) text depth (views.running a)) }
         ensures same { shown self.new ≡ shown self.old }
         ensures leaves { leaves false self.old self.new };
 
     /// The code of an expression, at its beginning.
     fn expression(&mut self, text: Value, depth: u64) -> Result<Self::Activation, AllocError>
         requires { depth ≤ most_depth }
-        ensures begins { IfOk result (λ a. BeginsAs (MeansExpr dialect) text depth (views.running a)) }
+        ensures begins { IfOk result (λ a. BeginsAs (MeansExpr (dialect self.old)) text depth (views.running a)) }
         ensures same { shown self.new ≡ shown self.old }
         ensures leaves { leaves false self.old self.new };
 
@@ -163,7 +165,7 @@ pub trait Engine {
         owes: Self::Owes,
         completion: Completion,
     ) -> Result<Step<Self::Scope, Self::Owes, Self::Loop>, Stop>
-        ensures answers { Answers views (does (owed dialect (views.owes owes) (completion_of completion)) (shown self.old)) result (shown self.new) }
+        ensures answers { Answers views (does (owed (dialect self.old) (views.owes owes) (completion_of completion)) (shown self.old)) result (shown self.new) }
         ensures fewer { IfOk result (λ step. questions (step_of views step) ≤ questions_owed (views.owes owes)) }
         ensures onward { Onward (shown self.old) (shown self.new) }
         ensures free { IfOk result (λ _. (shown self.new).units ≡ (shown self.old).units) }
@@ -191,4 +193,7 @@ pub trait Engine {
 
     /// What calls leave in which no device failed, and one after them, they leave together.
     ghost leaves_then: { (io : Bool) (a b c : Self) → leaves false a b → leaves io b c → leaves io a c };
+
+    /// No call changes which texts are numbers.
+    ghost dialect_left: { (io : Bool) (a b : Self) → leaves io a b → dialect b ≡ dialect a };
 }

@@ -6,4 +6,4 @@ pub mod laws;
 mod machine;
 
 pub use engine::{Engine, Progress, Stop};
-pub use machine::run;
+pub use machine::{Paused, resume, run, start};

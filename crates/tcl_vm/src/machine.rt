@@ -1,11 +1,11 @@
 //! The machine: a code that runs, and those that wait for it.
 
-ghost use Rattle.std.specs.Prelude.{◌≡◌, ◌≤◌, ◌<◌, ◌^◌, ◌++◌, ◌∷◌, [], ℕ, OnOk};
+ghost use Rattle.std.specs.Prelude.{◌≡◌, ◌≤◌, ◌++◌, ◌∷◌, [], ℕ, false, OnOk, IfOk};
 ghost use Rattle.tcl_meaning.specs.Completions.{nothing};
 ghost use Rattle.tcl_meaning.specs.Script.{Run, most_depth};
 ghost use Rattle.tcl_meaning.specs.Tasks.{Script};
 ghost use Rattle.tcl_vm.specs.Engines.{completion_of, step_of, is_io};
-ghost use Rattle.tcl_vm.specs.Machines.{config_of, Makes, Ends, Follows};
+ghost use Rattle.tcl_vm.specs.Machines.{config_of, first_of, seen, Makes, Ends, Begins, Follows};
 ghost use Rattle.tcl_vm.specs.Turns.{Fits, Onward};
 ghost use Rattle.tcl_vm.specs.Unwinding.{Unwinds};
 ghost use Rattle.tcl_steps.specs.declared.step.Step.TheVariants as step;
@@ -13,6 +13,7 @@ ghost use Rattle.tcl_vm.specs.declared.machine.Turn.TheVariants as turn;
 
 use crate::engine::{Engine, Progress, Stop};
 use std::alloc::{AllocError, Global};
+use std::marker::Model;
 use std::mem;
 use tcl_steps::{Completion, Step};
 use tcl_values::Value;
@@ -23,6 +24,8 @@ pub(crate) struct Waiting<A, U, O> {
     pub(crate) owes: O,
     pub(crate) undone: U,
     pub(crate) caller: A,
+    // The commands that units have been spent for in the caller, and that haven't been called yet.
+    pub(crate) paid: u64,
 }
 
 /// A machine between two turns.
@@ -31,7 +34,7 @@ pub(crate) struct Machine<A, U, O> {
     pub(crate) current: A,
     // Innermost last.
     pub(crate) callers: Vec<Waiting<A, U, O>>,
-    // The commands that units have been spent for and that haven't been called yet.
+    // The commands that units have been spent for in the code that runs, and that haven't been called yet.
     pub(crate) paid: u64,
 }
 
@@ -52,20 +55,40 @@ pub(crate) enum Made<S, O, L> {
     /// A unit is spent, or what it had paid for.
     Used(Turn<S, O, L>),
     Over(Completion),
+    /// A unit is wanting for this turn, which isn't made.
+    Unpaid(Turn<S, O, L>),
+}
+
+/// A machine at its beginning, or where a unit was wanting: all that it goes on from. What it does next is kept, and the codes that
+/// run and wait, each with its place, its stacks and the commands that are paid for. Its frames, devices and units are its engine's.
+#[derive(Drop)]
+pub struct Paused<A, U, S, O, L> {
+    machine: Machine<A, U, O>,
+    next: Turn<S, O, L>,
+}
+
+impl<A, U, S, O, L> Model for Paused<A, U, S, O, L> {
+    ghost use Rattle.tcl_vm.specs.Machines.{Pause, pause_of};
+
+    ghost Value = { Pause A U S O L };
+
+    ghost view = { λ p. pause_of p.next p.machine };
 }
 
 impl<A: Drop, U: Drop, O: Drop> Machine<A, U, O> {
     /// A page waits for a code that begins.
     pub(crate) fn begin(&mut self, activation: A, owes: O, undone: U) -> Result<(), AllocError>
         ensures current { OnOk result (self.new.current ≡ activation) }
-        ensures callers { OnOk result (self.new.callers.items ≡ self.old.callers.items ++ (record { owes = owes; undone = undone; caller = self.old.current }) ∷ []) }
-        ensures paid { OnOk result (self.new.paid ≡ self.old.paid) }
+        ensures callers { OnOk result (self.new.callers.items ≡ self.old.callers.items ++ (record { owes = owes; undone = undone; caller = self.old.current; paid = self.old.paid }) ∷ []) }
+        ensures paid { OnOk result (self.new.paid ≡ 0) }
     {
         let caller = mem::replace(&mut self.current, activation);
+        let paid = mem::replace(&mut self.paid, 0);
         self.callers.push(Waiting {
             owes,
             undone,
             caller,
+            paid,
         })?;
         Ok(())
     }
@@ -78,7 +101,7 @@ pub(crate) fn advance<E: Engine>(
     machine: &mut Machine<E::Activation, E::Undone, E::Owes>,
 ) -> Result<Made<E::Scope, E::Owes, E::Loop>, Stop>
     requires { Fits (config_of E.views turn.Next machine.old (E.shown engine.old)) }
-    ensures makes { Makes E.dialect E.views result (config_of E.views turn.Next machine.old (E.shown engine.old)) machine.new (E.shown engine.new) }
+    ensures makes { Makes (E.dialect engine.old) E.views result (config_of E.views turn.Next machine.old (E.shown engine.old)) machine.new (E.shown engine.new) }
     ensures leaves { E.leaves (is_io result) engine.old engine.new }
 {
     match engine.step(&mut machine.current, &mut machine.paid)? {
@@ -88,6 +111,7 @@ pub(crate) fn advance<E: Engine>(
             Ok(Made::Used(Turn::Asking(step)))
         }
         Progress::Over(completion) => Ok(Made::On(Turn::Ending(completion))),
+        Progress::Unpaid => Ok(Made::Unpaid(Turn::Next)),
     }
 }
 
@@ -99,7 +123,7 @@ pub(crate) fn done<E: Engine>(
     completion: Completion,
 ) -> Result<Made<E::Scope, E::Owes, E::Loop>, Stop>
     requires { Fits (config_of E.views (turn.Asking (step.Done completion)) machine.old (E.shown engine.old)) }
-    ensures makes { Makes E.dialect E.views result (config_of E.views (turn.Asking (step.Done completion)) machine.old (E.shown engine.old)) machine.new (E.shown engine.new) }
+    ensures makes { Makes (E.dialect engine.old) E.views result (config_of E.views (turn.Asking (step.Done completion)) machine.old (E.shown engine.old)) machine.new (E.shown engine.new) }
     ensures leaves { E.leaves (is_io result) engine.old engine.new }
 {
     if completion.is_ok() {
@@ -120,7 +144,7 @@ pub(crate) fn run_script<E: Engine>(
     owes: E::Owes,
 ) -> Result<Made<E::Scope, E::Owes, E::Loop>, Stop>
     requires { Fits (config_of E.views (turn.Asking (step.Run scope text owes)) machine.old (E.shown engine.old)) }
-    ensures makes { Makes E.dialect E.views result (config_of E.views (turn.Asking (step.Run scope text owes)) machine.old (E.shown engine.old)) machine.new (E.shown engine.new) }
+    ensures makes { Makes (E.dialect engine.old) E.views result (config_of E.views (turn.Asking (step.Run scope text owes)) machine.old (E.shown engine.old)) machine.new (E.shown engine.new) }
     ensures leaves { E.leaves (is_io result) engine.old engine.new }
 {
     let depth = engine.depth(&machine.current);
@@ -144,7 +168,7 @@ pub(crate) fn evaluate<E: Engine>(
     owes: E::Owes,
 ) -> Result<Made<E::Scope, E::Owes, E::Loop>, Stop>
     requires { Fits (config_of E.views (turn.Asking (step.Evaluate text owes)) machine.old (E.shown engine.old)) }
-    ensures makes { Makes E.dialect E.views result (config_of E.views (turn.Asking (step.Evaluate text owes)) machine.old (E.shown engine.old)) machine.new (E.shown engine.new) }
+    ensures makes { Makes (E.dialect engine.old) E.views result (config_of E.views (turn.Asking (step.Evaluate text owes)) machine.old (E.shown engine.old)) machine.new (E.shown engine.new) }
     ensures leaves { E.leaves (is_io result) engine.old engine.new }
 {
     let depth = engine.depth(&machine.current);
@@ -162,11 +186,11 @@ pub(crate) fn pay<E: Engine>(
     turns: E::Loop,
 ) -> Result<Made<E::Scope, E::Owes, E::Loop>, Stop>
     requires { Fits (config_of E.views (turn.Asking (step.Pay turns)) machine.old (E.shown engine.old)) }
-    ensures makes { Makes E.dialect E.views result (config_of E.views (turn.Asking (step.Pay turns)) machine.old (E.shown engine.old)) machine.new (E.shown engine.new) }
+    ensures makes { Makes (E.dialect engine.old) E.views result (config_of E.views (turn.Asking (step.Pay turns)) machine.old (E.shown engine.old)) machine.new (E.shown engine.new) }
     ensures leaves { E.leaves (is_io result) engine.old engine.new }
 {
     if !engine.spend() {
-        return Err(Stop::Budget);
+        return Ok(Made::Unpaid(Turn::Asking(Step::Pay(turns))));
     }
     let next = engine.turned(turns)?;
     Ok(Made::Used(Turn::Asking(next)))
@@ -180,7 +204,7 @@ pub(crate) fn ask<E: Engine>(
     asked: Step<E::Scope, E::Owes, E::Loop>,
 ) -> Result<Made<E::Scope, E::Owes, E::Loop>, Stop>
     requires { Fits (config_of E.views (turn.Asking asked) machine.old (E.shown engine.old)) }
-    ensures makes { Makes E.dialect E.views result (config_of E.views (turn.Asking asked) machine.old (E.shown engine.old)) machine.new (E.shown engine.new) }
+    ensures makes { Makes (E.dialect engine.old) E.views result (config_of E.views (turn.Asking asked) machine.old (E.shown engine.old)) machine.new (E.shown engine.new) }
     ensures leaves { E.leaves (is_io result) engine.old engine.new }
 {
     match asked {
@@ -200,7 +224,7 @@ pub(crate) fn end<E: Engine>(
 ) -> Result<Made<E::Scope, E::Owes, E::Loop>, Stop>
     requires fits { Fits (config_of E.views (turn.Ending completion) machine.old (E.shown engine.old)) }
     requires unwinds { Unwinds (config_of E.views (turn.Ending completion) machine.old (E.shown engine.old)) }
-    ensures makes { Makes E.dialect E.views result (config_of E.views (turn.Ending completion) machine.old (E.shown engine.old)) machine.new (E.shown engine.new) }
+    ensures makes { Makes (E.dialect engine.old) E.views result (config_of E.views (turn.Ending completion) machine.old (E.shown engine.old)) machine.new (E.shown engine.new) }
     ensures leaves { E.leaves (is_io result) engine.old engine.new }
 {
     match machine.callers.pop() {
@@ -208,6 +232,7 @@ pub(crate) fn end<E: Engine>(
         Some(waiting) => {
             engine.undo(waiting.undone);
             machine.current = waiting.caller;
+            machine.paid = waiting.paid;
             let next = engine.owed(waiting.owes, completion)?;
             Ok(Made::On(Turn::Asking(next)))
         }
@@ -223,7 +248,7 @@ pub(crate) fn make<E: Engine>(
 ) -> Result<Made<E::Scope, E::Owes, E::Loop>, Stop>
     requires fits { Fits (config_of E.views (now) machine.old (E.shown engine.old)) }
     requires unwinds { Unwinds (config_of E.views (now) machine.old (E.shown engine.old)) }
-    ensures makes { Makes E.dialect E.views result (config_of E.views (now) machine.old (E.shown engine.old)) machine.new (E.shown engine.new) }
+    ensures makes { Makes (E.dialect engine.old) E.views result (config_of E.views (now) machine.old (E.shown engine.old)) machine.new (E.shown engine.new) }
     ensures leaves { E.leaves (is_io result) engine.old engine.new }
 {
     match now {
@@ -233,35 +258,86 @@ pub(crate) fn make<E: Engine>(
     }
 }
 
-/// Turn after turn, until the machine is over.
+/// Turn after turn, until the machine is over, or a unit is wanting for the next one.
 pub(crate) fn go<E: Engine>(
     engine: &mut E,
     machine: &mut Machine<E::Activation, E::Undone, E::Owes>,
+    next: &mut Turn<E::Scope, E::Owes, E::Loop>,
 ) -> Result<Completion, Stop>
-    requires fits { Fits (config_of E.views turn.Next machine.old (E.shown engine.old)) }
-    requires unwinds { Unwinds (config_of E.views turn.Next machine.old (E.shown engine.old)) }
-    ensures ends { Ends E.dialect result (config_of E.views turn.Next machine.old (E.shown engine.old)) (E.shown engine.new) }
+    requires fits { Fits (config_of E.views next.old machine.old (E.shown engine.old)) }
+    requires unwinds { Unwinds (config_of E.views next.old machine.old (E.shown engine.old)) }
+    ensures ends { Ends (E.dialect engine.old) result (config_of E.views next.old machine.old (E.shown engine.old)) (config_of E.views next.new machine.new (E.shown engine.new)) }
     ensures leaves { E.leaves (is_io result) engine.old engine.new }
 {
-    let mut now = Turn::Next;
+    let mut now = mem::replace(next, Turn::Next);
     'used: loop {
         'begun: loop {
             'on: loop {
                 match make(engine, machine, now)? {
                     Made::Over(completion) => return Ok(completion),
-                    Made::On(next) => now = next,
-                    Made::Begun(next) => {
-                        now = next;
+                    Made::Unpaid(turn) => {
+                        *next = turn;
+                        return Err(Stop::Budget);
+                    }
+                    Made::On(turn) => now = turn,
+                    Made::Begun(turn) => {
+                        now = turn;
                         continue 'begun;
                     }
-                    Made::Used(next) => {
-                        now = next;
+                    Made::Used(turn) => {
+                        now = turn;
                         continue 'used;
                     }
                 }
             }
         }
     }
+}
+
+impl<A: Drop, U: Drop, S: Drop, O: Drop, L: Drop> Paused<A, U, S, O, L> {
+    /// A machine at the beginning of a code. It takes no memory.
+    pub fn new(alloc: Global, current: A) -> Paused<A, U, S, O, L>
+        ensures { result ≡ first_of current }
+    {
+        Paused {
+            machine: Machine {
+                current,
+                callers: Vec::new(alloc),
+                paid: 0,
+            },
+            next: Turn::Next,
+        }
+    }
+}
+
+/// A machine at the beginning of a script that stands in `depth - 1` others. Nothing is done, and no unit is spent.
+pub fn start<E: Engine>(
+    alloc: Global,
+    engine: &mut E,
+    script: Value,
+    depth: u64,
+) -> Result<Paused<E::Activation, E::Undone, E::Scope, E::Owes, E::Loop>, AllocError>
+    requires shallow { depth ≤ most_depth }
+    ensures begins { IfOk result (λ paused. Begins (E.dialect engine.old) script depth (seen E.views paused (E.shown engine.new))) }
+    ensures same { E.shown engine.new ≡ E.shown engine.old }
+    ensures leaves { E.leaves false engine.old engine.new }
+{
+    let current = engine.script(script, depth)?;
+    Ok(Paused::new(alloc, current))
+}
+
+/// Goes on with the units that the engine has. Where one is wanting, the machine stands where it goes on, and what was done isn't
+/// done again.
+pub fn resume<E: Engine>(
+    engine: &mut E,
+    paused: &mut Paused<E::Activation, E::Undone, E::Scope, E::Owes, E::Loop>,
+) -> Result<Completion, Stop>
+    requires fits { Fits (seen E.views paused.old (E.shown engine.old)) }
+    requires unwinds { Unwinds (seen E.views paused.old (E.shown engine.old)) }
+    ensures ends { Ends (E.dialect engine.old) result (seen E.views paused.old (E.shown engine.old)) (seen E.views paused.new (E.shown engine.new)) }
+    ensures leaves { E.leaves (is_io result) engine.old engine.new }
+{
+    go(engine, &mut paused.machine, &mut paused.next)
 }
 
 /// Runs a script that stands in `depth - 1` others. Its completion, what scripts keep and the channels afterwards are
@@ -273,16 +349,10 @@ pub fn run<E: Engine>(
     depth: u64,
 ) -> Result<Completion, Stop>
     requires shallow { depth ≤ most_depth }
-    requires units { (E.shown engine.old).units < 2 ^ 64 }
-    ensures follows { Follows result (Run E.dialect (Script depth nothing script) (E.shown engine.old)) (E.shown engine.new) }
+    ensures follows { Follows result (Run (E.dialect engine.old) (Script depth nothing script) (E.shown engine.old)) (E.shown engine.new) }
     ensures onward { Onward (E.shown engine.old) (E.shown engine.new) }
     ensures leaves { E.leaves (is_io result) engine.old engine.new }
 {
-    let current = engine.script(script, depth)?;
-    let mut machine = Machine {
-        current,
-        callers: Vec::new(alloc),
-        paid: 0,
-    };
-    go(engine, &mut machine)
+    let mut paused = start(alloc, engine, script, depth)?;
+    resume(engine, &mut paused)
 }

@@ -19,11 +19,13 @@ use Rattle.tcl_words.specs.declared.word.Form.{Form}
 use Rattle.tcl_words.specs.declared.word.Form.TheVariants as form
 use Rattle.tcl_words.specs.Parts.{Part, Shape, parts_of, var, bracket}
 use Rattle.tcl_words.specs.Words.{after_blanks, after_gaps, ends_word, after_name, kind_of, after_plain, at_variable_brace, at_brace, verbatim_at, braced_at, stretch, marked, form_of, closed, after_command, Inner, named, variable_at, bracket_at, piece_of, piece_at, pieces_at, quoted_at, word_of, word_at, next_word, words_at, first_at, commands_at, after_commands, closing, index_of, inner_at}
-use Rattle.tcl_words.proofs.Bracketed.{closed_by, behind, length_closed, place_alone, before_alone, stretch_alone, same_cond, ends_word_alone, Stays, name_alone, blanks_alone, gaps_alone, CutScan, variable_brace_alone, brace_alone, escape_alone}
+use Rattle.tcl_words.proofs.Bracketed.{closed_by, behind, length_closed, place_alone, before_alone, stretch_alone, ends_word_alone, Stays, gaps_alone, CutScan, variable_brace_alone, brace_alone, escape_alone}
+use Rattle.tcl_words.proofs.BeforeInert.{inert_bracket, kind_before, name_before, blanks_before}
+use Rattle.tcl_words.proofs.Longer.{same_cond}
 use Rattle.tcl_words.proofs.BracketedTurns.{Cut, cut_of, of_cut, turns_alone}
 use Rattle.tcl_chars.proofs.Ends.{always, ends_le, if_bind, if_cond, forward_shrinks}
 use Rattle.tcl_words.proofs.Forward.{Inside, plain_past, piece_forward, word_forward, first_forward, words_end, command_end, inner_inside}
-use Rattle.tcl_words.proofs.BracketedKinds.{tail_le, tail_lt, Clear, no_bracket, kind_bare, kind_quoted, kind_index, kind_at_bracket, plain_bare, plain_same, was_closed, closed_is_le, shape_rest, word_rest, ends_at_bracket, word_from, bracket_or_clear, no_blanks_at, command_from, command_rest, command_clear, command_alone, scan_of}
+use Rattle.tcl_words.proofs.BracketedKinds.{tail_le, tail_lt, Clear, no_bracket, kind_bare, kind_at_bracket, plain_bare, plain_same, was_closed, closed_is_le, shape_rest, word_rest, ends_at_bracket, word_from, bracket_or_clear, no_blanks_at, command_from, command_rest, command_clear, command_alone, scan_of}
 
 -- ---- pieces and words, where the same is known of what nests
 
@@ -101,11 +103,11 @@ module _ (n : ℕ) (y : List ℕ) (inner alone : Inner) (inside : Inside inner) 
 
   variable_at_alone : (G : List ℕ → Type 0) (c : ℕ) (t : List ℕ) → Cut y G (variable_at whole inner (closed_by (c ∷ t) y)) (variable_at n alone (c ∷ t))
   unfolding variable_at
-  variable_at_alone G c [] = rw (name_alone false [] y) (named_alone G (c ∷ []) [] (after_name false []))
+  variable_at_alone G c [] = rw (name_before false [] 93 y inert_bracket) (named_alone G (c ∷ []) [] (after_name false []))
   variable_at_alone G c (d ∷ t) =
       same_cond (Cut y G) (d == open_brace) _ _ _ _
       (bind_scan y G (at_variable_brace (closed_by t y)) (at_variable_brace t) _ _ (variable_brace_alone t y) (λ p. omega arith) (closed_variable G c d t))
-      (rw (name_alone false (d ∷ t) y) (named_alone G (c ∷ d ∷ t) (d ∷ t) (after_name false (d ∷ t))))
+      (rw (name_before false (d ∷ t) 93 y inert_bracket) (named_alone G (c ∷ d ∷ t) (d ∷ t) (after_name false (d ∷ t))))
 
   bracket_at_alone : (G : List ℕ → Type 0) (c : ℕ) (t : List ℕ) → Cut y G (bracket_at whole inner (closed_by (c ∷ t) y)) (bracket_at n alone (c ∷ t))
   bracket_at_alone G c t = bind_scan y G (inner.bracket (closed_by t y)) (alone.bracket t) _ _ (nests.bracket t) (λ p. omega arith) (closed_bracket G c t)
@@ -139,11 +141,11 @@ module _ (n : ℕ) (y : List ℕ) (inner alone : Inner) (inside : Inside inner) 
     | inr other ↦ rw (kind_bare b c t y (λ e. other)) (piece_of_alone (Clear b y) (mode.Bare true) (mode.Bare b) (kind_of (mode.Bare b) (c ∷ t)) c t (plain_bare b (c ∷ t) y))
   ]
 
-  piece_same : (m : Mode) → ((c : ℕ) (t y : List ℕ) → kind_of m (closed_by (c ∷ t) y) ≡ kind_of m (c ∷ t)) → ((y : List ℕ) → kind_of m (close_bracket ∷ y) ≡ kind.Plain)
+  piece_same : (m : Mode) → ((y : List ℕ) → kind_of m (close_bracket ∷ y) ≡ kind.Plain)
       → (t : List ℕ) → Cut y Any (piece_at whole inner m (closed_by t y)) (piece_at n alone m t)
   unfolding piece_at
-  piece_same m same at [] = rw (at y) (λ big fine. absurd (omega (arith, (plain_past m close_bracket y (at y)).less)))
-  piece_same m same at (c ∷ t) = rw (same c t y) (piece_of_alone Any m m (kind_of m (c ∷ t)) c t (λ fine. plain_same m same at (c ∷ t) y))
+  piece_same m at [] = rw (at y) (λ big fine. absurd (omega (arith, (plain_past m close_bracket y (at y)).less)))
+  piece_same m at (c ∷ t) = rw (kind_before m c t 93 y inert_bracket) (piece_of_alone Any m m (kind_of m (c ∷ t)) c t (λ fine. plain_same m at (c ∷ t) y))
 
   bare_halts : (b : Bool) (rest : List ℕ) → Clear b y rest ⊎ (piece_at whole inner (mode.Bare true) rest ≡ Ok (None, rest))
   unfolding piece_at
@@ -158,19 +160,19 @@ module _ (n : ℕ) (y : List ℕ) (inner alone : Inner) (inside : Inside inner) 
   bare_alone b t = turns_alone y (Clear b y) (piece_at whole inner (mode.Bare true)) (piece_at n alone (mode.Bare b)) (record { same = piece_bare b; halts = bare_halts b })
       (forward_shrinks (piece_at whole inner (mode.Bare true)) (piece_forward whole inner inside (mode.Bare true))) (forward_shrinks (piece_at n alone (mode.Bare b)) (piece_forward n alone inside_alone (mode.Bare b))) t
 
-  pieces_alone : (m : Mode) → ((c : ℕ) (t y : List ℕ) → kind_of m (closed_by (c ∷ t) y) ≡ kind_of m (c ∷ t)) → ((y : List ℕ) → kind_of m (close_bracket ∷ y) ≡ kind.Plain)
+  pieces_alone : (m : Mode) → ((y : List ℕ) → kind_of m (close_bracket ∷ y) ≡ kind.Plain)
       → (t : List ℕ) → Cut y Any (pieces_at whole inner m (closed_by t y)) (pieces_at n alone m t)
   unfolding pieces_at
-  pieces_alone m same at t = turns_alone y Any (piece_at whole inner m) (piece_at n alone m) (record { same = piece_same m same at; halts = λ rest. inl tt })
+  pieces_alone m at t = turns_alone y Any (piece_at whole inner m) (piece_at n alone m) (record { same = piece_same m at; halts = λ rest. inl tt })
       (forward_shrinks (piece_at whole inner m) (piece_forward whole inner inside m)) (forward_shrinks (piece_at n alone m) (piece_forward n alone inside_alone m)) t
 
   quoted_alone : (t : List ℕ) → Cut y Any (pieces_at whole inner mode.Quoted (closed_by t y)) (pieces_at n alone mode.Quoted t)
   unfolding kind_of
-  quoted_alone t = pieces_alone mode.Quoted kind_quoted (λ y. refl) t
+  quoted_alone t = pieces_alone mode.Quoted (λ y. refl) t
 
   index_alone : (t : List ℕ) → Cut y Any (pieces_at whole inner mode.Index (closed_by t y)) (pieces_at n alone mode.Index t)
   unfolding kind_of
-  index_alone t = pieces_alone mode.Index kind_index (λ y. refl) t
+  index_alone t = pieces_alone mode.Index (λ y. refl) t
 
   ends_alone : (b : Bool) (s : List ℕ) → Clear b y (closed_by s y) → ends_word true (closed_by s y) ≡ ends_word b s
   ends_alone b [] fine = refl
@@ -269,7 +271,7 @@ module _ (n : ℕ) (y : List ℕ) (inner alone : Inner) (inside : Inside inner) 
 
   next_alone : (b : Bool) (t : List ℕ) → Cut y (Clear b y) (next_word whole inner true (closed_by t y)) (next_word n alone b t)
   unfolding next_word
-  next_alone b t = rw (blanks_alone t y) (next_from b (after_blanks t))
+  next_alone b t = rw (blanks_before t 93 y inert_bracket (no_blanks_at y)) (next_from b (after_blanks t))
 
   word_halts : (b : Bool) (rest : List ℕ) → Clear b y rest ⊎ (next_word whole inner true rest ≡ Ok (None, rest))
   unfolding next_word

@@ -1,20 +1,21 @@
 -- What is scanned before a `]` is scanned so where the text ends there.
-use Rattle.std.proofs.Common.{◌≡◌, ℕ, suc, ◌+◌, ◌-◌, ◌<◌, ◌≤◌, Bool, true, false, cond, ◌&&◌, ◌||◌, ◌==◌, List, [], ◌∷◌, ◌++◌, length, take, drop, Result, Ok, Err, refl, ap, ◌∙◌, arith, length-append}
+use Rattle.std.proofs.Common.{◌≡◌, ℕ, suc, ◌+◌, ◌-◌, ◌<◌, ◌≤◌, Bool, true, false, ◌&&◌, ◌||◌, ◌==◌, List, [], ◌∷◌, ◌++◌, length, take, drop, Result, Ok, Err, refl, ap, ◌∙◌, arith, length-append}
 use Rattle.std.specs.Prelude.{IfOk, encode_utf8_all}
 use Rattle.std.proofs.lemmas.List.{take-append-le, drop-append-le}
 use Rattle.std.proofs.lemmas.Str.{encodes-append}
-use Rattle.std.proofs.Math.Bool.{and-false}
-use Rattle.tcl_chars.specs.Characters.{newline, backslash, semicolon, number_sign, colon, close_bracket, close_brace, open_brace}
-use Rattle.tcl_chars.specs.Classes.{is_word_space, is_name_char}
+use Rattle.tcl_chars.specs.Characters.{newline, backslash, semicolon, number_sign, close_bracket, close_brace, open_brace}
+use Rattle.tcl_chars.specs.Classes.{is_word_space}
 use Rattle.tcl_chars.specs.Escape.{escape, escape_of, by_control, control_of}
 use Rattle.tcl_chars.specs.Place.{begins, before, place, bytes}
 use Rattle.tcl_words.specs.declared.blanks.Gap.{Gap}
 use Rattle.tcl_words.specs.declared.blanks.Gap.TheVariants as gap
 use Rattle.tcl_words.specs.declared.fault.Syntax.{Syntax}
-use Rattle.tcl_words.specs.Words.{after_blanks, after_gaps, ends_word, after_name, begins_variable, at_variable_brace, at_brace, stretch}
+use Rattle.tcl_words.specs.Words.{after_gaps, ends_word, at_variable_brace, at_brace, stretch}
 use Rattle.tcl_chars.proofs.Ends.{ends_le, if_weak}
-use Rattle.tcl_chars.proofs.EscapesLemmas.{StopsEscapes, escape_before, escape_takes_next}
+use Rattle.tcl_chars.proofs.EscapesLemmas.{escape_before, escape_takes_next}
+use Rattle.tcl_words.proofs.BeforeInert.{inert_bracket, begins_before}
 use Rattle.tcl_words.proofs.Forward.{gaps_end, variable_brace_end, brace_end}
+use Rattle.tcl_words.proofs.Longer.{same_cond}
 
 -- the text with a bracket behind it
 abbrev pub closed_by : List ℕ → List ℕ → List ℕ
@@ -40,23 +41,11 @@ before_alone a b y =
 pub stretch_alone : (n : ℕ) (a b y : List ℕ) → stretch (n + bytes (close_bracket ∷ y)) (closed_by a y) (closed_by b y) ≡ stretch n a b
 stretch_alone n a b y = rw (place_alone n a y, before_alone a b y) refl
 
-pub same_cond : {A : Type 0} (P : A → A → Type 0) (b : Bool) (x y u v : A) → P x u → P y v → P (cond b x y) (cond b u v)
-same_cond P true x y u v h k = h
-same_cond P false x y u v h k = k
-
 -- ---- looks ahead
 
-pub begins_alone : (d : ℕ) (t y : List ℕ) → (close_bracket == d) ≡ false → begins d (closed_by t y) ≡ begins d t
-begins_alone d [] y h = h
-begins_alone d (c ∷ t) y h = refl
-
-pub variable_alone : (t y : List ℕ) → begins_variable (closed_by t y) ≡ begins_variable t
-variable_alone [] y = refl
-variable_alone (c ∷ t) y = rw (begins_alone colon t y refl) refl
-
 pub ends_word_alone : (c : ℕ) (t y : List ℕ) (b : Bool) → (b ≡ false → (c == close_bracket) ≡ false) → ends_word true (closed_by (c ∷ t) y) ≡ ends_word b (c ∷ t)
-ends_word_alone c t y true h = rw (begins_alone newline t y refl) refl
-ends_word_alone c t y false h = rw (begins_alone newline t y refl, h refl) refl
+ends_word_alone c t y true h = rw (begins_before newline t 93 y refl) refl
+ends_word_alone c t y false h = rw (begins_before newline t 93 y refl, h refl) refl
 
 -- ---- scans
 
@@ -64,29 +53,13 @@ ends_word_alone c t y false h = rw (begins_alone newline t y refl, h refl) refl
 abbrev pub Stays : List ℕ → List ℕ → List ℕ → Type 0
 Stays y rest alone = behind y ≤ length rest → rest ≡ closed_by alone y
 
-pub name_alone : (f : Bool) (t y : List ℕ) → after_name f (closed_by t y) ≡ closed_by (after_name f t) y
-unfolding after_name
-name_alone f [] y = refl
-name_alone f (c ∷ t) y =
-    rw (begins_alone colon t y refl) (same_cond (λ x u. x ≡ closed_by u y) (is_name_char c) _ _ _ _ (name_alone false t y)
-    (same_cond (λ x u. x ≡ closed_by u y) (c == colon && (f || begins colon t)) _ _ _ _ (name_alone true t y) refl))
-
-pub blanks_alone : (t y : List ℕ) → after_blanks (closed_by t y) ≡ closed_by (after_blanks t) y
-unfolding after_blanks
-blanks_alone [] [] = refl
-blanks_alone [] (d ∷ y) = refl
-blanks_alone (c ∷ []) y = same_cond (λ x u. x ≡ closed_by u y) (is_word_space c) _ _ _ _ (blanks_alone [] y) (rw (and-false (c == backslash)) refl)
-blanks_alone (c ∷ d ∷ t) y =
-    same_cond (λ x u. x ≡ closed_by u y) (is_word_space c) _ _ _ _ (blanks_alone (d ∷ t) y)
-    (same_cond (λ x u. x ≡ closed_by u y) (c == backslash && d == newline) _ _ _ _ (blanks_alone t y) refl)
-
 pub gaps_alone : (g : Gap) (t y : List ℕ) → Stays y (after_gaps g (closed_by t y)) (after_gaps g t)
 unfolding after_gaps
 gaps_alone gap.Between [] y = λ h. refl
 gaps_alone (gap.Comment true) [] y = λ h. absurd (omega (arith, ends_le y _ (gaps_end (gap.Comment false) y)))
 gaps_alone (gap.Comment false) [] y = λ h. absurd (omega (arith, ends_le y _ (gaps_end (gap.Comment false) y)))
 gaps_alone gap.Between (c ∷ t) y =
-    rw (begins_alone newline t y refl) (same_cond (Stays y) (is_word_space c || c == newline || c == semicolon || (c == backslash && begins newline t)) _ _ _ _ (gaps_alone gap.Between t y)
+    rw (begins_before newline t 93 y refl) (same_cond (Stays y) (is_word_space c || c == newline || c == semicolon || (c == backslash && begins newline t)) _ _ _ _ (gaps_alone gap.Between t y)
     (same_cond (Stays y) (c == number_sign) _ _ _ _ (gaps_alone (gap.Comment false) t y) (λ h. refl)))
 gaps_alone (gap.Comment hidden) (c ∷ t) y =
     same_cond (Stays y) hidden _ _ _ _ (gaps_alone (gap.Comment false) t y)
@@ -118,13 +91,10 @@ brace_alone h d (c ∷ t) y =
 
 -- ---- escapes
 
-stops : StopsEscapes close_bracket
-stops = record { no_octal = refl; no_digit = refl; no_blank = refl }
-
 pub escape_alone : (b : ℕ) (t y : List ℕ) → (let here = closed_by (b ∷ t) y in behind y ≤ length (drop (escape here).1 here) → ((escape here).0 ≡ (escape (b ∷ t)).0) × (drop (escape here).1 here ≡ closed_by (drop (escape (b ∷ t)).1 (b ∷ t)) y))
 unfolding escape_of
-escape_alone b [] y = rw (escape_takes_next b close_bracket y stops refl refl refl) (λ h. absurd (omega (arith, h)))
+escape_alone b [] y = rw (escape_takes_next b close_bracket y inert_bracket.no_escape refl refl refl) (λ h. absurd (omega (arith, h)))
 escape_alone b (c ∷ t) y = λ h.
-    let s = escape_before b c t close_bracket y stops in
+    let s = escape_before b c t close_bracket y inert_bracket.no_escape in
     let k = (by_control c t (control_of c)).1 in
     (ap (λ p. p.0) s.same, ap (λ (p : ℕ × ℕ). drop p.1 (closed_by (b ∷ c ∷ t) y)) s.same ∙ drop-append-le k (b ∷ c ∷ t) (close_bracket ∷ y) (omega (arith, s.inside)))

@@ -12,10 +12,12 @@ use Rattle.tcl_words.specs.declared.front.Mode.{Mode}
 use Rattle.tcl_words.specs.declared.front.Mode.TheVariants as mode
 use Rattle.tcl_words.specs.Parts.{Shape}
 use Rattle.tcl_words.specs.Words.{after_blanks, ends_word, kind_of, is_plain, after_plain, closed, after_command, Inner, word_at, words_at}
-use Rattle.tcl_words.proofs.Bracketed.{closed_by, behind, length_closed, same_cond, variable_alone, ends_word_alone, Stays, CutScan}
+use Rattle.tcl_words.proofs.BeforeInert.{inert_bracket, variable_before, kind_before}
+use Rattle.tcl_words.proofs.Bracketed.{closed_by, behind, length_closed, ends_word_alone, Stays, CutScan}
 use Rattle.tcl_words.proofs.BracketedTurns.{Cut}
 use Rattle.tcl_chars.proofs.Ends.{ends_le, if_cond}
 use Rattle.tcl_words.proofs.Forward.{plain_end}
+use Rattle.tcl_words.proofs.Longer.{same_cond}
 
 pub tail_le : (cs : List ℕ) → length (tail cs) ≤ length cs
 tail_le [] = omega arith
@@ -45,15 +47,7 @@ no_bracket b c t y h off =
 
 pub kind_bare : (b : Bool) (c : ℕ) (t y : List ℕ) → (b ≡ false → (c == close_bracket) ≡ false) → kind_of (mode.Bare true) (closed_by (c ∷ t) y) ≡ kind_of (mode.Bare b) (c ∷ t)
 unfolding kind_of
-kind_bare b c t y h = rw (ends_word_alone c t y b h, variable_alone t y) refl
-
-pub kind_quoted : (c : ℕ) (t y : List ℕ) → kind_of mode.Quoted (closed_by (c ∷ t) y) ≡ kind_of mode.Quoted (c ∷ t)
-unfolding kind_of
-kind_quoted c t y = rw (variable_alone t y) refl
-
-pub kind_index : (c : ℕ) (t y : List ℕ) → kind_of mode.Index (closed_by (c ∷ t) y) ≡ kind_of mode.Index (c ∷ t)
-unfolding kind_of
-kind_index c t y = rw (variable_alone t y) refl
+kind_bare b c t y h = rw (ends_word_alone c t y b h, variable_before t 93 y inert_bracket) refl
 
 pub kind_at_bracket : (c : ℕ) (rest : List ℕ) → (c == close_bracket) ≡ true → kind_of (mode.Bare true) (c ∷ rest) ≡ kind.Ends
 unfolding kind_of
@@ -72,10 +66,10 @@ plain_bare b (c ∷ t) y = elim (cases_Bool (c == close_bracket)) [
   | inr other ↦ rw (kind_bare b c t y (λ e. other)) (same_cond (λ x u. Clear b y x → Stays y x u) (is_plain (kind_of (mode.Bare b) (c ∷ t))) _ _ _ _ (plain_bare b t y) (λ h k. refl))
 ]
 
-pub plain_same : (m : Mode) → ((c : ℕ) (t y : List ℕ) → kind_of m (closed_by (c ∷ t) y) ≡ kind_of m (c ∷ t)) → ((y : List ℕ) → kind_of m (close_bracket ∷ y) ≡ kind.Plain) → (t y : List ℕ) → Stays y (after_plain m (closed_by t y)) (after_plain m t)
+pub plain_same : (m : Mode) → ((y : List ℕ) → kind_of m (close_bracket ∷ y) ≡ kind.Plain) → (t y : List ℕ) → Stays y (after_plain m (closed_by t y)) (after_plain m t)
 unfolding after_plain
-plain_same m same at [] y = rw (at y) (λ h. absurd (omega (arith, ends_le y _ (plain_end m y))))
-plain_same m same at (c ∷ t) y = rw (same c t y) (same_cond (Stays y) (is_plain (kind_of m (c ∷ t))) _ _ _ _ (plain_same m same at t y) (λ h. refl))
+plain_same m at [] y = rw (at y) (λ h. absurd (omega (arith, ends_le y _ (plain_end m y))))
+plain_same m at (c ∷ t) y = rw (kind_before m c t 93 y inert_bracket) (same_cond (Stays y) (is_plain (kind_of m (c ∷ t))) _ _ _ _ (plain_same m at t y) (λ h. refl))
 
 pub taken : {A : Type 0} (b : Bool) (m : Syntax) (x p : A) → cond b (Ok x) (Err m) ≡ Ok p → (b ≡ true) × (x ≡ p)
 taken true m x p e = (refl, cc)

@@ -15,12 +15,12 @@ use Rattle.tcl_words.specs.Words.{after_blanks, after_gaps, ends_word, after_com
 use Rattle.tcl_words.proofs.BeforeInert.{inert_backslash, blanks_before, gaps_before}
 use Rattle.tcl_chars.proofs.Ends.{forward_shrinks}
 use Rattle.tcl_words.proofs.Fills.{Leaves, LeavesSome, some_bind, some_ok, turn_then, turn_last}
-use Rattle.tcl_words.proofs.FillsPieces.{Filled, over_same, over_behind, kept_turn}
+use Rattle.tcl_words.proofs.FillsPieces.{Filled, over_behind, kept_turn}
 use Rattle.tcl_words.proofs.FillsWords.{Stop, stop_before, stop_ends, stop_blanks, backslash_blanks, ends_colon, ends_backslash, WordFills, word_fill, colon_at, backslash_at}
 use Rattle.tcl_words.proofs.Forward.{word_forward, inner_inside}
 use Rattle.tcl_words.proofs.Longer.{some, firm, blanks_longer, gaps_longer, ends_longer}
 use Rattle.tcl_words.proofs.LongerPieces.{firm_some}
-use Rattle.tcl_words.proofs.LongerTurns.{Over}
+use Rattle.tcl_words.proofs.LongerTurns.{LeftSome, Over, over_same}
 use Rattle.tcl_words.proofs.LongerWords.{Mere, mere_colon, mere_backslash, mere, mere_open, inner_nested, next_kept}
 use Rattle.tcl_words.proofs.ReadIsSpelled.{next_ends, nest_spelled}
 
@@ -222,7 +222,7 @@ module _ (n levels : ℕ) (below : Filled n levels) where
     more,
     λ big d z s.
         let y = more ++ d ∷ z in
-        then_words nested big (t ++ y) (rest ++ y) (d ∷ z) (kept_turn y t (next_word n inner nested t) _ x rest (next_kept n big levels y (inner_nested n big y levels) nested t) e h) (fills big d z s),
+        then_words nested big (t ++ y) (rest ++ y) (d ∷ z) (kept_turn LeftSome y t (next_word n inner nested t) _ x rest (next_kept n big levels y (inner_nested n big y levels) nested t) e h) (fills big d z s),
   )
 
   -- a word ends neither at a colon nor at a lone backslash

@@ -15,11 +15,11 @@ use Rattle.tcl_words.specs.Words.{after_gaps, ends_word, after_command, Inner, i
 use Rattle.tcl_chars.proofs.Ends.{forward_shrinks, if_ok}
 use Rattle.tcl_words.proofs.Fills.{Leaves, LeavesSome, Fills, leaves_bind, some_ok, turn_then, turn_last, Unmoved}
 use Rattle.tcl_words.proofs.FillsCommands.{from_none, from_some, command_bind, gaps_fill, first_fill, first_open}
-use Rattle.tcl_words.proofs.FillsPieces.{ends_index, Filled, over_same, over_behind, pieces_fill}
+use Rattle.tcl_words.proofs.FillsPieces.{ends_index, Filled, over_behind, pieces_fill}
 use Rattle.tcl_words.proofs.FillsWords.{at_bracket, kept_leaves, long_pieces}
 use Rattle.tcl_words.proofs.Forward.{first_forward, inner_inside}
 use Rattle.tcl_words.proofs.Longer.{some, firm, gaps_longer, ends_longer}
-use Rattle.tcl_words.proofs.LongerTurns.{Kept, Over}
+use Rattle.tcl_words.proofs.LongerTurns.{Kept, Open, Over, over_same}
 use Rattle.tcl_words.proofs.LongerWords.{inner_nested, words_kept, words_over, command_longer}
 use Rattle.tcl_words.proofs.ReadIsSpelled.{pieces_end_there, pieces_spelled, nest_spelled}
 use Rattle.tcl_words.specs.Spelling.{Pieces}
@@ -43,7 +43,7 @@ index_over (Err m) f e o = let same : m ≡ f = cc in rw same o
 index_over (Ok p) f e o = absurd cc
 
 -- an index that ends has its `)`
-index_whole : (w t : List ℕ) (r l : Result (List Part × List ℕ) Syntax) → ((ps : List Part) (rest : List ℕ) → r ≡ Ok (ps, rest) → begins close_paren rest ≡ true) → Kept some w t r l
+index_whole : (w t : List ℕ) (r l : Result (List Part × List ℕ) Syntax) → ((ps : List Part) (rest : List ℕ) → r ≡ Ok (ps, rest) → begins close_paren rest ≡ true) → Kept Open some w t r l
     → Unmoved w (r >>= λ found. Ok (index_of found)) (l >>= λ found. Ok (index_of found))
 index_whole w t (Err m) l h k = tt
 index_whole w t (Ok (ps, [])) l h k = absurd (let e = h ps [] refl in cc)
@@ -106,7 +106,7 @@ module _ (n levels : ℕ) (below : Filled n levels) where
   unfolding first_at
   whole_firm nested big t y x s h open_ e k =
       let rest = after_gaps gap.Between t in
-      let read : Leaves (s ++ y) (words_at big (long big) nested (rest ++ y)) = kept_leaves n levels below y rest (words_at n inner nested rest) _ x s (words_kept n big levels y (inner_nested n big y levels) nested rest) e k in
+      let read : Leaves (s ++ y) (words_at big (long big) nested (rest ++ y)) = kept_leaves n levels below Over y rest (words_at n inner nested rest) _ x s (words_kept n big levels y (inner_nested n big y levels) nested rest) e k in
       let left : LeavesSome (after_command (s ++ y)) (words_at big (long big) nested (rest ++ y) >>= λ x. Ok (Some x.0, after_command x.1)) = command_bind (s ++ y) (words_at big (long big) nested (rest ++ y)) read in
       rw (gaps_longer gap.Between t y h, ends_longer nested rest y h ∙ open_, ← command_longer s y k) left
 

@@ -14,16 +14,15 @@ use Rattle.tcl_words.specs.declared.front.Mode.TheVariants as mode
 use Rattle.tcl_words.specs.Complete.{is_open}
 use Rattle.tcl_words.specs.Parts.{Part, Parts, var}
 use Rattle.tcl_words.specs.Words.{after_name, kind_of, after_plain, at_variable_brace, Inner, inner_at, named, variable_at, bracket_at, piece_of, piece_at, pieces_at, stretch}
-use Rattle.tcl_words.proofs.Bracketed.{same_cond}
-use Rattle.tcl_words.proofs.BeforeInert.{Inert, inert_quote, inert_paren, inert_semicolon, inert_backslash, inert_bracket, no_brace, no_paren, kind_before, plain_before, name_before, escape_rest_before, double_backslash}
+use Rattle.tcl_words.proofs.BeforeInert.{Inert, inert_quote, inert_paren, inert_semicolon, inert_backslash, inert_bracket, kind_before, plain_before, name_before, escape_rest_before, double_backslash}
 use Rattle.tcl_chars.proofs.Ends.{forward_shrinks, always, if_bind, if_ok}
 use Rattle.tcl_words.proofs.Fills.{Leaves, LeavesSome, Fills, FillsSome, leaves_bind, some_bind, some_ok, turn_then, turn_last, bind_err, Unmoved, UnmovedTurn, unmoved_bind, unmoved_some}
 use Rattle.tcl_words.proofs.Forward.{piece_forward, inner_inside}
 use Rattle.tcl_words.proofs.Levels.{backslashed_begins}
-use Rattle.tcl_words.proofs.Longer.{some, firm, Scanned, name_longer, variable_brace_longer}
+use Rattle.tcl_words.proofs.Longer.{same_cond, some, firm, Scanned, name_longer, variable_brace_longer}
 use Rattle.tcl_words.proofs.LongerKinds.{settled, Short, nothing, backslash_alone, dollar_alone, colon_alone, dollar_colon, unsettled, kind_longer, colon_plain, dollar_plain, dollar_colon_plain, backslash_kind, plain_colon}
 use Rattle.tcl_words.proofs.LongerPieces.{KeptScan, piece_kept}
-use Rattle.tcl_words.proofs.LongerTurns.{KeptTurn, Over}
+use Rattle.tcl_words.proofs.LongerTurns.{KeptTurn, Open, Over, over_same}
 use Rattle.tcl_words.proofs.LongerWords.{Mere, mere_colon, mere_backslash, mere, inner_nested}
 
 -- what ends pieces
@@ -145,16 +144,13 @@ abbrev NoneSome : {A : Type 0} → Option A → List ℕ → Type 0
 NoneSome None rest = some rest ≡ true
 NoneSome (Some x) rest = Unit {0}
 
-pub kept_turn : {A : Type 0} (y cs : List ℕ) (r l : Result (Option A × List ℕ) Syntax) (x : A) (rest : List ℕ) → KeptTurn y cs r l → r ≡ Ok (Some x, rest) → firm rest ≡ true → LeavesSome (rest ++ y) l
-kept_turn {A = A} y cs r l x rest h e s =
-    let P : Result (Option A × List ℕ) Syntax → Type 0 = λ q. KeptTurn y cs q l in
+pub kept_turn : {A : Type 0} (R : Result (Option A × List ℕ) Syntax → Type 0) (y cs : List ℕ) (r l : Result (Option A × List ℕ) Syntax) (x : A) (rest : List ℕ) → KeptTurn R y cs r l → r ≡ Ok (Some x, rest) → firm rest ≡ true → LeavesSome (rest ++ y) l
+kept_turn {A = A} R y cs r l x rest h e s =
+    let P : Result (Option A × List ℕ) Syntax → Type 0 = λ q. KeptTurn R y cs q l in
     let Q : Result (Option A × List ℕ) Syntax → Type 0 = λ q. LeavesSome (rest ++ y) q in
     let kept : P (Ok (Some x, rest)) = subst P e h in
     let (z, same) = kept s in
     subst Q (sym same) refl
-
-pub over_same : {A : Type 0} (r s : Result (A × List ℕ) Syntax) → r ≡ s → Over r → Over s
-over_same {A = A} r s e h = let P : Result (A × List ℕ) Syntax → Type 0 = λ q. Over q in subst P e h
 
 pub over_behind : {A : Type 0} (front : List A) (r : Result (List A × List ℕ) Syntax) → Over (with_front front r) → Over r
 over_behind front (Ok p) h = h
@@ -233,14 +229,14 @@ module _ (n levels : ℕ) (below : Filled n levels) where
   bracket_unmoved big w c t = scan_before w (inner.bracket t) ((long big).bracket (t ++ w)) _ _ (scan_any w t _ _ ((inner_nested n big w levels).bracket t)) (λ d s. refl)
 
   named_unmoved : (big : ℕ) (cs name csl namel rest : List ℕ) (d : ℕ) (y : List ℕ) → Inert d → Unmoved (d ∷ y) (named n inner cs name rest) (named big (long big) csl namel (rest ++ d ∷ y))
-  named_unmoved big cs name csl namel [] d y h = rw (no_paren d h) refl
+  named_unmoved big cs name csl namel [] d y h = rw h.no_paren refl
   named_unmoved big cs name csl namel (c ∷ rest) d y h =
       same_cond (Unmoved {A = Part} (d ∷ y)) (c == open_paren) _ _ _ _
       (unmoved_bind (d ∷ y) (inner.index rest) ((long big).index (rest ++ d ∷ y)) _ _ (below.whole_index rest (d ∷ y) big) (λ p x. refl)) refl
 
   variable_unmoved : (big c : ℕ) (t : List ℕ) (d : ℕ) (y : List ℕ) → Inert d → Unmoved (d ∷ y) (variable_at n inner (c ∷ t)) (variable_at big (long big) (c ∷ (t ++ d ∷ y)))
   unfolding variable_at after_name
-  variable_unmoved big c [] d y h = rw (no_brace d h, name_before false [] d y h) (named_unmoved big (c ∷ []) [] (c ∷ d ∷ y) (d ∷ y) [] d y h)
+  variable_unmoved big c [] d y h = rw (h.no_brace, name_before false [] d y h) (named_unmoved big (c ∷ []) [] (c ∷ d ∷ y) (d ∷ y) [] d y h)
   variable_unmoved big c (e ∷ t) d y h =
       rw (name_before false (e ∷ t) d y h)
       (same_cond (Unmoved {A = Part} (d ∷ y)) (e == open_brace) _ _ _ _
@@ -325,7 +321,7 @@ module _ (n levels : ℕ) (below : Filled n levels) where
     λ big d z end.
         let y = more ++ d ∷ z in
         then_pieces m big (c ∷ (t ++ y)) (rest ++ y) (d ∷ z)
-        (kept_turn y (c ∷ t) (piece_at n inner m (c ∷ t)) _ x rest (piece_kept n big y inner (long big) (inner_inside n levels) (inner_inside big levels) (inner_nested n big y levels) m (c ∷ t)) e h) (fills big d z end),
+        (kept_turn Open y (c ∷ t) (piece_at n inner m (c ∷ t)) _ x rest (piece_kept n big y inner (long big) (inner_inside n levels) (inner_inside big levels) (inner_nested n big y levels) m (c ∷ t)) e h) (fills big d z end),
   )
 
   -- a turn that gives nothing leaves all

@@ -15,11 +15,11 @@ use Rattle.tcl_words.specs.Parts.{Part, Shape}
 use Rattle.tcl_words.specs.Words.{after_blanks, ends_word, at_brace, braced_at, form_of, closed, Inner, inner_at, pieces_at, quoted_at, word_of, word_at}
 use Rattle.tcl_words.proofs.BeforeInert.{Inert, inert_semicolon, inert_bracket}
 use Rattle.tcl_words.proofs.Fills.{Leaves, Fills, leaves_bind, Unmoved}
-use Rattle.tcl_words.proofs.FillsPieces.{Ender, ends_quoted, ends_bare, ends_bracket, Filled, scan_before, scan_brace, over_same, pieces_fill, lone_fill, colon_fill}
+use Rattle.tcl_words.proofs.FillsPieces.{Ender, ends_quoted, ends_bare, ends_bracket, Filled, scan_before, scan_brace, pieces_fill, lone_fill, colon_fill}
 use Rattle.tcl_words.proofs.Forward.{inner_inside}
 use Rattle.tcl_words.proofs.Longer.{some, firm, brace_longer, ends_longer}
 use Rattle.tcl_words.proofs.LongerPieces.{inside_fine, pieces_kept}
-use Rattle.tcl_words.proofs.LongerTurns.{Kept, Over}
+use Rattle.tcl_words.proofs.LongerTurns.{Kept, Open, Over, over_same}
 use Rattle.tcl_words.proofs.LongerWords.{Mere, mere_colon, mere_backslash, mere, inner_nested}
 
 -- ---- braces
@@ -168,15 +168,15 @@ module _ (n levels : ℕ) (below : Filled n levels) where
   unfolding quoted_at
   at_quote big c t z h = leaves_bind (34 ∷ z) z (pieces_at big (long big) mode.Quoted t) _ h (λ x. refl)
 
-  pub kept_leaves : {A : Type 0} (y cs : List ℕ) (r l : Result (A × List ℕ) Syntax) (x : A) (rest : List ℕ) → Kept some y cs r l → r ≡ Ok (x, rest) → some rest ≡ true → Leaves (rest ++ y) l
-  kept_leaves {A = A} y cs r l x rest h e s =
-      let P : Result (A × List ℕ) Syntax → Type 0 = λ q. Kept some y cs q l in
+  pub kept_leaves : {A : Type 0} (R : Result (A × List ℕ) Syntax → Type 0) (y cs : List ℕ) (r l : Result (A × List ℕ) Syntax) (x : A) (rest : List ℕ) → Kept R some y cs r l → r ≡ Ok (x, rest) → some rest ≡ true → Leaves (rest ++ y) l
+  kept_leaves {A = A} R y cs r l x rest h e s =
+      let P : Result (A × List ℕ) Syntax → Type 0 = λ q. Kept R some y cs q l in
       let kept : P (Ok (x, rest)) = subst P e h in
       let (z, same) = kept s in
       let Q : Result (A × List ℕ) Syntax → Type 0 = λ q. Leaves (rest ++ y) q in
       subst Q (sym same) refl
 
-  pub long_pieces : (big : ℕ) (y t : List ℕ) (m : Mode) → Kept some y t (pieces_at n inner m t) (pieces_at big (long big) m (t ++ y))
+  pub long_pieces : (big : ℕ) (y t : List ℕ) (m : Mode) → Kept Open some y t (pieces_at n inner m t) (pieces_at big (long big) m (t ++ y))
   long_pieces big y t m = pieces_kept n big y inner (long big) (inner_inside n levels) (inner_inside big levels) (inner_nested n big y levels) m t
 
   open_quoted : (c : ℕ) (t : List ℕ) → Over (pieces_at n inner mode.Quoted t) → (let F : ℕ → List ℕ → Result (List Part × List ℕ) Syntax = λ big w. quoted_at big (long big) (c ∷ (t ++ w)) in Fills F)
@@ -196,7 +196,7 @@ module _ (n levels : ℕ) (below : Filled n levels) where
   quoted_of c t (Ok (ps, a ∷ s)) e over = (
     [],
     λ big z.
-        let at : Leaves (a ∷ (s ++ z)) (pieces_at big (long big) mode.Quoted (t ++ z)) = kept_leaves z t (pieces_at n inner mode.Quoted t) _ ps (a ∷ s) (long_pieces big z t mode.Quoted) e refl in
+        let at : Leaves (a ∷ (s ++ z)) (pieces_at big (long big) mode.Quoted (t ++ z)) = kept_leaves Open z t (pieces_at n inner mode.Quoted t) _ ps (a ∷ s) (long_pieces big z t mode.Quoted) e refl in
         leaves_bind (a ∷ (s ++ z)) z (pieces_at big (long big) mode.Quoted (t ++ z)) _ at (λ x. ap (λ (u : List ℕ). u ++ z) over),
   )
 

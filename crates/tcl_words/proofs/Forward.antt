@@ -1,10 +1,10 @@
 -- What each reading leaves ends its text, and is shorter where the reading gives something.
-use Rattle.std.proofs.Common.{◌≡◌, ℕ, zero, suc, ◌+◌, ◌-◌, ◌≤◌, Bool, true, false, cond, ◌&&◌, ◌||◌, ◌==◌, List, [], ◌∷◌, drop, Option, Some, None, Result, Ok, Err, refl, arith, inl, inr}
+use Rattle.std.proofs.Common.{◌≡◌, ℕ, zero, suc, ◌+◌, ◌-◌, Bool, true, false, cond, ◌&&◌, ◌||◌, ◌==◌, List, [], ◌∷◌, drop, Result, Ok, Err, refl, inl, inr}
 use Rattle.std.specs.Prelude.{IfOk, IsSome, if◌then◌else◌}
 use Rattle.std.proofs.lemmas.Bool.{cases_Bool, or_parts}
 use Rattle.tcl_chars.specs.Characters.{newline, backslash, semicolon, quote, number_sign, dollar, colon, open_bracket, close_bracket, open_paren, open_brace, close_brace}
 use Rattle.tcl_chars.specs.Classes.{is_word_space, is_name_char}
-use Rattle.tcl_chars.specs.Escape.{escape, escape_of, by_control, by_code_form, control_of, code_form, octal_or_self, longest_run}
+use Rattle.tcl_chars.specs.Escape.{escape}
 use Rattle.tcl_chars.specs.Place.{EndsWith, begins, tail, before, place}
 use Rattle.tcl_chars.specs.Reading.{all_turns}
 use Rattle.tcl_words.specs.declared.blanks.Gap.{Gap}
@@ -19,6 +19,7 @@ use Rattle.tcl_words.specs.declared.word.Form.{Form}
 use Rattle.tcl_words.specs.declared.word.Form.TheVariants as form
 use Rattle.tcl_words.specs.Parts.{Shape}
 use Rattle.tcl_words.specs.Words.{lone_at, operand_at, after_blanks, after_gaps, ends_word, after_name, begins_variable, kind_of, is_plain, after_plain, at_variable_brace, at_brace, after_verbatim, begins_hidden_newline, marked, form_of, closed, after_command, verbatim_at, braced_at, Inner, named, variable_at, bracket_at, piece_of, piece_at, pieces_at, quoted_at, word_of, word_at, next_word, words_at, first_at, commands_at, after_commands, closing, inner_at}
+use Rattle.tcl_chars.proofs.EscapesLemmas.{escape_takes}
 use Rattle.tcl_chars.proofs.Ends.{IsPast, ends_self, ends_more, ends_trans, ends_tail, past_more, past_then, then_past, past_drop, if_cond, if_bind, if_weak, always, Ends, Past, Moves, Forward, turns_end, turns_past}
 
 -- ---- scans
@@ -94,22 +95,6 @@ verbatim_past c (d ∷ cs) h = elim (cases_Bool (c == backslash)) [
 ]
 
 -- an escape takes a character
-octal_takes : (c : ℕ) (cs : List ℕ) → 1 ≤ (octal_or_self c cs).1
-octal_takes c cs = if_cond (λ (p : ℕ × ℕ). 1 ≤ p.1) (longest_run 8 255 (c ∷ cs) 3 == 0) _ _ (omega arith) (omega arith)
-
-by_code_takes : (c : ℕ) (cs : List ℕ) (f : Option (ℕ × ℕ)) → 1 ≤ (by_code_form c cs f).1
-by_code_takes c cs (Some f) = omega arith
-by_code_takes c cs None = if_cond (λ (p : ℕ × ℕ). 1 ≤ p.1) (c == 10) _ _ (omega arith) (octal_takes c cs)
-
-by_control_takes : (c : ℕ) (cs : List ℕ) (x : Option ℕ) → 1 ≤ (by_control c cs x).1
-by_control_takes c cs (Some x) = omega arith
-by_control_takes c cs None = by_code_takes c cs (code_form c)
-
-escape_takes : (c : ℕ) (cs : List ℕ) → 1 ≤ (escape (c ∷ cs)).1
-unfolding escape_of
-escape_takes c [] = omega arith
-escape_takes c (d ∷ cs) = by_control_takes d cs (control_of d)
-
 escape_past : (c : ℕ) (cs : List ℕ) → IsPast (c ∷ cs) (drop (escape (c ∷ cs)).1 (c ∷ cs))
 escape_past c cs = past_drop (escape (c ∷ cs)).1 c cs (escape_takes c cs)
 

@@ -14,12 +14,9 @@ use Rattle.tcl_words.specs.Words.{after_gaps, ends_word, words_at, first_at, inn
 use Rattle.tcl_words.proofs.Fills.{LeavesSome}
 use Rattle.tcl_words.proofs.FillsCommands.{first_fill, first_open}
 use Rattle.tcl_words.proofs.FillsLevels.{filled, first_none, first_some, whole_first}
-use Rattle.tcl_words.proofs.FillsPieces.{over_same}
 use Rattle.tcl_words.proofs.FillsWords.{at_semicolon}
-use Rattle.tcl_words.proofs.LongerTurns.{Over}
+use Rattle.tcl_words.proofs.LongerTurns.{Over, over_same}
 use Rattle.tcl_words.proofs.LongerWords.{fault_kept}
-use Rattle.tcl_words.proofs.Newlines.{Still}
-use Rattle.tcl_words.proofs.NewlinesWords.{first_still, nested_still}
 
 -- ---- the laws of fronts, said of what is read
 
@@ -44,7 +41,7 @@ pub fault_stays : (size longer levels : ℕ) (nested : Bool) (cs more : List ℕ
 unfolding first
 fault_stays size longer levels nested cs more m shut e = elim (fault_kept size longer levels nested cs more m (was_malformed _ m e) shut) [
   | inl same ↦ inl (ap first_of same)
-  | inr undone ↦ inr undone
+  | inr (newline_, hangs, after) ↦ inr (newline_, hangs)
 ]
 
 well_some : (z : List ℕ) (r : Result (Option (List Shape) × List ℕ) Syntax) → LeavesSome z r → is_well (first_of r) ≡ true
@@ -130,12 +127,12 @@ can_go size levels nested cs (Err m) e = elim (cases_Bool (is_open m)) [
   | inr other ↦ inr (m, other, refl)
 ]
 
-newline_put : (levels : ℕ) (nested : Bool) (cs : List ℕ) (m : Syntax) (r : Result (Option (List Shape) × List ℕ) Syntax) → is_open m ≡ false → r ≡ Err m
-    → Still Over r (first_at 0 (inner_at 0 levels) nested (cs ++ 10 ∷ [])) → (first_at 0 (inner_at 0 levels) nested (cs ++ 10 ∷ []) ≡ Err m) ⊎ Over (first_at 0 (inner_at 0 levels) nested (cs ++ 10 ∷ []))
-newline_put levels nested cs m r shut e s =
-    let P : Result (Option (List Shape) × List ℕ) Syntax → Type 0 = λ q. Still Over q (first_at 0 (inner_at 0 levels) nested (cs ++ 10 ∷ [])) in
-    let still : P (Err m) = subst P e s in
-    still shut
+newline_put : (levels : ℕ) (nested : Bool) (cs : List ℕ) (m : Syntax) → is_open m ≡ false → first_at 0 (inner_at 0 levels) nested cs ≡ Err m
+    → (first_at 0 (inner_at 0 levels) nested (cs ++ 10 ∷ []) ≡ Err m) ⊎ Over (first_at 0 (inner_at 0 levels) nested (cs ++ 10 ∷ []))
+newline_put levels nested cs m shut e = elim (fault_kept 0 0 levels nested cs (10 ∷ []) m e shut) [
+  | inl same ↦ inl same
+  | inr (newline_, hangs, after) ↦ inr (after refl)
+]
 
 abbrev Shut : ℕ → Bool → List ℕ → Type 0
 Shut levels nested cs = (m : Syntax) × Always levels nested m cs
@@ -145,7 +142,7 @@ decide : (levels : ℕ) (nested : Bool) (cs : List ℕ) → GoesOn levels nested
 unfolding first
 decide levels nested cs = elim (can_go 0 levels nested cs (first_at 0 (inner_at 0 levels) nested cs) refl) [
   | inl goes ↦ inl goes
-  | inr (m, shut, e) ↦ elim (newline_put levels nested cs m (first_at 0 (inner_at 0 levels) nested cs) shut e (first_still 0 0 levels (nested_still 0 0 levels) nested cs)) [
+  | inr (m, shut, e) ↦ elim (newline_put levels nested cs m shut e) [
     | inl same ↦ inr (m, never 0 levels nested cs m shut (ap first_of e) (ap first_of same))
     | inr over ↦ elim (can_go 0 levels nested (cs ++ 10 ∷ []) (first_at 0 (inner_at 0 levels) nested (cs ++ 10 ∷ [])) refl) [
       | inl goes ↦ inl (goes_back levels nested cs (10 ∷ []) goes)

@@ -4,6 +4,7 @@ pub mod Bracketed
 pub mod BracketedKinds
 pub mod BracketedTurns
 pub mod CompleteClosed
+pub mod EachPiece
 pub mod FaultFronts
 pub mod FaultIsFound
 pub mod Fills
@@ -22,8 +23,6 @@ pub mod LongerPieces
 pub mod LongerTurns
 pub mod LongerWords
 pub mod Names
-pub mod Newlines
-pub mod NewlinesWords
 pub mod OneReading
 pub mod OperandSpelled
 pub mod Placed

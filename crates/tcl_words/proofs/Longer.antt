@@ -9,8 +9,11 @@ use Rattle.tcl_words.specs.declared.blanks.Gap.TheVariants as gap
 use Rattle.tcl_words.specs.declared.fault.Syntax.{Syntax}
 use Rattle.tcl_words.specs.Complete.{is_open}
 use Rattle.tcl_words.specs.Words.{after_blanks, after_gaps, ends_word, after_name, at_variable_brace, at_brace}
-use Rattle.tcl_words.proofs.Bracketed.{same_cond}
 use Rattle.tcl_chars.proofs.Ends.{if_cond}
+
+pub same_cond : {A : Type 0} (P : A → A → Type 0) (b : Bool) (x y u v : A) → P x u → P y v → P (cond b x y) (cond b u v)
+same_cond P true x y u v h k = h
+same_cond P false x y u v h k = k
 
 abbrev pub some : List ℕ → Bool
 some [] = false

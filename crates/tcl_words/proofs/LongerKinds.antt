@@ -6,8 +6,7 @@ use Rattle.tcl_words.specs.declared.front.Kind.TheVariants as kind
 use Rattle.tcl_words.specs.declared.front.Mode.{Mode}
 use Rattle.tcl_words.specs.declared.front.Mode.TheVariants as mode
 use Rattle.tcl_words.specs.Words.{kind_of, is_plain, after_plain, begins_variable}
-use Rattle.tcl_words.proofs.Bracketed.{same_cond}
-use Rattle.tcl_words.proofs.Longer.{firm, Firm}
+use Rattle.tcl_words.proofs.Longer.{same_cond, firm, Firm}
 
 -- the end of the text is not so near that what begins at c hangs on what follows
 abbrev pub settled : ℕ → List ℕ → Bool

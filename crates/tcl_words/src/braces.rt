@@ -12,7 +12,7 @@ use crate::word::Piece;
 use std::alloc::Global;
 use tcl_chars::{ReadFault, before, begins, place, split_first, tail};
 
-/// From the first `}` on.
+/// The rest of the text from the first `}` on.
 #[tactic(auto, unfolding(crate::specs::Words::at_variable_brace))]
 pub(crate) fn at_variable_brace(text: &str) -> Result<&str, ReadFault<Syntax>>
     ensures { Gives (λ r. chars r.now) result (spec.at_variable_brace (chars text.now)) }
@@ -27,7 +27,7 @@ pub(crate) fn at_variable_brace(text: &str) -> Result<&str, ReadFault<Syntax>>
     Err(ReadFault::Bad(Syntax::MissingVariableBrace))
 }
 
-/// From the brace on that matches one before the text. Tcl(n), rule 6.
+/// The rest of the text, from the brace on that matches one that stands before the text. Tcl(n), rule 6.
 #[tactic(auto, unfolding(crate::specs::Words::at_brace))]
 pub(crate) fn at_brace(text: &str) -> Result<&str, ReadFault<Syntax>>
     ensures { Gives (λ r. chars r.now) result (spec.at_brace false 0 (chars text.now)) }
@@ -53,7 +53,7 @@ pub(crate) fn at_brace(text: &str) -> Result<&str, ReadFault<Syntax>>
     Err(ReadFault::Bad(Syntax::MissingBrace))
 }
 
-/// Of the text inside braces: what follows the characters at the front, up to a backslash-newline.
+/// The rest of a text inside braces behind the characters at its front that stand for themselves: from the next backslash-newline on.
 #[tactic(auto, unfolding(crate::specs::Words::after_verbatim))]
 fn after_verbatim(text: &str) -> &str
     ensures { chars result.now ≡ spec.after_verbatim (chars text.now) }

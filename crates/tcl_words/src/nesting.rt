@@ -303,7 +303,7 @@ pub(crate) fn after_commands(
     }
 }
 
-/// From the `]` on of the bracket that opens before the text.
+/// The rest of the text, from the `]` on that closes the bracket that opens before the text.
 #[cycle(nesting)]
 fn at_close(reader: Reader, text: &str) -> Result<&str, ReadFault<Syntax>>
     ensures { Gives (λ r. chars r.now) result ((spec.inner_at reader.size reader.levels).bracket (chars text.now)) }

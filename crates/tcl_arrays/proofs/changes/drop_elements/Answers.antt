@@ -8,7 +8,7 @@ use Rattle.tcl_chars.specs.Texts.{text_of}
 use Rattle.tcl_frames.specs.Edits.{edit_change}
 use Rattle.tcl_frames.specs.Standing.{applied, store_of}
 use Rattle.tcl_frames.specs.declared.edit.Edit.TheVariants as edit
-use Rattle.tcl_vars.proofs.VariableLemmas.{refused_by}
+use Rattle.tcl_steps.proofs.VariableLemmas.{refused_by}
 use Rattle.tcl_arrays.proofs.changes.drop_elements.Goals as goal
 
 pub returns-then-is_none : goal.returns-then-is_none

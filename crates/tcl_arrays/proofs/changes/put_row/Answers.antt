@@ -8,7 +8,7 @@ use Rattle.tcl_frames.specs.Standing.{applied, store_of}
 use Rattle.tcl_frames.specs.declared.edit.Edit.TheVariants as edit
 use Rattle.tcl_meaning.specs.Arrays.{no_array}
 use Rattle.tcl_values.specs.Kept.{texts}
-use Rattle.tcl_vars.proofs.VariableLemmas.{refused_by}
+use Rattle.tcl_steps.proofs.VariableLemmas.{refused_by}
 use Rattle.tcl_arrays.proofs.changes.put_row.Goals as goal
 
 pub returns-then-len-ne0 : goal.returns-then-len-ne0
@@ -33,5 +33,5 @@ returns-in_ok-about-in-Err-Refused c =
           (set_refused s name (texts c.items.result.now) c.in-Err-Refused.field-0-0 even
           (sym (fill_is s name c.items.result) ∙ refused_by (edit_change s name (edit.Put c.items.result)) c.in-Err-Refused.field-0 c.in-Err-Refused.field-0-0 c.in-Err-Refused.field-0-is (c.in-Err-Refused.ensures.refused cs)))
           ∙ ap Err (sym c.in_ok-about-in-Err-Refused.ensures),
-      rw c.in-Err-Refused.field-0-is at c.in-Err-Refused.ensures.same,
+      c.in-Err-Refused.ensures.same,
     )

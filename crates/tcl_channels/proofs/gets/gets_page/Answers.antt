@@ -6,7 +6,7 @@ use Rattle.std.specs.declared.alloc.Global.{Global}
 use Rattle.std.specs.declared.rc.RcStr.{RcStr}
 use Rattle.tcl_chars.specs.Texts.{text_of}
 use Rattle.tcl_meaning.specs.Channels.{gets_page}
-use Rattle.tcl_vars.specs.Comes.{state_of}
+use Rattle.tcl_steps.specs.Comes.{state_of}
 use Rattle.tcl_channels.specs.Orders.{gets_into}
 use Rattle.tcl_channels.specs.Shown.{channels_of}
 use Rattle.tcl_channels.proofs.ChannelLemmas.{outputs_stay}

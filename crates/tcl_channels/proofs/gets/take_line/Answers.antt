@@ -3,7 +3,7 @@ use Rattle.std.specs.Prelude.{option_map}
 use Rattle.std.proofs.lemmas.Result.{err_from_is_err_and}
 use Rattle.tcl_chars.specs.Texts.{text_of}
 use Rattle.tcl_meaning.specs.Completions.{Completion}
-use Rattle.tcl_vars.specs.Comes.{state_of}
+use Rattle.tcl_steps.specs.Comes.{state_of}
 use Rattle.tcl_channels.specs.Leaves.{Leaves}
 use Rattle.tcl_channels.specs.Orders.{gets_into}
 use Rattle.tcl_channels.specs.Shown.{channels_of}

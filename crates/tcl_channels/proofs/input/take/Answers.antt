@@ -6,7 +6,7 @@ use Rattle.tcl_meaning.specs.Agreement.{Agrees}
 use Rattle.tcl_meaning.specs.Completions.{Completion, normal}
 use Rattle.tcl_meaning.specs.Effects.{Gives, does}
 use Rattle.tcl_meaning.specs.Tasks.{Done}
-use Rattle.tcl_vars.specs.Ends.{first_step}
+use Rattle.tcl_steps.specs.Ends.{first_step}
 use Rattle.tcl_channels.specs.Orders.{read_from}
 use Rattle.tcl_channels.specs.Shown.{channels_of, over}
 use Rattle.tcl_channels.proofs.LeavesLemmas.{leaves_fault}

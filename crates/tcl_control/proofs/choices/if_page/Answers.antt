@@ -1,6 +1,6 @@
 use Rattle.std.proofs.Common.{Some, None, sym, ap, subst, ◌∙◌}
 use Rattle.std.specs.Prelude.{option_map}
-use Rattle.tcl_control.specs.Asked.{IsAsked}
+use Rattle.tcl_steps.specs.Asked.{IsAsked}
 use Rattle.tcl_control.proofs.ChoiceLemmas.{if_is}
 use Rattle.tcl_steps.specs.Views.{others_of}
 use Rattle.tcl_control.proofs.choices.if_page.Goals as goal

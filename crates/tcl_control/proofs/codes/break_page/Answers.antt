@@ -1,5 +1,5 @@
 use Rattle.std.proofs.Common.{sym, subst}
-use Rattle.tcl_control.specs.Asked.{IsAsked}
+use Rattle.tcl_steps.specs.Asked.{IsAsked}
 use Rattle.tcl_control.proofs.PageLemmas.{break_is, break_usage}
 use Rattle.tcl_control.proofs.codes.break_page.Goals as goal
 

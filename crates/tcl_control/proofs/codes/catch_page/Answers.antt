@@ -1,5 +1,5 @@
 use Rattle.std.proofs.Common.{ap, sym, subst}
-use Rattle.tcl_control.specs.Asked.{IsAsked, at_once}
+use Rattle.tcl_steps.specs.Asked.{IsAsked, at_once}
 use Rattle.tcl_control.proofs.PageLemmas.{no_catch_words, more_catch_words, catch_asks}
 use Rattle.tcl_control.proofs.codes.catch_page.Goals as goal
 

@@ -1,5 +1,5 @@
 use Rattle.std.proofs.Common.{ap, sym, subst}
-use Rattle.tcl_control.specs.Asked.{IsAsked, at_once}
+use Rattle.tcl_steps.specs.Asked.{IsAsked, at_once}
 use Rattle.tcl_control.proofs.PageLemmas.{no_error_words, more_error_words, error_asks}
 use Rattle.tcl_control.proofs.codes.error_page.Goals as goal
 

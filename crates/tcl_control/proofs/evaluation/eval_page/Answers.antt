@@ -1,5 +1,5 @@
 use Rattle.std.proofs.Common.{ap, sym, subst}
-use Rattle.tcl_control.specs.Asked.{IsAsked, at_once}
+use Rattle.tcl_steps.specs.Asked.{IsAsked, at_once}
 use Rattle.tcl_control.proofs.PageLemmas.{eval_usage, eval_asks}
 use Rattle.tcl_control.proofs.evaluation.eval_page.Goals as goal
 

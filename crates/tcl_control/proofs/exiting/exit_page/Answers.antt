@@ -1,5 +1,5 @@
 use Rattle.std.proofs.Common.{Some, ap, sym, ◌∙◌}
-use Rattle.tcl_control.specs.Asked.{at_once}
+use Rattle.tcl_steps.specs.Asked.{at_once}
 use Rattle.tcl_control.proofs.ExitLemmas.{no_status, exit_usage, exits, exit_fails, stopped}
 use Rattle.tcl_meaning.specs.Codes.{status_of}
 use Rattle.tcl_meaning.specs.Tasks.{Done}

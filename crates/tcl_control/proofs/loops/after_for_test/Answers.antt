@@ -1,5 +1,5 @@
 use Rattle.std.proofs.Common.{ap, sym, subst, ◌∙◌}
-use Rattle.tcl_control.specs.Asked.{IsAsked, at_once}
+use Rattle.tcl_steps.specs.Asked.{IsAsked, at_once}
 use Rattle.tcl_control.specs.declared.conditions.Condition.TheVariants as condition
 use Rattle.tcl_control.proofs.TestLemmas.{test_ends, test_holds, test_fails}
 use Rattle.tcl_meaning.specs.Asking.{ask, done}

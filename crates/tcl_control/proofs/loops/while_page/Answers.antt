@@ -1,5 +1,5 @@
 use Rattle.std.proofs.Common.{sym, subst}
-use Rattle.tcl_control.specs.Asked.{IsAsked}
+use Rattle.tcl_steps.specs.Asked.{IsAsked}
 use Rattle.tcl_control.proofs.PageLemmas.{while_usage, while_asks}
 use Rattle.tcl_control.proofs.loops.while_page.Goals as goal
 

@@ -1,5 +1,5 @@
 use Rattle.std.proofs.Common.{◌≡◌, length}
-use Rattle.tcl_control.specs.Switching.{pairs_in}
+use Rattle.tcl_steps.specs.Pairs.{pairs_in}
 use Rattle.tcl_meaning.specs.Shapes.{body_from}
 use Rattle.tcl_control.proofs.switching.body_from.Given as goal
 

@@ -1,6 +1,6 @@
 use Rattle.std.proofs.Common.{◌≡◌, length}
 use Rattle.std.specs.Str.{chars}
-use Rattle.tcl_control.specs.Switching.{pairs_in}
+use Rattle.tcl_steps.specs.Pairs.{pairs_in}
 use Rattle.tcl_meaning.specs.Shapes.{chosen}
 use Rattle.tcl_control.proofs.switching.chosen.Given as goal
 

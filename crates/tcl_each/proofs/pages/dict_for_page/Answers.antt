@@ -1,5 +1,5 @@
 use Rattle.std.proofs.Common.{sym, subst}
-use Rattle.tcl_control.specs.Asked.{IsAsked}
+use Rattle.tcl_steps.specs.Asked.{IsAsked}
 use Rattle.tcl_each.proofs.PageLemmas.{not_three}
 use Rattle.tcl_each.proofs.pages.dict_for_page.Goals as goal
 

@@ -4,13 +4,13 @@ use Rattle.std.specs.Str.{chars}
 use Rattle.tcl_chars.specs.Answers.{Stops}
 use Rattle.tcl_chars.specs.Texts.{text_of}
 use Rattle.tcl_chars.specs.declared.fault.Fault.{Fault}
-use Rattle.tcl_control.specs.Asked.{IsAsked}
-use Rattle.tcl_control.specs.Switching.{pairs_in}
+use Rattle.tcl_steps.specs.Asked.{IsAsked}
+use Rattle.tcl_pages.specs.Dictionaries.{pairs}
 use Rattle.tcl_meaning.specs.Completions.{Completion}
-use Rattle.tcl_meaning.specs.Shapes.{lanes_of}
+use Rattle.tcl_meaning.specs.Shapes.{loop_lists_of}
 use Rattle.tcl_meaning.specs.Tasks.{Done}
 use Rattle.tcl_values.specs.declared.value.Value.{Value}
-use Rattle.tcl_each.proofs.PageLemmas.{no_body, lanes_fail}
+use Rattle.tcl_each.proofs.PageLemmas.{no_body, lists_fail}
 use Rattle.tcl_each.proofs.pages.each_page.Goals as goal
 
 pub returns-then-words-pairs : goal.returns-then-words-pairs
@@ -21,6 +21,6 @@ returns-then-words-pairs c =
 
 pub returns-in-Err-Error : goal.returns-in-Err-Error
 returns-in-Err-Error c =
-    lanes_fail (option_map (λ (v : Vec Value Global). v.items) c.args.results) (chars c.args.form.now) (chars c.args.empty.now) c.args.words.now (text_of c.in-Err-Error.message) c.if-pairs-eq0.false c.if-words-pairs.false
-    (subst (λ (f : Fault). Stops f (lanes_of (chars c.args.empty.now) (pairs_in c.args.words.now))) c.in-Err-Error.field-0-is c.in-Err-Error.ensures.lanes)
+    lists_fail (option_map (λ (v : Vec Value Global). v.items) c.args.results) (chars c.args.form.now) (chars c.args.empty.now) c.args.words.now (text_of c.in-Err-Error.message) c.if-pairs-eq0.false c.if-words-pairs.false
+    (subst (λ (f : Fault). Stops f (loop_lists_of (chars c.args.empty.now) (pairs c.args.words.now))) c.in-Err-Error.field-0-is c.in-Err-Error.ensures.lists)
     ∙ ap (λ (d : Completion). Some (Done d)) (sym c.failure.ensures)

@@ -5,7 +5,7 @@ use Rattle.tcl_chars.specs.Texts.{text_of}
 use Rattle.tcl_pages.specs.Dictionaries.{keys_of, values_of}
 use Rattle.tcl_values.specs.Kept.{Kept}
 use Rattle.tcl_arguments.proofs.Items.{text_at, keys_length, values_length}
-use Rattle.tcl_each.proofs.LaneLemmas.{pair_pushed}
+use Rattle.tcl_each.proofs.LoopListLemmas.{pair_pushed}
 use Rattle.tcl_each.proofs.rows.flat_values.Goals as goal
 
 pub loop-place-preserved : goal.loop-place-preserved

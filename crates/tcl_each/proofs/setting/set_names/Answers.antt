@@ -1,7 +1,7 @@
 use Rattle.std.proofs.Common.{length, take, drop, refl}
 use Rattle.std.proofs.lemmas.Result.{err_from_is_err_and}
-use Rattle.tcl_control.specs.Asked.{word}
-use Rattle.tcl_vars.proofs.AssignLemmas.{set_one, set_stops}
+use Rattle.tcl_arguments.specs.WordAt.{word}
+use Rattle.tcl_steps.proofs.SetAll.{set_one, set_stops}
 use Rattle.tcl_each.proofs.TurnLemmas.{its_text}
 use Rattle.tcl_each.proofs.setting.set_names.Goals as goal
 

@@ -1,7 +1,7 @@
 use Rattle.std.proofs.Common.{length, take, drop}
 use Rattle.tcl_meaning.specs.Variables.{set_all}
-use Rattle.tcl_vars.specs.Comes.{Becomes}
-use Rattle.tcl_vars.proofs.AssignLemmas.{set_from}
+use Rattle.tcl_steps.specs.Comes.{Becomes}
+use Rattle.tcl_steps.proofs.SetAll.{set_from}
 use Rattle.tcl_each.proofs.setting.set_names.Given as goal
 
 abbrev pub invariant-loop-place : goal.invariant-loop-place

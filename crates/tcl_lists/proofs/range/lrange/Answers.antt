@@ -3,7 +3,7 @@ use Rattle.std.specs.Prelude.{◌+ℤ◌}
 use Rattle.std.specs.Int.{w128}
 use Rattle.std.proofs.lemmas.Int.{to_z-of_z}
 use Rattle.tcl_chars.specs.Answers.{Answers}
-use Rattle.tcl_pages.specs.Lists.{clamped}
+use Rattle.tcl_chars.specs.Index.{clamp}
 use Rattle.tcl_lists.proofs.WordsLemmas.{lrange_usage, lrange_is, count_is}
 use Rattle.tcl_lists.proofs.range.lrange.Goals as goal
 
@@ -16,4 +16,4 @@ returns-clause-answer c =
     let g : FitsSigned w128 c.in_ok-last.last = search rules in
     lrange_is c.args.dialect c.args.words.now c.row_at.new.words c.index_at.new.words c.in_ok-row.row _ c.in_ok-first.first c.in_ok-last.last _ _ _ _
     c.if-words-ne3.false c.row_at.ensures.same c.index_at.ensures.same c.in_ok-row.ensures.row (count_is _ _ c.items-count.ensures) c.in_ok-first.ensures.index c.in_ok-last.ensures.index
-    (c.clamped.ensures ∙ ap (λ z. clamped z (length c.items-count.result.now)) (to_z-of_z w128 c.in_ok-first.first f)) (c.behind.ensures ∙ ap (λ z. clamped (z +ℤ pos 1) (length c.items-count.result.now)) (to_z-of_z w128 c.in_ok-last.last g)) refl c.in_ok-part.ensures
+    (c.clamp.ensures ∙ ap (λ z. clamp z (length c.items-count.result.now)) (to_z-of_z w128 c.in_ok-first.first f)) (c.behind.ensures ∙ ap (λ z. clamp (z +ℤ pos 1) (length c.items-count.result.now)) (to_z-of_z w128 c.in_ok-last.last g)) refl c.in_ok-part.ensures

@@ -3,7 +3,7 @@ use Rattle.std.specs.Prelude.{◌+ℤ◌}
 use Rattle.std.specs.Int.{w128}
 use Rattle.std.proofs.lemmas.Int.{to_z-of_z}
 use Rattle.tcl_chars.specs.Answers.{Answers}
-use Rattle.tcl_pages.specs.Lists.{clamped}
+use Rattle.tcl_chars.specs.Index.{clamp}
 use Rattle.tcl_lists.proofs.WordsLemmas.{lreplace_usage, lreplace_is, count_is}
 use Rattle.tcl_lists.proofs.range.lreplace.Goals as goal
 
@@ -16,4 +16,4 @@ returns-clause-answer c =
     let g : FitsSigned w128 c.in_ok-last.last = search rules in
     lreplace_is c.args.dialect c.args.words.now c.row_at.new.words c.index_at.new.words c.index_at-2.new.words c.in_ok-row.row _ c.in_ok-first.first c.in_ok-last.last _ _ _ _
     c.if-words-lt3.false c.row_at.ensures.same c.index_at.ensures.same c.index_at-2.ensures.same c.in_ok-row.ensures.row (count_is _ _ c.items-count.ensures)
-    c.in_ok-first.ensures.index c.in_ok-last.ensures.index (c.clamped-begin.ensures ∙ ap (λ z. clamped z (length c.items-count.result.now)) (to_z-of_z w128 c.in_ok-first.first f)) (c.behind-end.ensures ∙ ap (λ z. clamped (z +ℤ pos 1) (length c.items-count.result.now)) (to_z-of_z w128 c.in_ok-last.last g)) refl c.in_ok-spliced.ensures
+    c.in_ok-first.ensures.index c.in_ok-last.ensures.index (c.clamp-begin.ensures ∙ ap (λ z. clamp z (length c.items-count.result.now)) (to_z-of_z w128 c.in_ok-first.first f)) (c.behind-end.ensures ∙ ap (λ z. clamp (z +ℤ pos 1) (length c.items-count.result.now)) (to_z-of_z w128 c.in_ok-last.last g)) refl c.in_ok-spliced.ensures

@@ -1,5 +1,5 @@
 use Rattle.std.proofs.Common.{sym, subst}
-use Rattle.tcl_control.specs.Asked.{IsAsked}
+use Rattle.tcl_steps.specs.Asked.{IsAsked}
 use Rattle.tcl_procs.proofs.LambdaLemmas.{apply_usage}
 use Rattle.tcl_procs.proofs.apply.apply_page.Goals as goal
 

@@ -2,7 +2,7 @@ use Rattle.std.proofs.Common.{sym, subst, ◌∙◌}
 use Rattle.std.specs.Str.{chars}
 use Rattle.tcl_frames.specs.Standing.{store_of}
 use Rattle.tcl_procs.proofs.DefinitionLemmas.{rename_deletes, rename_moves}
-use Rattle.tcl_vars.specs.Ends.{DoesIn}
+use Rattle.tcl_steps.specs.Ends.{DoesIn}
 use Rattle.tcl_procs.proofs.definitions.rename_command.Goals as goal
 
 pub returns-then-is_empty-clause-does : goal.returns-then-is_empty-clause-does

@@ -1,5 +1,5 @@
 use Rattle.tcl_meaning.specs.ProcedurePages.{global_page}
-use Rattle.tcl_vars.proofs.Endings.{closes}
+use Rattle.tcl_steps.proofs.Endings.{closes}
 use Rattle.tcl_procs.proofs.links.global_page.Goals as goal
 
 pub returns : goal.returns

@@ -1,7 +1,7 @@
 use Rattle.std.proofs.Common.{map as each, length}
 use Rattle.tcl_chars.specs.Texts.{text_of}
 use Rattle.tcl_meaning.specs.ProcedurePages.{link_globals}
-use Rattle.tcl_vars.specs.Comes.{Becomes}
+use Rattle.tcl_steps.specs.Comes.{Becomes}
 use Rattle.tcl_procs.proofs.links.link_globals.Given as goal
 
 abbrev pub invariant-names : goal.invariant-names

@@ -3,7 +3,7 @@ use Rattle.std.specs.Str.{chars}
 use Rattle.tcl_chars.specs.Texts.{text_of}
 use Rattle.tcl_frames.specs.Levels.{level_of}
 use Rattle.tcl_meaning.specs.ProcedurePages.{link_pairs}
-use Rattle.tcl_vars.specs.Comes.{Becomes}
+use Rattle.tcl_steps.specs.Comes.{Becomes}
 use Rattle.tcl_procs.proofs.links.link_pairs.Given as goal
 
 abbrev pub invariant-pairs : goal.invariant-pairs

@@ -1,5 +1,5 @@
 use Rattle.tcl_meaning.specs.ProcedurePages.{upvar_page}
-use Rattle.tcl_vars.proofs.Endings.{closes}
+use Rattle.tcl_steps.proofs.Endings.{closes}
 use Rattle.tcl_procs.proofs.links.upvar_page.Goals as goal
 
 pub returns : goal.returns

@@ -1,4 +1,4 @@
-use Rattle.tcl_pages.specs.Strings.{pairs}
+use Rattle.tcl_pages.specs.Dictionaries.{pairs}
 use Rattle.tcl_values.specs.Kept.{texts}
 use Rattle.tcl_strings.proofs.Grouped.{few, next_two, all_put}
 use Rattle.tcl_strings.proofs.keys.grouped.Goals as goal

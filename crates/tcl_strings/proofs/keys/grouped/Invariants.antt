@@ -1,5 +1,5 @@
 use Rattle.std.proofs.Common.{length}
-use Rattle.tcl_pages.specs.Strings.{pairs}
+use Rattle.tcl_pages.specs.Dictionaries.{pairs}
 use Rattle.tcl_values.specs.Kept.{texts}
 use Rattle.tcl_strings.specs.Grouped.{GroupedUpTo}
 use Rattle.tcl_strings.proofs.keys.grouped.Given as goal

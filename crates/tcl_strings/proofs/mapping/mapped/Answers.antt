@@ -1,7 +1,8 @@
 use Rattle.std.proofs.Common.{rules}
 use Rattle.std.specs.Str.{chars}
 use Rattle.std.specs.String.{string_bytes}
-use Rattle.tcl_pages.specs.Strings.{pairs, mapped}
+use Rattle.tcl_pages.specs.Dictionaries.{pairs}
+use Rattle.tcl_pages.specs.Strings.{mapped}
 use Rattle.tcl_values.specs.Kept.{texts}
 use Rattle.tcl_strings.proofs.Grouped.{pair_taken}
 use Rattle.tcl_strings.proofs.Pairs.{turns_into, stays}

@@ -3,7 +3,8 @@ use denote.Text.{Utf8}
 use denote.Shadow.{shadow}
 use Rattle.std.specs.Str.{chars}
 use Rattle.std.specs.String.{string_bytes}
-use Rattle.tcl_pages.specs.Strings.{mapped, pairs}
+use Rattle.tcl_pages.specs.Dictionaries.{pairs}
+use Rattle.tcl_pages.specs.Strings.{mapped}
 use Rattle.tcl_values.specs.Kept.{texts}
 use Rattle.tcl_strings.proofs.mapping.mapped.Given as goal
 

@@ -1,7 +1,7 @@
 use Rattle.std.proofs.Common.{[], get_or, ap, ◌∙◌}
 use Rattle.std.proofs.lemmas.Result.{err_from_is_err_and}
 use Rattle.std.specs.Str.{chars}
-use Rattle.tcl_vars.proofs.AssignLemmas.{set_one, set_stops}
+use Rattle.tcl_steps.proofs.SetAll.{set_one, set_stops}
 use Rattle.tcl_vars.proofs.assigning.assign_all.Goals as goal
 
 pub loop-place-preserved : goal.loop-place-preserved

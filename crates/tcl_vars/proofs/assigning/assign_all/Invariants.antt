@@ -1,8 +1,8 @@
 use Rattle.std.proofs.Common.{◌≡◌, ◌<◌, ℕ, List, [], length, get_or}
 use Rattle.tcl_meaning.specs.Variables.{set_all}
 use Rattle.tcl_pages.specs.Texts.{Text}
-use Rattle.tcl_vars.specs.Comes.{Becomes}
-use Rattle.tcl_vars.proofs.AssignLemmas.{set_from}
+use Rattle.tcl_steps.specs.Comes.{Becomes}
+use Rattle.tcl_steps.proofs.SetAll.{set_from}
 use Rattle.tcl_vars.proofs.assigning.assign_all.Given as goal
 
 abbrev pub invariant-loop-place : goal.invariant-loop-place

@@ -1,5 +1,5 @@
 use Rattle.tcl_meaning.specs.VariablePages.{lassign_page}
-use Rattle.tcl_vars.proofs.Endings.{closes}
+use Rattle.tcl_steps.proofs.Endings.{closes}
 use Rattle.tcl_vars.proofs.assigning.lassign.Goals as goal
 
 pub returns : goal.returns

@@ -3,9 +3,9 @@ use Rattle.std.proofs.lemmas.Result.{err_from_is_err_and}
 use Rattle.tcl_meaning.specs.Variables.{set_all}
 use Rattle.tcl_pages.specs.Lists.{values_for, rest_behind}
 use Rattle.tcl_pages.specs.Texts.{Text}
-use Rattle.tcl_vars.specs.Comes.{Comes}
+use Rattle.tcl_steps.specs.Comes.{Comes}
 use Rattle.tcl_meaning.specs.Value.{Has}
-use Rattle.tcl_vars.specs.Ends.{Ends}
+use Rattle.tcl_steps.specs.Ends.{Ends}
 use Rattle.tcl_vars.proofs.AssignLemmas.{lassign_usage, not_a_list, lassign_done, lassign_stops, values_are, names_are}
 use Rattle.tcl_vars.proofs.assigning.lassign_words.Goals as goal
 

@@ -1,5 +1,5 @@
 use Rattle.tcl_meaning.specs.CodePages.{after_catch}
-use Rattle.tcl_vars.proofs.Endings.{closes}
+use Rattle.tcl_steps.proofs.Endings.{closes}
 use Rattle.tcl_vars.proofs.catching.after_catch.Goals as goal
 
 pub returns : goal.returns

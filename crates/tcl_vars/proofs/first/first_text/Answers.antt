@@ -4,7 +4,7 @@ use Rattle.std.specs.Str.{chars}
 use Rattle.tcl_meaning.specs.VariablePages.{old_text}
 use Rattle.tcl_pages.specs.Texts.{Text}
 use Rattle.tcl_pages.specs.Updates.{begins}
-use Rattle.tcl_vars.specs.Ends.{Gives}
+use Rattle.tcl_steps.specs.Ends.{Gives}
 use Rattle.tcl_vars.proofs.first.first_text.Goals as goal
 
 pub returns-in-Empty : goal.returns-in-Empty

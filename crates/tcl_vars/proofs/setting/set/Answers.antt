@@ -1,5 +1,5 @@
 use Rattle.tcl_meaning.specs.VariablePages.{set_page}
-use Rattle.tcl_vars.proofs.Endings.{closes}
+use Rattle.tcl_steps.proofs.Endings.{closes}
 use Rattle.tcl_vars.proofs.setting.set.Goals as goal
 
 pub returns-clause-does : goal.returns-clause-does

@@ -1,6 +1,6 @@
 use Rattle.std.proofs.Common.{◌≡◌, drop}
 use Rattle.tcl_meaning.specs.VariablePages.{unset_all}
-use Rattle.tcl_vars.specs.Comes.{Becomes}
+use Rattle.tcl_steps.specs.Comes.{Becomes}
 use Rattle.tcl_vars.proofs.unsetting.unset_names.Given as goal
 
 abbrev pub invariant-loop-place : goal.invariant-loop-place

@@ -5,7 +5,7 @@ use Rattle.tcl_meaning.specs.Effects.{Give}
 use Rattle.tcl_meaning.specs.Value.{Has}
 use Rattle.tcl_meaning.specs.VariablePages.{old_text}
 use Rattle.tcl_pages.specs.Updates.{Old, old_of, updated}
-use Rattle.tcl_vars.specs.Ends.{Gives, stop_of}
+use Rattle.tcl_steps.specs.Ends.{Gives, stop_of}
 use Rattle.tcl_vars.specs.Updating.{from_old}
 use Rattle.tcl_vars.proofs.UpdateLemmas.{no_first, first_is, first_stops, is_set, isnt_set, isnt_made}
 use Rattle.tcl_vars.proofs.updating.begin_variable.Goals as goal

@@ -1,5 +1,5 @@
 use Rattle.tcl_meaning.specs.VariablePages.{update_page}
-use Rattle.tcl_vars.proofs.Endings.{closes}
+use Rattle.tcl_steps.proofs.Endings.{closes}
 use Rattle.tcl_vars.proofs.updating.update.Goals as goal
 
 pub returns : goal.returns

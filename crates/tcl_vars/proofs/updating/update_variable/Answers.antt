@@ -3,7 +3,7 @@ use Rattle.std.specs.Str.{chars}
 use Rattle.tcl_frames.specs.Standing.{store_of}
 use Rattle.tcl_meaning.specs.Variables.{get}
 use Rattle.tcl_vars.proofs.UpdateLemmas.{changed_in_place, left_in_place, missed}
-use Rattle.tcl_vars.proofs.VariableLemmas.{refused_by}
+use Rattle.tcl_steps.proofs.VariableLemmas.{refused_by}
 use Rattle.tcl_vars.proofs.updating.update_variable.Goals as goal
 
 pub returns-in_ok-copy-in-Ok-change : goal.returns-in_ok-copy-in-Ok-change

@@ -1,13 +1,12 @@
 use Rattle.std.proofs.Common.{◌≤◌, false}
 use Rattle.tcl_vm.specs.Machines.{config_of}
 use Rattle.tcl_vm.specs.Turns.{potential, asked, rest}
-use Rattle.tcl_vm.specs.declared.machine.Turn.TheVariants as turn
 use Rattle.tcl_vm.proofs.Going.{Keeps}
 use Rattle.tcl_vm.proofs.machine.go.Given as goal
 
 abbrev pub invariant-used : goal.invariant-used
 invariant-used g l = record {
-  keeps : Keeps g.E.Engine.dialect (config_of g.E.Engine.views turn.Next l.fn.machine (g.E.Engine.shown l.fn.engine)) (config_of g.E.Engine.views l.now l.machine (g.E.Engine.shown l.engine));
+  keeps : Keeps (g.E.Engine.dialect l.fn.engine) (config_of g.E.Engine.views l.fn.next l.fn.machine (g.E.Engine.shown l.fn.engine)) (config_of g.E.Engine.views l.now l.machine (g.E.Engine.shown l.engine));
   leaves : g.E.Engine.leaves false l.fn.engine l.engine;
 }
 
@@ -16,7 +15,7 @@ decreases-used g l = potential (config_of g.E.Engine.views l.now l.machine (g.E.
 
 abbrev pub invariant-begun : goal.invariant-begun
 invariant-begun g l = record {
-  keeps : Keeps g.E.Engine.dialect (config_of g.E.Engine.views turn.Next l.fn.machine (g.E.Engine.shown l.fn.engine)) (config_of g.E.Engine.views l.now l.machine (g.E.Engine.shown l.engine));
+  keeps : Keeps (g.E.Engine.dialect l.fn.engine) (config_of g.E.Engine.views l.fn.next l.fn.machine (g.E.Engine.shown l.fn.engine)) (config_of g.E.Engine.views l.now l.machine (g.E.Engine.shown l.engine));
   leaves : g.E.Engine.leaves false l.fn.engine l.engine;
   less : potential (config_of g.E.Engine.views l.now l.machine (g.E.Engine.shown l.engine)) ≤ potential (config_of g.E.Engine.views l.initial.now l.initial.machine (g.E.Engine.shown l.initial.engine));
 }
@@ -26,7 +25,7 @@ decreases-begun g l = asked (config_of g.E.Engine.views l.now l.machine (g.E.Eng
 
 abbrev pub invariant-on : goal.invariant-on
 invariant-on g l = record {
-  keeps : Keeps g.E.Engine.dialect (config_of g.E.Engine.views turn.Next l.fn.machine (g.E.Engine.shown l.fn.engine)) (config_of g.E.Engine.views l.now l.machine (g.E.Engine.shown l.engine));
+  keeps : Keeps (g.E.Engine.dialect l.fn.engine) (config_of g.E.Engine.views l.fn.next l.fn.machine (g.E.Engine.shown l.fn.engine)) (config_of g.E.Engine.views l.now l.machine (g.E.Engine.shown l.engine));
   leaves : g.E.Engine.leaves false l.fn.engine l.engine;
   less : potential (config_of g.E.Engine.views l.now l.machine (g.E.Engine.shown l.engine)) ≤ potential (config_of g.E.Engine.views l.initial.now l.initial.machine (g.E.Engine.shown l.initial.engine));
   fewer : asked (config_of g.E.Engine.views l.now l.machine (g.E.Engine.shown l.engine)) ≤ asked (config_of g.E.Engine.views l.initial.now l.initial.machine (g.E.Engine.shown l.initial.engine));

@@ -8,4 +8,4 @@ pub returns-in_err-word-clause-answered : goal.returns-in_err-word-clause-answer
 returns-in_err-word-clause-answered g c = let p = err_from_is_err_and c.from_residual.result c.from_residual.ensures.1 in broken_as c.from_residual.result _ _ _ (p.1 ∙ ap Err p.2) refl refl
 
 pub returns-then-words-eq0-clause-answered : goal.returns-then-words-eq0-clause-answered
-returns-then-words-eq0-clause-answered g c = empty_answers _ _ _ c.args.words.now c.if-words-eq0.true (c.asked.ensures.answered _ _ c.no_words.ensures)
+returns-then-words-eq0-clause-answered g c = empty_answers c.args.dialect _ _ _ c.args.words.now c.if-words-eq0.true (c.asked.ensures.answered _ _ c.no_words.ensures)

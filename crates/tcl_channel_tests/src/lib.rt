@@ -1,0 +1,5 @@
+//! The unit tests of devices and channels: tcl_chan: what no contract can say.
+#![tactic(auto)]
+
+#[cfg(test)]
+mod chan;

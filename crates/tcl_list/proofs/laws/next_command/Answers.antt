@@ -1,5 +1,0 @@
-use Rattle.tcl_list.proofs.OneCommand.{next_command}
-use Rattle.tcl_list.proofs.laws.next_command.Goals as goal
-
-pub returns : goal.returns
-returns c = next_command

@@ -1,5 +1,0 @@
-use Rattle.tcl_list.proofs.BracedWord.{same_brace_closes}
-use Rattle.tcl_list.proofs.laws.same_brace_closes.Goals as goal
-
-pub returns : goal.returns
-returns c = same_brace_closes

@@ -1,0 +1,1 @@
+try {puts a} bogus

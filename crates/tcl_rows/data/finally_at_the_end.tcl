@@ -1,0 +1,1 @@
+try {set x 1} finally {puts f}

@@ -1,0 +1,1 @@
+proc f {} {try {return 1} finally {puts f}}; puts [f]

@@ -1,0 +1,1 @@
+while 1 {try {break} on break {} {puts b; break}}; puts e

@@ -1,0 +1,1 @@
+catch {throw {A B} m} r o; puts $o

@@ -1,0 +1,1 @@
+puts [try {throw {A B} m} trap A {r o} {set r}]

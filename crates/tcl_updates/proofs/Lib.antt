@@ -1,4 +1,0 @@
-pub mod ElementLemmas
-pub mod SetLemmas
-pub mod UpdateLemmas
-pub mod WayLemmas

@@ -1,9 +1,0 @@
-use Rattle.std.proofs.Common.{◌≡◌, length}
-use Rattle.tcl_updates.specs.Way.{all_seen, put_all}
-use Rattle.tcl_updates.proofs.path.put_back.Given as goal
-
-abbrev pub invariant-loop-level : goal.invariant-loop-level
-invariant-loop-level l = put_all (all_seen l.levels.items) l.element ≡ put_all (all_seen l.fn.levels.items) l.fn.new
-
-abbrev pub decreases-loop-level : goal.decreases-loop-level
-decreases-loop-level l = length l.levels.items

@@ -1,6 +1,0 @@
-use Rattle.std.proofs.Common.{◌∙◌}
-use Rattle.std.proofs.lemmas.Str.{chars-nil}
-use Rattle.tcl_updates.proofs.words.empty.Goals as goal
-
-pub returns : goal.returns
-returns c = c.of_text.ensures ∙ c.in_ok-message.ensures ∙ chars-nil

@@ -1,0 +1,11 @@
+//! The unit tests of values, and of commands on lists and dictionaries: tcl_values, tcl_lists and tcl_dicts: what no contract can say.
+#![tactic(auto)]
+
+#[cfg(test)]
+mod dicts;
+#[cfg(test)]
+mod kept;
+#[cfg(test)]
+mod lists;
+#[cfg(test)]
+mod values;

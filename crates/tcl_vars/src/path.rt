@@ -1,0 +1,123 @@
+//! An element of lists in lists, changed in its place: lset(n).
+
+ghost use Rattle.std.specs.Prelude.{◌≡◌, ◌<◌, ◌≤◌, ◌-◌, length, take, drop, map, get_or, IfOk, OnErr};
+ghost use Rattle.std.specs.Str.{chars};
+ghost use Rattle.tcl_chars.specs.Answers.{Answers};
+ghost use Rattle.tcl_pages.specs.Lists.{element_set};
+ghost use Rattle.tcl_vars.specs.Way as way;
+ghost use Rattle.tcl_values.specs.Lists.{Leaves};
+
+use crate::words::empty;
+use std::alloc::Global;
+use tcl_arguments::text_at;
+use tcl_chars::{Dialect, Fault, expect_position, message, place_of};
+use tcl_values::Value;
+
+/// A list on the way to an element, and the place in it where the way goes on.
+#[derive(Drop)]
+struct Level {
+    list: Value,
+    place: usize,
+}
+
+/// The place that an index says in a list: that of an element, or the one behind the last.
+fn place_by(alloc: Global, list: &mut Value, index: &str, dialect: Dialect) -> Result<usize, Fault>
+    ensures place { Answers (λ n. n) result (way.place_by dialect list.old (chars index.now)) }
+    ensures same { list.new ≡ list.old }
+{
+    let count = list.count(alloc)?;
+    let position = expect_position(alloc, index, dialect)?;
+    let place = place_of(position, count);
+    if place < 0 || place > i128::from(count as u64) {
+        return Err(Fault::Error(message(alloc, "list index out of range")?));
+    }
+    Ok(place as usize)
+}
+
+/// The element at a place, taken out where nobody else holds the list, and the empty text where there is none.
+fn element_taken(alloc: Global, list: &mut Value, place: usize) -> Result<Value, Fault>
+    ensures element { Answers (λ v. v) result (way.element_in list.old place) }
+    ensures same { list.new ≡ list.old }
+{
+    match list.take_item(alloc, place)? {
+        Some(element) => Ok(element),
+        None => Ok(empty(alloc)?),
+    }
+}
+
+/// Puts an element at a place, or behind the last.
+fn put(alloc: Global, list: &mut Value, place: usize, element: Value) -> Result<(), Fault>
+    ensures done { Leaves list.new (way.put list.old place element) result }
+    ensures same { OnErr result (list.new ≡ list.old) }
+{
+    if place < list.count(alloc)? {
+        list.replace_item(alloc, place, element)?;
+        return Ok(());
+    }
+    list.push(alloc, element)
+}
+
+/// The lists on the way that indices lead, those from `first` on in front of `last`.
+fn levels_of(
+    alloc: Global,
+    list: Value,
+    indices: &mut [Value],
+    first: usize,
+    last: usize,
+    dialect: Dialect,
+) -> Result<Vec<Level>, Fault>
+    requires { last ≤ length indices.old }
+    ensures levels { Answers (λ v. way.all_seen v.items) result (way.way_of dialect list (drop first (take last indices.old))) }
+    ensures same { indices.new ≡ indices.old }
+{
+    let mut levels = Vec::new(alloc);
+    let mut list = list;
+    for at in first..last {
+        let index = text_at(alloc, indices, at)?;
+        let place = place_by(alloc, &mut list, index.as_str(), dialect)?;
+        let inner = element_taken(alloc, &mut list, place)?;
+        levels.push(Level { list, place })?;
+        list = inner;
+    }
+    Ok(levels)
+}
+
+/// The outermost list, with a new element at the way's end.
+fn put_back(alloc: Global, levels: Vec<Level>, new: Value) -> Result<Value, Fault>
+    ensures { Answers (λ v. v) result (way.put_all (way.all_seen levels.items) new) }
+{
+    let mut levels = levels;
+    let mut element = new;
+    while let Some(level) = levels.pop() {
+        let mut list = level.list;
+        put(alloc, &mut list, level.place, element)?;
+        element = list;
+    }
+    Ok(element)
+}
+
+/// Puts a new element where the first `count` indices lead.
+pub(crate) fn put_at(
+    alloc: Global,
+    value: &mut Value,
+    indices: &mut [Value],
+    count: usize,
+    new: Value,
+    dialect: Dialect,
+) -> Result<(), Fault>
+    requires { count ≤ length indices.old }
+    ensures done { Leaves value.new (element_set dialect value.old (take count indices.old) new) result }
+    ensures same { OnErr result (value.new ≡ value.old) }
+    ensures indices { indices.new ≡ indices.old }
+{
+    if count == 0 {
+        *value = new;
+        return Ok(());
+    }
+    let index = text_at(alloc, indices, 0)?;
+    let place = place_by(alloc, value, index.as_str(), dialect)?;
+    let inner = element_taken(alloc, value, place)?;
+    let levels = levels_of(alloc, inner, indices, 1, count, dialect)?;
+    let element = put_back(alloc, levels, new)?;
+    put(alloc, value, place, element)
+}
