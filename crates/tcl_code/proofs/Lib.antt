@@ -1,4 +1,5 @@
 pub mod Building
+pub mod Catching
 pub mod Ends
 pub mod Found
 pub mod Guarding

@@ -1,8 +1,10 @@
 pub mod Build
+pub mod Caught
 pub mod Guards
 pub mod Instructions
 pub mod Machine
 pub mod Means
+pub mod Open
 pub mod Parts
 pub mod Running
 pub mod Search

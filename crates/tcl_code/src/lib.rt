@@ -16,6 +16,6 @@ mod shape;
 
 pub use builder::{CodeBuilder, CodeFault};
 pub use code::Code;
-pub use inlined::Inlined;
+pub use inlined::{Change, Inlined};
 pub use instr::{Instr, TextInstr};
 pub use shape::Shape;

@@ -10,9 +10,10 @@ use Rattle.tcl_code.specs.Guards.{name_of}
 use Rattle.tcl_code.specs.Parts.{Does}
 use Rattle.tcl_code.specs.declared.inlined.Inlined.TheVariants as inlined
 use Rattle.tcl_meaning.specs.Substitution.{pieces_text}
-use Rattle.tcl_compile.specs.declared.change.Change.{Change}
-use Rattle.tcl_compile.specs.declared.change.Change.TheVariants as change
-use Rattle.tcl_compile.specs.Changes.{IsChange, changing, inlined_of}
+use Rattle.tcl_code.specs.declared.inlined.Change.{Change}
+use Rattle.tcl_code.specs.declared.inlined.Change.TheVariants as change
+use Rattle.tcl_code.specs.Guards.{inlined_of}
+use Rattle.tcl_compile.specs.Changes.{IsChange, changing}
 use Rattle.tcl_compile.proofs.Inlined.{set_runs, bump_runs}
 use Rattle.tcl_compile.specs.Emitted.{PieceCode, WordCode, BracketCode, CommandCode, ScriptCode, PiecesLeft, WordsLeft, GatheredLeft}
 use Rattle.tcl_compile.specs.Fragments.{adding, Plain, Grown, Leads}

@@ -2,17 +2,11 @@
 use Rattle.std.specs.Prelude.{◌≡◌, false, List, [], ◌∷◌}
 use Rattle.tcl_words.specs.Parts.{Shape}
 use Rattle.tcl_pages.specs.Texts.{Text}
-use Rattle.tcl_code.specs.Guards.{name_of}
+use Rattle.tcl_code.specs.Guards.{inlined_of, name_of}
 use Rattle.tcl_code.specs.Instructions.{Instruction, Write, Bump}
-use Rattle.tcl_code.specs.declared.inlined.Inlined.{Inlined}
-use Rattle.tcl_code.specs.declared.inlined.Inlined.TheVariants as inlined
 use Rattle.tcl_compile.specs.Inlining.{Says}
-use Rattle.tcl_compile.specs.declared.change.Change.{Change}
-use Rattle.tcl_compile.specs.declared.change.Change.TheVariants as change
-
-abbrev pub inlined_of : Change → Inlined
-inlined_of change.Set = inlined.Set
-inlined_of change.Incr = inlined.Incr
+use Rattle.tcl_code.specs.declared.inlined.Change.{Change}
+use Rattle.tcl_code.specs.declared.inlined.Change.TheVariants as change
 
 -- by the text on top
 abbrev pub changing : Change → Text → Instruction

@@ -2,44 +2,15 @@
 
 ghost use Rattle.std.specs.Prelude.{◌≡◌, ◌++◌, ◌∷◌, [], IfSome, OnOk, length, map};
 ghost use Rattle.std.specs.Str.{chars};
-ghost use Rattle.tcl_code.specs.Guards.{name_of};
+ghost use Rattle.tcl_code.specs.Guards.{inlined_of, name_of};
 ghost use Rattle.tcl_code.specs.Instructions.{Call, Guard, Skip, Under};
 ghost use Rattle.tcl_words.specs.Parts.{shape_of};
-ghost use Rattle.tcl_compile.specs.Changes.{IsChange, changing, inlined_of};
+ghost use Rattle.tcl_compile.specs.Changes.{IsChange, changing};
 ghost use Rattle.tcl_compile.specs.Inlining.{Says};
 
 use std::alloc::AllocError;
-use tcl_code::{CodeBuilder, Inlined, Instr};
+use tcl_code::{Change, CodeBuilder, Instr};
 use tcl_words::{Piece, Word};
-
-/// What changes a variable.
-#[derive(Clone, Copy)]
-pub(crate) enum Change {
-    Set,
-    Incr,
-}
-
-impl Change {
-    // The command.
-    fn page(self) -> Inlined
-        ensures { result ≡ inlined_of self }
-    {
-        match self {
-            Change::Set => Inlined::Set,
-            Change::Incr => Inlined::Incr,
-        }
-    }
-
-    // Its name.
-    fn name(self) -> &'static str
-        ensures { chars result.now ≡ name_of (inlined_of self) }
-    {
-        match self {
-            Change::Set => "set",
-            Change::Incr => "incr",
-        }
-    }
-}
 
 // The text of a word that is literal.
 fn literal<'a>(word: &Word<'a>) -> Option<&'a str>
@@ -88,13 +59,13 @@ pub(crate) fn emit_change(
 ) -> Result<(), AllocError>
     ensures { OnOk result (code.new ≡ code.old ++ Guard (inlined_of change) 2 ∷ changing change (chars name.now) ∷ Skip 3 ∷ Under (name_of (inlined_of change)) ∷ Under (chars name.now) ∷ Call 3 ∷ []) }
 {
-    code.emit(Instr::Guard(change.page(), 2))?;
+    code.emit(Instr::Guard(change.inlined(), 2))?;
     match change {
         Change::Set => code.write(name)?,
         Change::Incr => code.bump(name)?,
     }
     code.emit(Instr::Skip(3))?;
-    code.under(change.name())?;
+    code.under(change.inlined().name())?;
     code.under(name)?;
     code.emit(Instr::Call(3))
 }

@@ -11,10 +11,10 @@ ghost use Rattle.tcl_compile.specs.Emitted.{PieceCode, WordCode, BracketCode, Co
 ghost use Rattle.tcl_compile.specs.Fragments.{Grown, Plain, adding};
 ghost use Rattle.tcl_compile.specs.Within.{PartWithin, PartsWithin, WordsWithin};
 
-use crate::change::{Change, change_of, emit_change};
+use crate::change::{change_of, emit_change};
 use std::alloc::{AllocError, Global};
 use tcl_chars::push;
-use tcl_code::{CodeBuilder, Instr};
+use tcl_code::{Change, CodeBuilder, Instr};
 use tcl_words::{Parsed, Piece, Word, parse_first};
 
 // Brackets and array indices may stand in one another this deep.

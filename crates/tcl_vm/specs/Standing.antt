@@ -1,5 +1,5 @@
 -- A machine: a code that runs, and those that wait for it; and what it comes to. In a dialect of numbers.
-use Rattle.std.specs.Prelude.{◌≡◌, ℕ, List, [], ◌∷◌, length, slice_get}
+use Rattle.std.specs.Prelude.{◌≡◌, ℕ, List, [], ◌∷◌, length}
 use Rattle.tcl_chars.specs.declared.numbers.Dialect.{Dialect}
 use Rattle.tcl_meaning.specs.Asking.{all_answered}
 use Rattle.tcl_meaning.specs.Beginnings.{OutputsBegin}
@@ -10,7 +10,8 @@ use Rattle.tcl_meaning.specs.Script.{Run, page_in}
 use Rattle.tcl_meaning.specs.State.{Channels, State, with_store, with_active, with_frames}
 use Rattle.tcl_meaning.specs.Tasks.{Step, Owes}
 pub use Rattle.tcl_code.specs.Running.{Running}
-use Rattle.tcl_code.specs.Machine.{Move, move, result_at, Ended, landed, exec_code}
+use Rattle.tcl_code.specs.Caught.{move_at}
+use Rattle.tcl_code.specs.Machine.{Move, result_at, Ended, landed, exec_code}
 
 -- ---- the machine
 
@@ -47,9 +48,9 @@ pub record Machine : Type 0 where
 
 -- ---- what it comes to
 
--- the instruction where a code stands, or its end
+-- what the instruction does where a code stands, or its end
 abbrev pub here : Dialect → Running → State → Move
-here dialect a s = move dialect (slice_get a.code a.spot.at) a.spot.at a.spot.stack.texts a.spot.stack.lists a.spot.stack.results a.spot.depth s
+here dialect a s = move_at dialect a s
 
 module _ (dialect : Dialect) where
   -- the code comes to this, from where it stands
@@ -60,7 +61,7 @@ module _ (dialect : Dialect) where
   -- and to this, where the command that was called there comes to that
   pub record After (a : Running) (that got : Got Completion) : Type 0 where
     pub steps : ℕ
-    pub ends : landed (exec_code dialect a.code steps) (result_at a.spot.at a.spot.stack a.spot.depth) that ≡ Ended got
+    pub ends : landed (exec_code dialect a.code steps) a.spot.stack.loops (result_at a.spot.at a.spot.stack a.spot.depth) that ≡ Ended got
 
   -- what a page comes to, called from a script of this depth, when it has come to a step
   abbrev pub left_of_page : ℕ → Step → State → Got Completion

@@ -10,8 +10,8 @@ ghost use Rattle.tcl_meaning.specs.Pages.{owed};
 ghost use Rattle.tcl_meaning.specs.Script.{most_depth};
 ghost use Rattle.tcl_meaning.specs.State.{State};
 ghost use Rattle.tcl_code.specs.Means.{Means, MeansExpr};
-ghost use Rattle.tcl_vm.specs.Engines.{Views, completion_of, step_of, Answers, Strides, position, BeginsAs, Spent, is_io, stop_by};
-ghost use Rattle.tcl_vm.specs.Fitting.{answered, FitsHere};
+ghost use Rattle.tcl_vm.specs.Engines.{Views, completion_of, step_of, Answers, Strides, position, BeginsAs, LandsSo, Spent, is_io, stop_by};
+ghost use Rattle.tcl_vm.specs.Fitting.{FitsHere};
 ghost use Rattle.tcl_vm.specs.Standing.{Nothing, undone_of, undo};
 ghost use Rattle.tcl_vm.specs.Turns.{Onward};
 ghost use Rattle.tcl_vm.specs.Unwinding.{CanUndo, SameFrames};
@@ -115,13 +115,13 @@ pub trait Engine {
     fn depth(&self, activation: &Self::Activation) -> u64
         ensures { result ≡ (views.running activation.now).spot.depth };
 
-    /// A command that was called has ended so.
+    /// A command that was called has ended so. The code goes on behind it, or at a loop, or ends so.
     fn answer(
         &self,
         activation: &mut Self::Activation,
         completion: Completion,
-    ) -> Result<(), AllocError>
-        ensures { OnOk result (views.running activation.new ≡ answered (views.running activation.old) (completion_of completion)) };
+    ) -> Result<Option<Completion>, AllocError>
+        ensures { IfOk result (λ left. LandsSo left (views.running activation.old) (views.running activation.new) (completion_of completion)) };
 
     /// The error of a script that would stand too deep.
     fn too_deep(&self) -> Result<Completion, AllocError>

@@ -126,11 +126,9 @@ pub(crate) fn done<E: Engine>(
     ensures makes { Makes (E.dialect engine.old) E.views result (config_of E.views (turn.Asking (step.Done completion)) machine.old (E.shown engine.old)) machine.new (E.shown engine.new) }
     ensures leaves { E.leaves (is_io result) engine.old engine.new }
 {
-    if completion.is_ok() {
-        engine.answer(&mut machine.current, completion)?;
-        Ok(Made::On(Turn::Next))
-    } else {
-        Ok(Made::On(Turn::Ending(completion)))
+    match engine.answer(&mut machine.current, completion)? {
+        None => Ok(Made::On(Turn::Next)),
+        Some(completion) => Ok(Made::On(Turn::Ending(completion))),
     }
 }
 
