@@ -66,6 +66,8 @@ which_is page.Eval p e = absurd (cc)
 which_is page.Expr p e = let f : inlined.Expr ≡ p = cc in ap page_of f
 which_is page.Catch p e = absurd (cc)
 which_is page.Return p e = absurd (cc)
+which_is page.Throw p e = absurd (cc)
+which_is page.Try p e = absurd (cc)
 which_is page.Error p e = absurd (cc)
 which_is page.Break p e = let f : inlined.Break ≡ p = cc in ap page_of f
 which_is page.Continue p e = let f : inlined.Continue ≡ p = cc in ap page_of f

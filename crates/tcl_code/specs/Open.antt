@@ -8,11 +8,11 @@ use Rattle.tcl_code.specs.Valid.{Comes}
 use Rattle.tcl_code.specs.declared.shape.Shape.{Shape}
 
 -- there is one result more than brackets are open, and the script stands at least as deep as they
-pub record IsShaped (texts : Texts) (lists : List Texts) (results : List Completion) (depth : ℕ) (s : Shape) : Type 0 where
-  pub texts : length texts ≡ s.height
-  pub lists : length lists ≡ s.lists
-  pub results : length results ≡ s.depth + 1
-  pub brackets : s.depth ≤ depth
+pub record IsShaped (ts : Texts) (ls : List Texts) (rs : List Completion) (d : ℕ) (s : Shape) : Type 0 where
+  pub texts : length ts ≡ s.height
+  pub lists : length ls ≡ s.lists
+  pub results : length rs ≡ s.depth + 1
+  pub brackets : s.depth ≤ d
 
 -- Ways come to where the code goes on after `break` and after `continue`, with the shape of what the loop has saved.
 pub record LoopFits (code : List Instruction) (o : Loop) (s : Shape) : Type 0 where
