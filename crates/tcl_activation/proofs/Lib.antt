@@ -6,6 +6,8 @@ mod Joining
 mod Lending
 mod Lifting
 mod Operators
+mod Resuming
 mod Spelling
 mod Stepping
+mod Straight
 mod Topics

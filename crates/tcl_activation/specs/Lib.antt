@@ -1,8 +1,11 @@
 pub mod Piles
 pub mod PileLent
 pub mod Called
+pub mod Saved
+pub mod Loops
 pub mod WordsLent
 pub mod Moves
+pub mod Changing
 pub mod Reads
 pub mod Results
 pub mod Turnings

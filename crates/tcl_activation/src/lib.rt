@@ -4,6 +4,9 @@
 mod activation;
 mod calls;
 mod expressions;
+mod inlined;
+mod loops;
+mod open_loop;
 mod pile;
 mod progress;
 mod results;
@@ -14,6 +17,7 @@ mod variables;
 mod ways;
 
 pub use activation::Activation;
+pub use open_loop::OpenLoop;
 pub use pile::Pile;
 pub use progress::Progress;
 pub use results::{Last, Results};

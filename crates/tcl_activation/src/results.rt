@@ -91,6 +91,16 @@ impl Results {
         })
     }
 
+    /// The results of one script, which has run no command yet.
+    pub fn new(alloc: Global) -> Results
+        ensures { result ≡ nothing ∷ [] }
+    {
+        Results {
+            newest: Some(Last::nothing()),
+            others: Vec::new(alloc),
+        }
+    }
+
     /// Adds the result of one more script.
     pub fn push(&mut self, last: Last) -> Result<(), AllocError>
         ensures { OnOk result (self.new ≡ last ∷ self.old) }

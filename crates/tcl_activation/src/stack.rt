@@ -2,6 +2,7 @@
 ghost use Rattle.std.specs.Prelude.{◌≡◌, [], ◌∷◌, ◌++◌, ◌≤◌, Some, length, IfOk, OnOk};
 ghost use Rattle.tcl_code.specs.Machine.{taken};
 
+use crate::open_loop::OpenLoop;
 use crate::pile::Pile;
 use crate::results::Results;
 use std::alloc::{AllocError, Global};
@@ -55,13 +56,14 @@ impl Words {
     }
 }
 
-/// What stands where a code runs: texts, lists of words, how the last commands of the scripts that are open have ended, and in
-/// how many scripts it stands.
+/// What stands where a code runs: texts, lists of words and how the last commands of the scripts that are open have ended, in the
+/// innermost loop's body; the loops whose bodies run; and in how many scripts it stands.
 #[derive(Drop)]
 pub struct Stack {
     pub texts: Pile<Value>,
     pub lists: Pile<Words>,
     pub results: Results,
+    pub loops: Pile<OpenLoop>,
     pub depth: u32,
 }
 

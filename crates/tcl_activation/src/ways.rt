@@ -63,6 +63,7 @@ impl Stack {
         requires texts { length self.old.texts ≡ 0 }
         requires lists { length self.old.lists ≡ 0 }
         requires results { length self.old.results ≡ 1 }
+        requires loops { length self.old.loops ≡ 0 }
         ensures { IfOk result (λ c. (dialect : Dialect) (at : ℕ) (s : State) → here dialect None at self.old s ≡ Ends (Gives c s)) }
     {
         self.results.pop().into_completion(alloc)

@@ -1,27 +1,18 @@
 -- Parts that are emitted one after another.
-use Rattle.std.proofs.Common.{◌≡◌, ℕ, zero, suc, ◌+◌, ◌<◌, ◌≤◌, false, List, [], ◌∷◌, ◌++◌, length, get_or, drop, refl, sym, ap, ◌∙◌, subst, arith, append_assoc, append-nil, add-one, drop-cons}
+use Rattle.std.proofs.Common.{◌≡◌, ℕ, zero, suc, ◌+◌, ◌<◌, ◌≤◌, false, List, [], ◌∷◌, ◌++◌, length, get_or, drop, refl, sym, ap, ◌∙◌, subst, arith, append_assoc, append-nil}
 use Rattle.tcl_words.specs.Parts.{Part, text, escape, var, elem_, bracket, parts_of, Stretch, Shape}
 use Rattle.tcl_words.specs.First.{none, malformed, command, first_command, most_levels}
 use Rattle.tcl_words.specs.Syntax.{syntax_text}
 use Rattle.tcl_words.specs.declared.fault.Syntax.{Syntax}
 use Rattle.tcl_pages.specs.Texts.{Text}
-use Rattle.tcl_code.specs.Instructions.{Instruction, Push, Read, ReadElement, Join, Spend, Enter, Leave, Call, Gather, CallGathered, Raise, Guard, Under, Write, Bump, Skip}
-use Rattle.tcl_code.specs.Guards.{name_of}
-use Rattle.tcl_code.specs.Parts.{Does}
-use Rattle.tcl_code.specs.declared.inlined.Inlined.TheVariants as inlined
-use Rattle.tcl_meaning.specs.Substitution.{pieces_text}
-use Rattle.tcl_code.specs.declared.inlined.Change.{Change}
-use Rattle.tcl_code.specs.declared.inlined.Change.TheVariants as change
-use Rattle.tcl_code.specs.Guards.{inlined_of}
-use Rattle.tcl_compile.specs.Changes.{IsChange, changing}
-use Rattle.tcl_compile.proofs.Inlined.{set_runs, bump_runs}
+use Rattle.tcl_code.specs.Instructions.{Instruction, Push, Read, ReadElement, Join, Spend, Enter, Leave, Call, Gather, CallGathered, Raise}
 use Rattle.tcl_compile.specs.Emitted.{PieceCode, WordCode, BracketCode, CommandCode, ScriptCode, PiecesLeft, WordsLeft, GatheredLeft}
 use Rattle.tcl_compile.specs.Fragments.{adding, Plain, Grown, Leads}
 use Rattle.tcl_compile.proofs.Pieces.{push_does, read_does, element_does, index_does, bracket_does, joins_end, joins_next, word_does}
 use Rattle.tcl_compile.proofs.Commands.{calls_end, calls_next, command_does, gathers_end, gathers_next, gathered_does, follows_end, follows_bad, follows_command}
 use Rattle.tcl_meaning.proofs.ScriptRules.{drop_here}
 
-abbrev Code : Type 0
+abbrev pub Code : Type 0
 Code = List Instruction
 
 -- m1 is m0 and then c
@@ -156,28 +147,3 @@ script_ends t now rest old new e l = leads_end (ScriptCode now) (ScriptCode t) o
 pub script_fails : (t now : Text) (m : Syntax) (x : Text) (old c0 c1 : Code) → first_command most_levels now ≡ malformed m → x ≡ syntax_text m → Leads (ScriptCode now) (ScriptCode t) old c0 → c1 ≡ c0 ++ Raise x ∷ [] → Grown (ScriptCode t) old c1
 script_fails t now m x old c0 c1 e f l e1 =
     leads_end (ScriptCode now) (ScriptCode t) old c0 c1 l (Raise x ∷ [], e1, subst (λ y. ScriptCode now (Raise y ∷ [])) (sym f) (λ dialect. follows_bad dialect now m e))
-
--- ---- a variable's change
-
-pub grown_changed : (k : Change) (name : Text) (ws : List Shape) (w : Shape) (m0 m1 m2 : Code) → IsChange k name ws → w ≡ get_or ws 2 w → 2 < length ws → Grown (WordCode w.pieces) m0 m1
-    → m2 ≡ m1 ++ Guard (inlined_of k) 2 ∷ changing k name ∷ Skip 3 ∷ Under (name_of (inlined_of k)) ∷ Under name ∷ Call 3 ∷ [] → Grown (CommandCode ws) m0 m2
-grown_changed k name [] w m0 m1 m2 h e lt g n = absurd h
-grown_changed k name (w0 ∷ []) w m0 m1 m2 h e lt g n = absurd h
-grown_changed k name (w0 ∷ w1 ∷ []) w m0 m1 m2 h e lt g n = absurd h
-grown_changed k name (w0 ∷ w1 ∷ w2 ∷ x ∷ ws) w m0 m1 m2 h e lt g n = absurd h
-grown_changed change.Set name (w0 ∷ w1 ∷ w2 ∷ []) w m0 m1 m2 h e lt g n = (
-  g.0 ++ Guard inlined.Set 2 ∷ Write name ∷ Skip 3 ∷ Under (name_of inlined.Set) ∷ Under name ∷ Call 3 ∷ [],
-  (join (ext {m0 = m0} {c = g.0} g.1) (ext {m0 = m1} {c = Guard inlined.Set 2 ∷ Write name ∷ Skip 3 ∷ Under (name_of inlined.Set) ∷ Under name ∷ Call 3 ∷ []} n)).is,
-  λ dialect. set_runs dialect name w0 w1 w2 g.0 h.0 h.1 h.2 (subst (λ (v : Shape). Does dialect g.0 (λ d. pieces_text d v.pieces)) e (g.2 dialect)),
-)
-grown_changed change.Incr name (w0 ∷ w1 ∷ w2 ∷ []) w m0 m1 m2 h e lt g n = (
-  g.0 ++ Guard inlined.Incr 2 ∷ Bump name ∷ Skip 3 ∷ Under (name_of inlined.Incr) ∷ Under name ∷ Call 3 ∷ [],
-  (join (ext {m0 = m0} {c = g.0} g.1) (ext {m0 = m1} {c = Guard inlined.Incr 2 ∷ Bump name ∷ Skip 3 ∷ Under (name_of inlined.Incr) ∷ Under name ∷ Call 3 ∷ []} n)).is,
-  λ dialect. bump_runs dialect name w0 w1 w2 g.0 h.0 h.1 h.2 (subst (λ (v : Shape). Does dialect g.0 (λ d. pieces_text d v.pieces)) e (g.2 dialect)),
-)
-
-pub change_long : (k : Change) (name : Text) (ws : List Shape) → IsChange k name ws → 2 < length ws
-change_long k name [] h = absurd h
-change_long k name (w0 ∷ []) h = absurd h
-change_long k name (w0 ∷ w1 ∷ []) h = absurd h
-change_long k name (w0 ∷ w1 ∷ w2 ∷ ws) h = omega arith

@@ -1,7 +1,5 @@
 -- A command that is inlined, with the general call beside it.
-use Rattle.std.proofs.Common.{◌≡◌, ℕ, suc, ◌+◌, ◌≤◌, Bool, true, false, List, [], ◌∷◌, ◌++◌, length, Some, refl, sym, ap, ◌∙◌, subst, arith, append_assoc, append-nil, length-append, cond}
-use Rattle.std.specs.Prelude.{slice_get}
-use Rattle.std.specs.FinMap as map
+use Rattle.std.proofs.Common.{◌≡◌, ℕ, ◌+◌, ◌≤◌, Bool, true, false, List, [], ◌∷◌, ◌++◌, length, refl, sym, ap, ◌∙◌, subst, arith, append_assoc, length-append, cond}
 use Rattle.tcl_chars.specs.declared.numbers.Dialect.{Dialect}
 use Rattle.tcl_words.specs.Parts.{Shape}
 use Rattle.tcl_pages.specs.Texts.{Text}
@@ -15,22 +13,22 @@ use Rattle.tcl_meaning.specs.Pages.{owed, invoked, page_asks, command_asks}
 use Rattle.tcl_meaning.specs.Script.{Run, run_command, page_in}
 use Rattle.tcl_meaning.specs.Substitution.{pieces_text}
 use Rattle.tcl_meaning.specs.Tasks.{Task}
-use Rattle.tcl_meaning.specs.Value.{Value, Has, Fails}
 use Rattle.tcl_meaning.proofs.Runs.{exec_bind}
 use Rattle.tcl_code.specs.declared.inlined.Inlined.{Inlined}
 use Rattle.tcl_code.specs.Guards.{name_of, page_of, stands}
 use Rattle.tcl_code.specs.Instructions.{Instruction, Guard, Skip}
-use Rattle.tcl_code.specs.Machine.{Loop, Texts, Stack, stack_of, with_result, result_at, Spot, spot, To, landed_by, exec_code}
+use Rattle.tcl_code.specs.Machine.{Loop, Texts, Stack, with_result, result_at, Spot, spot, To, landed_by, exec_code}
 use Rattle.tcl_code.specs.Parts.{HasAt, Fits, Lands, Runs}
-use Rattle.tcl_code.specs.Valid.{Target, Ahead, Ways, shape, IsFine, ways_of, EachWay}
+use Rattle.tcl_code.specs.Valid.{Ahead, Ways, shape, IsFine, ways_of, EachWay}
 use Rattle.tcl_code.specs.declared.shape.Shape.{Shape as Standing}
 use Rattle.tcl_code.proofs.Guarding.{stands_is}
-use Rattle.tcl_code.proofs.Shapes.{Leads, fits_none, fits_joined, joined_back, fits_before, before_at}
+use Rattle.tcl_code.proofs.Shapes.{Leads, fits_joined, joined_back, fits_before, before_at}
 use Rattle.tcl_code.proofs.Place.{has_front, has_back}
 use Rattle.tcl_code.proofs.Steps.{one_done, here_done, moved_done, same_done}
+use Rattle.tcl_compile.specs.Forms.{page_does}
 use Rattle.tcl_compile.specs.Fragments.{words_value}
 use Rattle.tcl_compile.specs.Inlining.{Says, AllSay, Makes}
-use Rattle.tcl_compile.proofs.Commands.{words_one, words_last, command_is}
+use Rattle.tcl_compile.proofs.Commands.{words_one, command_is}
 use Rattle.tcl_compile.proofs.Failing.{finishing, landed_stops}
 
 -- ---- two ways that come together
@@ -67,6 +65,10 @@ module _ (i : Instruction) (c g : List Instruction) (v s s1 t : Standing) (x : F
       fits_before i (c ++ Skip (length g) ∷ g) v s t both fine
       (subst (λ (ws : Ways). EachWay (Leads (λ k u. (k ≤ length (c ++ Skip (length g) ∷ g)) × (both.at k ≡ u))) ws) (sym ways)
       ((omega arith, both.starts), ((omega (arith, length-append c (Skip (length g) ∷ g)), both_past), tt)))
+
+-- behind a guard, and past it
+abbrev pub guarded : Inlined → List Instruction → List Instruction → List Instruction
+guarded p c g = fork (Guard p (length c + 1)) c g
 
 module _ (dialect : Dialect) where
   -- ---- a completion that is ok comes further
@@ -122,14 +124,8 @@ module _ (dialect : Dialect) where
 
   -- ---- the guard
 
-  abbrev pub guarded : Inlined → List Instruction → List Instruction → List Instruction
-  guarded p c g = fork (Guard p (length c + 1)) c g
-
-  abbrev pub page_does : Inlined → Texts → ℕ → Prog Task Completion
-  page_does p ws d = page_in dialect d (page_asks dialect (page_of p) ws)
-
   -- where a command's words are there, its page where the name stands for it, and the call beside
-  pub guarded_runs : (p : Inlined) (ws : Texts) (f : ℕ → Prog Task Completion) (c g : List Instruction) → ((d : ℕ) (s : State) → exec (Run dialect) (f d) s ≡ exec (Run dialect) (page_in dialect d (invoked dialect (name_of p ∷ ws))) s) → Makes dialect c (page_does p ws) → Runs dialect g f → Runs dialect (guarded p c g) f
+  pub guarded_runs : (p : Inlined) (ws : Texts) (f : ℕ → Prog Task Completion) (c g : List Instruction) → ((d : ℕ) (s : State) → exec (Run dialect) (f d) s ≡ exec (Run dialect) (page_in dialect d (invoked dialect (name_of p ∷ ws))) s) → Makes dialect c (page_does dialect p ws) → Runs dialect g f → Runs dialect (guarded p c g) f
   guarded_runs p ws f c g same x y = record {
     from = λ code at last stack d s has. go code at last stack d s has (stands p s.store) refl;
     pays = λ h l d q o. past_fits (Guard p (length c + 1)) c g (shape h l d (q + 1) o) (shape h l d q o) (shape h l d (q + 1) o) (shape h l d q o) (x.keeps h l d q o) (y.pays h l d q o) (omega arith) (ap (λ n. (Ahead (length c + 1), shape h l d (q + 1) o) ∷ (Ahead 0, shape h l d n o) ∷ []) (omega arith));
@@ -140,7 +136,7 @@ module _ (dialect : Dialect) where
           let back = has_back code (at + 1) c (Skip (length g) ∷ g) has.1 in
           one_done dialect code (Guard p (length c + 1)) has.0 (ap (λ b. To (spot (cond b (at + 1) (at + 1 + (length c + 1))) (with_result last stack) d) s) e)
           (same_done dialect code (sym (same d s ∙ invoked_stands p ws d s e))
-          (further code (exec (Run dialect) (page_does p ws d) s) (x.from code (at + 1) last stack d s (has_front code (at + 1) c (Skip (length g) ∷ g) has.1))
+          (further code (exec (Run dialect) (page_does dialect p ws d) s) (x.from code (at + 1) last stack d s (has_front code (at + 1) c (Skip (length g) ∷ g) has.1))
           (λ r u fine. one_done dialect code (Skip (length g)) back.0 refl (here_done dialect code (omega (arith, length-append c (Skip (length g) ∷ g))) fine))))
       go code at last stack d s has false e =
           let back = has_back code (at + 1) c (Skip (length g) ∷ g) has.1 in

@@ -1,5 +1,5 @@
 -- The commands that are inlined, but for loops.
-use Rattle.std.proofs.Common.{◌≡◌, ℕ, suc, ◌+◌, ◌-◌, Bool, true, false, cond, List, [], ◌∷◌, ◌++◌, length, Option, Some, None, Result, Ok, Err, refl, sym, ap, ◌∙◌, subst, arith, length-append}
+use Rattle.std.proofs.Common.{◌≡◌, ℕ, ◌+◌, ◌-◌, Bool, true, false, cond, List, [], ◌∷◌, ◌++◌, length, Option, Some, refl, sym, ap, ◌∙◌, subst, arith, length-append}
 use Rattle.tcl_chars.specs.declared.numbers.Dialect.{Dialect}
 use Rattle.tcl_chars.specs.Texts.{literal}
 use Rattle.tcl_pages.specs.Texts.{Text}
@@ -11,23 +11,23 @@ use Rattle.tcl_meaning.specs.declared.code.Code.TheVariants as ending
 use Rattle.tcl_meaning.specs.Asking.{Asks, answered, all_answered, asked, value_step, done}
 use Rattle.tcl_meaning.specs.CodePages.{break_page, continue_page}
 use Rattle.tcl_meaning.specs.Completions.{Completion, normal, ended, code_now}
-use Rattle.tcl_meaning.specs.Control.{expr_page, if_page, if_shaped, next_clause}
+use Rattle.tcl_meaning.specs.Control.{expr_page, if_page, if_shaped}
 use Rattle.tcl_meaning.specs.Shapes.{if_shape}
 use Rattle.tcl_meaning.specs.State.{State}
-use Rattle.tcl_meaning.specs.Effects.{Prog, Plain, Got, Gives, Broke, Exits, Untold, on_got, exec, does, nothing_runs, plainly, ◌>>=◌ as andthen}
+use Rattle.tcl_meaning.specs.Effects.{Plain, Got, Gives, Broke, Exits, Untold, on_got, exec, does, nothing_runs, plainly, ◌>>=◌ as andthen}
 use Rattle.tcl_meaning.specs.Expressions.{expression}
 use Rattle.tcl_meaning.specs.Pages.{owed, invoked, page_asks}
 use Rattle.tcl_meaning.specs.Script.{Run, page_in, run_command}
 use Rattle.tcl_meaning.specs.Substitution.{pieces_text}
-use Rattle.tcl_meaning.specs.Tasks.{Task, Step, Done, Run as Runs_script, Evaluate, Pay, Others, Nothing}
-use Rattle.tcl_meaning.specs.Value.{Value, Has, Fails, ◌>>=◌, on_value, completed, judged, look}
+use Rattle.tcl_meaning.specs.Tasks.{Step, Done, Run as Runs_script, Evaluate, Pay, Nothing}
+use Rattle.tcl_meaning.specs.Value.{Value, Has, Fails, ◌>>=◌, on_value, judged, look}
 use Rattle.tcl_meaning.specs.Variables.{get, set}
 use Rattle.tcl_meaning.specs.VariablePages.{set_page, update_page, old_text}
 use Rattle.tcl_meaning.proofs.Runs.{exec_bind}
 use Rattle.tcl_meaning.proofs.Plain.{plainly_does}
 use Rattle.tcl_code.specs.declared.inlined.Inlined.{Inlined}
 use Rattle.tcl_code.specs.declared.inlined.Inlined.TheVariants as inlined
-use Rattle.tcl_code.specs.Guards.{name_of, page_of, stands}
+use Rattle.tcl_code.specs.Guards.{name_of, stands}
 use Rattle.tcl_code.specs.Instructions.{Instruction, Push, Call, Guard, Under, Write, Bump, Skip, Break, Continue, Answer as AnswerTop}
 use Rattle.tcl_code.specs.Machine as M
 use Rattle.tcl_code.specs.Machine.{Loop, Next, Spot, Stack, spot, with_text, with_result, result_at, on_page, on_code, landed, landed_by, follow}
@@ -36,13 +36,14 @@ use Rattle.tcl_code.specs.Valid.{Ahead, IsFine, ways_of, shape}
 use Rattle.tcl_code.proofs.Place.{has_front, has_back}
 use Rattle.tcl_code.proofs.Shapes.{fits_one, fits_stop, fits_joined}
 use Rattle.tcl_code.proofs.Steps.{same, one_done, final_done, here_done, moved_done, same_done}
+use Rattle.tcl_compile.specs.Forms.{page_does}
 use Rattle.tcl_compile.specs.Inlining.{Says, AllSay, Makes}
 use Rattle.tcl_compile.proofs.Commands.{words_one, command_is, calls_end, calls_next, command_does}
-use Rattle.tcl_compile.proofs.Guarded.{fork, past_fits, further, said_next, command_said, invoked_stands, page_does, guarded, guarded_runs}
+use Rattle.tcl_compile.proofs.Guarded.{fork, past_fits, further, said_next, command_said, invoked_stands, guarded, guarded_runs}
 use Rattle.tcl_compile.proofs.Failing.{finishing, pieces_fail, then_done, landed_stops}
 use Rattle.tcl_compile.specs.Fragments.{Calls, Follows}
 use Rattle.tcl_compile.proofs.Pieces.{push_does}
-use Rattle.tcl_compile.proofs.Looping.{loop_code, while_makes, asking, tested, evaluated_is, expression_fails, IfCode, clauses_make}
+use Rattle.tcl_compile.proofs.Looping.{loop_code, while_makes, tested, evaluated_is, expression_fails, IfCode, clauses_make}
 
 -- a page is over at once
 abbrev IsOver : Got (Value Step) → Type 0
@@ -251,10 +252,10 @@ module _ (dialect : Dialect) where
   call_said n (w ∷ ws) (u ∷ us) h = let said = h.0 in calls_next dialect n w ws (Push u ∷ []) (pushes us n) said.one (says_does w u h.0) (call_said n ws us h.1)
 
   -- a page for such a command, and the call beside it
-  pub literal_runs : (p : Inlined) (ws : List Shape) (us : List Text) (c : List Instruction) → AllSay ws (name_of p ∷ us) → Makes dialect c (page_does dialect p us) → Runs dialect (guarded dialect p c (pushes (name_of p ∷ us) (length ws))) (λ d. run_command dialect d ws)
+  pub literal_runs : (p : Inlined) (ws : List Shape) (us : List Text) (c : List Instruction) → AllSay ws (name_of p ∷ us) → Makes dialect c (page_does dialect p us) → Runs dialect (guarded p c (pushes (name_of p ∷ us) (length ws))) (λ d. run_command dialect d ws)
   literal_runs p ws us c h x = guarded_runs dialect p us (λ d. run_command dialect d ws) c (pushes (name_of p ∷ us) (length ws)) (λ d s. command_said dialect d ws (name_of p ∷ us) s h) x (command_does dialect ws (pushes (name_of p ∷ us) (length ws)) (call_said (length ws) ws (name_of p ∷ us) h))
 
   -- `while` of two literal words, as a command of a script
   pub while_runs : (w0 w1 w2 : Shape) (test body : Text) (t b : List Instruction) → AllSay (w0 ∷ w1 ∷ w2 ∷ []) (name_of inlined.While ∷ test ∷ body ∷ []) → Does dialect t (λ d. expression dialect d test) → Follows dialect b body
-      → Runs dialect (guarded dialect inlined.While (loop_code t b) (pushes (name_of inlined.While ∷ test ∷ body ∷ []) 3)) (λ d. run_command dialect d (w0 ∷ w1 ∷ w2 ∷ []))
+      → Runs dialect (guarded inlined.While (loop_code t b) (pushes (name_of inlined.While ∷ test ∷ body ∷ []) 3)) (λ d. run_command dialect d (w0 ∷ w1 ∷ w2 ∷ []))
   while_runs w0 w1 w2 test body t b h x f = literal_runs inlined.While (w0 ∷ w1 ∷ w2 ∷ []) (test ∷ body ∷ []) (loop_code t b) h (while_makes dialect test body t b x f)

@@ -4,6 +4,8 @@ pub mod Emits
 pub mod Expressions
 pub mod Guarded
 pub mod Failing
+pub mod Forks
+pub mod Forming
 pub mod Inlined
 pub mod KeptLemmas
 pub mod Leaves

@@ -11,16 +11,15 @@ use Rattle.tcl_meaning.specs.declared.code.Code.TheVariants as ending
 use Rattle.tcl_meaning.specs.Asking.{Asks, answered, all_answered, asked, value_step, done, ask}
 use Rattle.tcl_meaning.specs.Beginnings.{units_of}
 use Rattle.tcl_meaning.specs.Completions.{Completion, normal, nothing, failure, too_deep, code_now}
-use Rattle.tcl_meaning.specs.Control.{if_true, if_ok, ask_if, if_goes_on, after_while_body, while_next, while_page, turned, next_clause, body_asks}
+use Rattle.tcl_meaning.specs.Control.{if_true, if_ok, ask_if, if_goes_on, while_next, while_page, turned, next_clause}
 use Rattle.tcl_meaning.specs.State.{State, with_units}
 use Rattle.tcl_meaning.specs.Effects.{Here, Prog, Got, Gives, Broke, Exits, Untold, on_got, exec, paid, plainly, ◌>>=◌ as andthen}
 use Rattle.tcl_meaning.specs.Expressions.{expression, is_same, tree_text, parsed_text}
 use Rattle.tcl_meaning.specs.Pages.{owed, page_asks}
-use Rattle.tcl_meaning.specs.declared.page.Page.TheVariants as page
 use Rattle.tcl_meaning.specs.Script.{Run, most_depth, plan, page_in}
 use Rattle.tcl_meaning.specs.Substitution.{inside}
-use Rattle.tcl_meaning.specs.Tasks.{Task, Script, Turn as turn_task, Step, Run as Runs_script, Evaluate, Pay, While, Owes, Nothing, IfTest, WhileTest, WhileBody}
-use Rattle.tcl_meaning.specs.Value.{Value, Has, Fails, completed, judged, fail, ◌>>=◌}
+use Rattle.tcl_meaning.specs.Tasks.{Task, Script, Turn as turn_task, Run as Runs_script, Evaluate, Pay, While, Owes, Nothing, IfTest, WhileTest, WhileBody}
+use Rattle.tcl_meaning.specs.Value.{Value, Has, Fails, completed, judged, ◌>>=◌}
 use Rattle.tcl_meaning.proofs.Runs.{exec_bind, exec_goes, outcome_law}
 use Rattle.tcl_meaning.proofs.Reaching.{on_got_give, on_got_same}
 use Rattle.tcl_meaning.proofs.ScriptRules.{script_deep, run_onward}
@@ -43,7 +42,8 @@ use Rattle.tcl_expr.specs.ExprFault.{ExprFault}
 use Rattle.tcl_expr.specs.Machine.{expression_of}
 use Rattle.tcl_expr.specs.Texts.{fault_text}
 use Rattle.tcl_meaning.specs.Operators.{final_answer}
-use Rattle.tcl_compile.proofs.Guarded.{further, fork, on_fits, page_does}
+use Rattle.tcl_compile.proofs.Guarded.{further, fork, on_fits}
+use Rattle.tcl_compile.specs.Forms.{page_does}
 use Rattle.tcl_compile.specs.Inlining.{Makes}
 
 -- to the test; the body, and behind it what follows a `break`; the test, and a turn back to the body; an empty result

@@ -1,8 +1,5 @@
 -- Parts of an expression that are emitted one after another.
 use Rattle.std.proofs.Common.{◌≡◌, ℕ, zero, suc, ◌+◌, ◌<◌, ◌≤◌, Bool, false, List, [], ◌∷◌, ◌++◌, length, get_or, drop, Some, None, refl, sym, ap, ◌∙◌, subst, arith, append_assoc, append-nil, length-append}
-use Rattle.std.specs.Prelude.{◌-◌, MatchOption, slice_get, slice_set}
-use Rattle.std.proofs.lemmas.Option.{slice_get-get_or}
-use Rattle.std.proofs.Math.Seq.{get_or-append_seam, set-append_seam}
 use Rattle.tcl_expr.specs.Expr.{Leaf, literal, word, Expr, operand, group, call, unary, power, chain, choice, Rest, argument_count}
 use Rattle.tcl_expr.specs.Machine.{Step, rest_of, args_of}
 use Rattle.tcl_expr.specs.declared.token.UnaryOp.{UnaryOp}
@@ -12,19 +9,16 @@ use Rattle.tcl_words.specs.Parts.{Stretch, Shape}
 use Rattle.tcl_meaning.specs.Operators.{operator}
 use Rattle.tcl_pages.specs.Results.{truth_text}
 use Rattle.tcl_meaning.specs.Expressions.{applied, tree_text, rest_text}
-use Rattle.tcl_code.specs.Instructions.{Instruction, Push, Unary, Binary, Power, Apply, Truth, Skip, SkipWhen}
-use Rattle.tcl_code.specs.Build.{with_count}
+use Rattle.tcl_code.specs.Instructions.{Push, Unary, Binary, Power, Apply, Truth, Skip, SkipWhen}
 use Rattle.tcl_compile.specs.Emitted.{WordCode}
 use Rattle.tcl_compile.specs.Fragments.{Grown, Leads}
 use Rattle.tcl_compile.specs.Trees.{decided_by, Applies, TreeCode, StepCode, RestCode, ArgsLeft, TreeIsRead, RestIsRead, ArgsAreRead}
 use Rattle.tcl_compile.proofs.Changing.{does_change, change_change, change_none, change_choice, chosen, lazy_code, choice_code}
-use Rattle.tcl_compile.proofs.Emits.{ext, join, drop_end, leads_on, leads_end}
+use Rattle.tcl_compile.proofs.Emits.{Code, ext, join, drop_end, leads_on, leads_end}
+use Rattle.tcl_compile.proofs.Forks.{Behind, behind, more_behind, LedHere, forked}
 use Rattle.tcl_compile.proofs.Operators.{unary_does, power_does, eager_step, lazy_step, applies_end, applies_next, call_does}
 use Rattle.tcl_compile.proofs.Pieces.{push_does}
 use Rattle.tcl_meaning.proofs.ScriptRules.{drop_here}
-
-abbrev Code : Type 0
-Code = List Instruction
 
 -- ---- trees
 
@@ -58,22 +52,6 @@ grown_chain m0 m1 m2 t e q r f g h = (
   subst (λ x. TreeCode x (g.0 ++ h.0)) (sym f) (λ dialect. does_change dialect g.0 h.0 (λ d. tree_text dialect d e) (λ d a. rest_text dialect d a r) (g.2 dialect) (h.2 dialect)),
 )
 
--- ---- skips whose ends come later
-
--- an instruction, a part behind it, and more of that
-record Behind (i : Instruction) (old back new : Code) : Type 0 where
-  is : new ≡ old ++ i ∷ back
-
-behind : (c : Code) {i : Instruction} {m0 m1 m2 : Code} → m1 ≡ m0 ++ i ∷ [] → m2 ≡ m1 ++ c → Behind i m0 c m2
-behind c {i} {m0} {m1} {m2} e f = record { is = f ∙ ap (λ l. l ++ c) e ∙ append_assoc m0 (i ∷ []) c }
-
-more_behind : (c : Code) {i : Instruction} {m0 b m1 m2 : Code} → Behind i m0 b m1 → m2 ≡ m1 ++ c → Behind i m0 (b ++ c) m2
-more_behind c {i} {m0} {b} {m1} {m2} a f = record { is = f ∙ ap (λ l. l ++ c) a.is ∙ append_assoc m0 (i ∷ b) c }
-
--- what setting a skip's end does, wherever the skip stands
-abbrev pub LedHere : ℕ → Code → Code → Type 0
-LedHere place old new = (front back : Code) (i : Instruction) → old ≡ front ++ i ∷ back → place ≡ length front → new ≡ front ++ with_count (length back) i ∷ back
-
 pub grown_lazy : (m0 m1 m2 m3 m4 m5 m6 : Code) (o : BinaryOp) (b : Bool) (e : Expr) → decided_by o ≡ Some b → m1 ≡ m0 ++ SkipWhen b 0 ∷ [] → Grown (TreeCode e) m1 m2 → m3 ≡ m2 ++ Truth ∷ [] → m4 ≡ m3 ++ Skip 1 ∷ [] → LedHere (length m0) m4 m5 → m6 ≡ m5 ++ Push (truth_text b) ∷ []
     → Grown (StepCode o e) m0 m6
 grown_lazy m0 m1 m2 m3 m4 m5 m6 o b e d f g h k l n =
@@ -95,22 +73,13 @@ grown_eager m0 m1 m2 o e d g h = (
 
 pub grown_choice : (m0 m1 m2 m3 m4 m5 m6 m7 : Code) (t c e f : Expr) → t ≡ choice c e f → Grown (TreeCode c) m0 m1 → m2 ≡ m1 ++ SkipWhen false 0 ∷ [] → Grown (TreeCode e) m2 m3 → m4 ≡ m3 ++ Skip 0 ∷ [] → LedHere (length m1) m4 m5 → Grown (TreeCode f) m5 m6 → LedHere (length m3) m6 m7
     → Grown (TreeCode t) m0 m7
-grown_choice m0 m1 m2 m3 m4 m5 m6 m7 t c e f is g h x k l y n =
-    let first : Behind (SkipWhen false 0) m1 (x.0 ++ Skip 0 ∷ []) m4 = more_behind (Skip 0 ∷ []) (behind x.0 {i = SkipWhen false 0} {m0 = m1} h x.1) k in
-    let count : length (x.0 ++ Skip 0 ∷ []) ≡ length x.0 + 1 = omega (arith, length-append x.0 (Skip 0 ∷ [])) in
-    let m5_is : m5 ≡ m1 ++ SkipWhen false (length x.0 + 1) ∷ (x.0 ++ Skip 0 ∷ []) = l m1 (x.0 ++ Skip 0 ∷ []) (SkipWhen false 0) first.is refl ∙ ap (λ j. m1 ++ SkipWhen false j ∷ (x.0 ++ Skip 0 ∷ [])) count in
-    let front = m1 ++ SkipWhen false (length x.0 + 1) ∷ x.0 in
-    let m5_front : m5 ≡ front ++ Skip 0 ∷ [] = m5_is ∙ sym (append_assoc m1 (SkipWhen false (length x.0 + 1) ∷ x.0) (Skip 0 ∷ [])) in
-    let second : Behind (Skip 0) front y.0 m6 = behind y.0 {i = Skip 0} {m0 = front} m5_front y.1 in
-    let m3_is : m3 ≡ m1 ++ SkipWhen false 0 ∷ x.0 = (behind x.0 {i = SkipWhen false 0} {m0 = m1} h x.1).is in
-    let size : length m3 ≡ length front = ap length m3_is ∙ length-append m1 (SkipWhen false 0 ∷ x.0) ∙ sym (length-append m1 (SkipWhen false (length x.0 + 1) ∷ x.0)) in
-    let m7_is : m7 ≡ m1 ++ choice_code x.0 y.0 = n front y.0 (Skip 0) second.is size ∙ append_assoc m1 (SkipWhen false (length x.0 + 1) ∷ x.0) (Skip (length y.0) ∷ y.0) in (
-      g.0 ++ choice_code x.0 y.0,
-      (join (ext {m0 = m0} {c = g.0} g.1) (ext {m0 = m1} {c = choice_code x.0 y.0} m7_is)).is,
-      subst (λ z. TreeCode z (g.0 ++ choice_code x.0 y.0)) (sym is)
-          (λ dialect. does_change dialect g.0 (choice_code x.0 y.0) (λ d. tree_text dialect d c) (chosen dialect (λ d. tree_text dialect d e) (λ d. tree_text dialect d f)) (g.2 dialect)
-          (change_choice dialect x.0 y.0 (λ d. tree_text dialect d e) (λ d. tree_text dialect d f) (x.2 dialect) (y.2 dialect))),
-    )
+grown_choice m0 m1 m2 m3 m4 m5 m6 m7 t c e f is g h x k l y n = (
+  g.0 ++ choice_code x.0 y.0,
+  (join (ext {m0 = m0} {c = g.0} g.1) (ext {m0 = m1} {c = choice_code x.0 y.0} (forked (SkipWhen false 0) x.0 y.0 m1 m2 m3 m4 m5 m6 m7 h x.1 k l y.1 n))).is,
+  subst (λ z. TreeCode z (g.0 ++ choice_code x.0 y.0)) (sym is)
+      (λ dialect. does_change dialect g.0 (choice_code x.0 y.0) (λ d. tree_text dialect d c) (chosen dialect (λ d. tree_text dialect d e) (λ d. tree_text dialect d f)) (g.2 dialect)
+      (change_choice dialect x.0 y.0 (λ d. tree_text dialect d e) (λ d. tree_text dialect d f) (x.2 dialect) (y.2 dialect))),
+)
 
 -- ---- a chain's parts
 
@@ -154,13 +123,3 @@ pub step_read : (n : ℕ) (xs : List Step) (i : ℕ) (x : Step) → RestIsRead n
 step_read n [] i x h lt k = absurd (omega arith)
 step_read n (y ∷ xs) zero x h lt k = subst (λ (z : Step). TreeIsRead n z.1) (sym k) h.0
 step_read n (y ∷ xs) (suc i) x h lt k = step_read n xs i x h.1 (omega arith) k
-
--- ---- a skip that is led here
-
-pub led : (old new : Code) (place count : ℕ) → MatchOption (slice_get old place) (new ≡ old) (λ i. new ≡ slice_set old place (with_count count i)) → count ≡ length old - place - 1 → LedHere place old new
-led old new place count h e front back i f p =
-    let within : length front < length (front ++ i ∷ back) = omega (arith, length-append front (i ∷ back)) in
-    let here : slice_get old place ≡ Some i = ap (slice_get old) p ∙ ap (λ (l : Code). slice_get l (length front)) f ∙ slice_get-get_or (front ++ i ∷ back) (length front) i within ∙ ap Some (get_or-append_seam front i back i) in
-    let done : new ≡ slice_set old place (with_count count i) = subst (λ o. MatchOption o (new ≡ old) (λ j. new ≡ slice_set old place (with_count count j))) here h in
-    let size : count ≡ length back = omega (arith, e, p, ap length f, length-append front (i ∷ back)) in
-    done ∙ ap (λ (l : Code). slice_set l place (with_count count i)) f ∙ ap (λ k. slice_set (front ++ i ∷ back) k (with_count count i)) p ∙ set-append_seam front i back (with_count count i) ∙ ap (λ k. front ++ with_count k i ∷ back) size

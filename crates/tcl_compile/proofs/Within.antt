@@ -6,7 +6,7 @@ use Rattle.tcl_words.specs.declared.fault.Syntax.{Syntax}
 use Rattle.tcl_words.specs.Parts.{Part, parts_of, Shape}
 use Rattle.tcl_words.specs.Words.{first_at, inner_at}
 use Rattle.tcl_words.specs.First.{command, first_of, first, first_command, operand}
-use Rattle.tcl_chars.proofs.Ends.{Forward, Moves}
+use Rattle.tcl_chars.proofs.Ends.{Moves}
 use Rattle.tcl_words.proofs.Forward.{first_forward, inner_inside}
 use Rattle.tcl_words.proofs.EachPiece.{Gathers, Fits, one_of, command_each, operand_each}
 use Rattle.tcl_compile.specs.Within.{PartWithin, PartsWithin, WordsWithin}

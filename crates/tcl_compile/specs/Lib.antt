@@ -1,5 +1,6 @@
 pub mod Changes
 pub mod Emitted
+pub mod Forms
 pub mod Fragments
 pub mod Inlining
 pub mod Kept

@@ -6,24 +6,11 @@ ghost use Rattle.tcl_code.specs.Guards.{inlined_of, name_of};
 ghost use Rattle.tcl_code.specs.Instructions.{Call, Guard, Skip, Under};
 ghost use Rattle.tcl_words.specs.Parts.{shape_of};
 ghost use Rattle.tcl_compile.specs.Changes.{IsChange, changing};
-ghost use Rattle.tcl_compile.specs.Inlining.{Says};
 
+use crate::inlining::literal;
 use std::alloc::AllocError;
 use tcl_code::{Change, CodeBuilder, Instr};
-use tcl_words::{Piece, Word};
-
-// The text of a word that is literal.
-fn literal<'a>(word: &Word<'a>) -> Option<&'a str>
-    ensures { IfSome result (λ t. Says (shape_of word.now) (chars t.now)) }
-{
-    if word.expands || word.pieces.len() != 1 {
-        return None;
-    }
-    match &word.pieces[0] {
-        Piece::Text(span) => Some(span.text),
-        _ => None,
-    }
-}
+use tcl_words::Word;
 
 // The change of a name.
 fn change_named(name: &str) -> Option<Change>

@@ -8,8 +8,10 @@
 mod change;
 mod codes;
 mod compile;
+mod inlining;
 mod kept;
 mod script;
+mod skips;
 mod tree;
 
 pub use codes::Codes;

@@ -8,10 +8,13 @@ ghost use Rattle.tcl_meaning.specs.Nesting.{PartNests, PartsNest, WordsNest};
 ghost use Rattle.tcl_code.specs.Instructions.{Call, Join, Push};
 ghost use Rattle.tcl_compile.specs.Changes.{IsChange};
 ghost use Rattle.tcl_compile.specs.Emitted.{PieceCode, WordCode, BracketCode, CommandCode, ScriptCode};
+ghost use Rattle.tcl_compile.specs.Forms.{HasForm};
 ghost use Rattle.tcl_compile.specs.Fragments.{Grown, Plain, adding};
 ghost use Rattle.tcl_compile.specs.Within.{PartWithin, PartsWithin, WordsWithin};
 
 use crate::change::{change_of, emit_change};
+use crate::inlining::{Form, command_of, emit_page, form_of};
+use crate::skips::lead_here;
 use std::alloc::{AllocError, Global};
 use tcl_chars::push;
 use tcl_code::{Change, CodeBuilder, Instr};
@@ -77,10 +80,38 @@ fn emit_command(
     if any_expands(words) {
         return emit_gathered(code, alloc, whole, words);
     }
-    match change_of(words) {
-        Some((change, name)) => emit_changed(code, alloc, whole, change, name, words),
+    if let Some((change, name)) = change_of(words) {
+        return emit_changed(code, alloc, whole, change, name, words);
+    }
+    match form_of(alloc, words)? {
+        Some(form) => emit_inlined(code, alloc, whole, &form, words),
         None => emit_plain(code, alloc, whole, words),
     }
+}
+
+// A command that is inlined: its page behind a guard, and the general call beside it.
+#[cycle(emitting)]
+fn emit_inlined(
+    code: &mut CodeBuilder,
+    alloc: Global,
+    whole: &str,
+    form: &Form<'_>,
+    words: &[Word<'_>],
+) -> Result<(), AllocError>
+    requires form { HasForm form.now (map shape_of words.now) }
+    requires some { 0 < length (chars whole.now) }
+    requires nests { WordsNest most_levels (map shape_of words.now) }
+    requires within { WordsWithin (length (chars whole.now) - 1) (map shape_of words.now) }
+    ensures { OnOk result (Grown (CommandCode (map shape_of words.now)) code.old code.new) }
+{
+    let guard = code.len();
+    code.emit(Instr::Guard(command_of(form), 0))?;
+    emit_page(code, form)?;
+    let past = code.len();
+    code.emit(Instr::Skip(0))?;
+    lead_here(code, guard)?;
+    emit_plain(code, alloc, whole, words)?;
+    lead_here(code, past)
 }
 
 // A command that changes a variable by the text of its last word.

@@ -5,13 +5,13 @@ ghost use Rattle.std.specs.Str.{chars};
 ghost use Rattle.tcl_expr.specs.Expr.{operand};
 ghost use Rattle.tcl_expr.specs.Machine.{args_of, rest_of};
 ghost use Rattle.tcl_expr.specs.View.{leaf_of, step_of, view};
-ghost use Rattle.tcl_code.specs.Build.{with_count};
-ghost use Rattle.tcl_code.specs.Instructions.{Instruction, Apply, Push};
+ghost use Rattle.tcl_code.specs.Instructions.{Apply, Push};
 ghost use Rattle.tcl_pages.specs.Results.{truth_text};
 ghost use Rattle.tcl_compile.specs.Fragments.{Grown};
 ghost use Rattle.tcl_compile.specs.Trees.{ArgsAreRead, ArgsLeft, LeafIsRead, RestCode, RestIsRead, StepCode, TreeCode, TreeIsRead, decided_by};
 
 use crate::script::emit_word;
+use crate::skips::lead_here;
 use std::alloc::{AllocError, Global};
 use tcl_code::{CodeBuilder, Instr};
 use tcl_expr::{BinaryOp, Function, Leaf, Tree};
@@ -200,13 +200,4 @@ fn emit_truth(code: &mut CodeBuilder, value: bool) -> Result<(), AllocError>
     ensures { OnOk result (code.new ≡ code.old ++ Push (truth_text value) ∷ []) }
 {
     code.push(if value { "1" } else { "0" })
-}
-
-// The skip at a place leads to the next instruction.
-fn lead_here(code: &mut CodeBuilder, place: usize) -> Result<(), AllocError>
-    requires { place < length code.now }
-    ensures { OnOk result ((front back : List Instruction) (i : Instruction) → code.old ≡ front ++ i ∷ back → place ≡ length front → code.new ≡ front ++ with_count (length back) i ∷ back) }
-{
-    let count = code.len() - place - 1;
-    code.patch(place, count)
 }

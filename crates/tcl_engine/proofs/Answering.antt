@@ -104,7 +104,7 @@ asked_answers (Exit n) a s e = absurd cc
 asked_answers (Call scope task g) a s e = absurd task
 
 -- its first step is this one
-from_first : (got : Got (Value tasks.Step)) (x : tasks.Step) (t : State) → on_got got (λ v u. does (Give (value_step v)) u) ≡ Gives x t → (v : Value tasks.Step) × (got ≡ Gives v t) × (value_step v ≡ x)
+pub from_first : (got : Got (Value tasks.Step)) (x : tasks.Step) (t : State) → on_got got (λ v u. does (Give (value_step v)) u) ≡ Gives x t → (v : Value tasks.Step) × (got ≡ Gives v t) × (value_step v ≡ x)
 from_first (Gives v u) x t e = (v, cc, cc)
 from_first (Broke r) x t e = absurd cc
 from_first (Exits n r) x t e = absurd cc

@@ -52,7 +52,7 @@ impl<V: Devices> Engine for Host<'_, '_, '_, '_, V> {
         &self,
         activation: &mut Activation,
         completion: Completion,
-    ) -> Result<(), AllocError> {
+    ) -> Result<Option<Completion>, AllocError> {
         activation.answer(completion)
     }
 

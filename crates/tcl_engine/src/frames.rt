@@ -1,4 +1,5 @@
 //! Commands over frames.
+ghost use Rattle.tcl_code.specs.Caught.{change_page};
 ghost use Rattle.tcl_engine.specs.Kinds.{IsOverFrames};
 ghost use Rattle.tcl_frames.specs.Standing.{Standing};
 ghost use Rattle.tcl_meaning.specs.Asking.{Asks};
@@ -8,8 +9,10 @@ ghost use Rattle.tcl_steps.specs.Ends.{Does, DoesAsk};
 use std::alloc::{AllocError, Global};
 use tcl_arrays::{array_set, array_unset};
 use tcl_chars::Dialect;
+use tcl_code::Change;
 use tcl_frames::Frames;
 use tcl_meaning::Page;
+use tcl_pages::UpdatePage;
 use tcl_procs::{global_page, uplevel_page, upvar_page};
 use tcl_steps::{Completion, Loop, Owes, Scope, Step};
 use tcl_values::Value;
@@ -47,5 +50,21 @@ pub(crate) fn over_frames(
         Page::Upvar => done(upvar_page(alloc, frames, words)),
         Page::Global => done(global_page(alloc, frames, words)),
         _ => unreachable!(),
+    }
+}
+
+/// A command that changes a variable.
+pub(crate) fn change(
+    alloc: Global,
+    dialect: Dialect,
+    frames: &mut Frames,
+    change: Change,
+    words: &mut [Value],
+) -> Result<Completion, AllocError>
+    ensures { Does (change_page dialect change words.old) frames.old result frames.new }
+{
+    match change {
+        Change::Set => set(alloc, frames, words),
+        Change::Incr => update(alloc, dialect, frames, UpdatePage::Incr, words),
     }
 }

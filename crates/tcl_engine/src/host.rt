@@ -65,7 +65,7 @@ impl<V: Devices> Host<'_, '_, '_, '_, V> {
     ) -> Result<Progress, AllocError>
         requires { IsOnWay activation.old }
         ensures code { activation.new.code ≡ activation.old.code }
-        ensures done { IsDone result (instruction_at activation.old) (move_of dialect activation.old (shown V.channels self.old)) activation.new.spot (shown V.channels self.old) self.new.units }
+        ensures done { IsDone dialect result (instruction_at activation.old) (move_of dialect activation.old (shown V.channels self.old)) activation.new.spot (shown V.channels self.old) self.new.units }
         ensures state { shown V.channels self.new ≡ with_units self.new.units (shown V.channels self.old) }
         ensures stays { Stays result activation.old activation.new }
         ensures leaves { HostLeaves V.leaves false self.old self.new }

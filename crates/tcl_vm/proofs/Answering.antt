@@ -3,11 +3,10 @@ use Rattle.std.proofs.Common.{◌≡◌, ◌⊎◌, inl, ℕ, suc, ◌+◌, ◌�
 use Rattle.std.proofs.Math.Seq.{take-append_seam}
 use Rattle.tcl_chars.specs.declared.numbers.Dialect.{Dialect}
 use Rattle.tcl_pages.specs.Texts.{Text}
-use Rattle.tcl_meaning.specs.declared.code.Code.TheVariants as how
 use Rattle.tcl_meaning.specs.Agreement.{Agrees, IsPart}
 use Rattle.tcl_meaning.specs.Asking.{Asks, value_step, answered as answered_within, all_answered, questions, questions_owed}
 use Rattle.tcl_meaning.specs.Beginnings.{OutputsBegin}
-use Rattle.tcl_meaning.specs.Completions.{Completion, nothing, too_deep, code_now}
+use Rattle.tcl_meaning.specs.Completions.{Completion, nothing, too_deep}
 use Rattle.tcl_meaning.specs.Control.{turned}
 use Rattle.tcl_meaning.specs.Effects.{Scope, Here, At, Within, Got, Gives, Broke, Exits, Give, exec, does, entered, paid}
 use Rattle.tcl_meaning.specs.Expressions.{expression}
@@ -20,15 +19,17 @@ use Rattle.tcl_meaning.specs.Tasks as tasks
 use Rattle.tcl_meaning.specs.Value.{Value, completed}
 use Rattle.tcl_meaning.proofs.Runs.{exec_bind, entered_units}
 use Rattle.tcl_code.specs.Instructions.{Instruction}
-use Rattle.tcl_code.specs.Machine.{first_spot}
+use Rattle.tcl_code.specs.Caught.{lands}
+use Rattle.tcl_code.specs.Machine.{Spot, To, Ends, first_spot}
 use Rattle.tcl_code.specs.Means.{EndsAs, Means, MeansExpr}
 use Rattle.tcl_code.specs.Valid.{Valid, bare}
-use Rattle.tcl_vm.specs.Fitting.{answered, FitsHere, FitsThen, AllFit}
+use Rattle.tcl_vm.specs.Fitting.{FitsHere, FitsThen, AllFit}
 use Rattle.tcl_vm.specs.Standing.{Running, Undone, Nothing, undone_of, undo, Waiting, Machine, Comes, Returns, Lands, IsLost, left_of_page, paid_back}
 use Rattle.tcl_vm.specs.Turns.{Next, Asking, Ending, Config, Stands, StandsBy, all_owed, all_paid, all_left, left, On, Begun, Used, Turned, Over, Paused, Exited, BrokenOff}
 use Rattle.tcl_vm.proofs.Forward.{outputs_same}
 use Rattle.tcl_vm.proofs.Returning.{value_of, done_goes, done_ends, owed_lands, run_is, run_returns, evaluate_returns, too_deep_ends, pay_is, lands_as, lands_broke, stepped, exited, broken}
-use Rattle.tcl_vm.proofs.Turning.{config, stands_on, agrees_on, part_on, is_same}
+use Rattle.tcl_vm.proofs.Landing.{lands_fit}
+use Rattle.tcl_vm.proofs.Turning.{config, moved_to, stands_on, agrees_on, part_on, is_same}
 
 -- ---- those that wait
 
@@ -58,7 +59,7 @@ left_push (v ∷ ws) w = let e = left_push ws w in omega arith
 
 -- a code at its beginning
 pub begun_fits : (code : List Instruction) (d : ℕ) → Valid code → d ≤ most_depth → FitsHere (record { code = code; spot = first_spot d }) 0
-begun_fits code d v le = record { shape = bare; valid = v; comes = record { steps = 0; comes = (refl, refl) }; texts = refl; lists = refl; results = refl; brackets = omega arith; deep = le; paid_for = refl }
+begun_fits code d v le = record { shape = bare; valid = v; comes = record { steps = 0; comes = (refl, refl) }; shaped = record { texts = refl; lists = refl; results = refl; brackets = omega arith }; deep = le; outer = 0; loops = refl; paid_for = omega arith }
 
 entered_grow : (scope : Scope) (s : State) → OutputsBegin s.channels (entered scope s).channels
 entered_grow Here s = outputs_same s.channels
@@ -82,17 +83,19 @@ module _ (dialect : Dialect) where
   unfolding answered_within all_answered
   done_is d c s = refl
 
-  pub on_done : (m : Machine) (n : ℕ) (s : State) (c : Completion) → code_now c ≡ how.Ok → Turned dialect On (config (Asking (Done c)) m n s) (config Next (record { current = answered m.current c; callers = m.callers }) n s)
-  on_done m n s c k = record {
-    stands = stands_on dialect _ _ (outputs_same s.channels) (λ r h. record { either = inl (done_goes dialect m c s r k (lands_as dialect m _ _ r (done_is m.current.spot.depth c s) h)) });
-    fits = λ f. record { by = (f.by.0.then_fits c, f.by.1) };
-    less = λ f. (omega arith, omega arith, omega arith);
+  -- the code goes on behind the command, or at a loop
+  pub on_done : (m : Machine) (n : ℕ) (s : State) (c : Completion) (q : Spot) → lands m.current c s ≡ To q s → Turned dialect On (config (Asking (Done c)) m n s) (config Next (moved_to m q) n s)
+  on_done m n s c q e = record {
+    stands = stands_on dialect _ _ (outputs_same s.channels) (λ r h. record { either = inl (done_goes dialect m q c s r e (lands_as dialect m _ _ r (done_is m.current.spot.depth c s) h)) });
+    fits = λ f. record { by = ((lands_fit m.current n c s s q e (f.by.0.then_fits c)).0, f.by.1) };
+    less = λ f. let x = (lands_fit m.current n c s s q e (f.by.0.then_fits c)).1 in (omega arith, omega arith, omega arith);
     onward = record { spends = omega arith; adds = outputs_same s.channels };
   }
 
-  pub on_failed : (m : Machine) (n : ℕ) (s : State) (c : Completion) → (code_now c ≡ how.Ok → ⊥) → Turned dialect On (config (Asking (Done c)) m n s) (config (Ending c) m n s)
-  on_failed m n s c k = record {
-    stands = stands_on dialect (config (Asking (Done c)) m n s) (config (Ending c) m n s) (outputs_same s.channels) (λ r h. record { either = inl (done_ends dialect m c s r k (lands_as dialect m _ _ r (done_is m.current.spot.depth c s) h)) });
+  -- or it ends
+  pub on_failed : (m : Machine) (n : ℕ) (s : State) (c e : Completion) → lands m.current c s ≡ Ends (Gives e s) → Turned dialect On (config (Asking (Done c)) m n s) (config (Ending e) m n s)
+  on_failed m n s c e is = record {
+    stands = stands_on dialect (config (Asking (Done c)) m n s) (config (Ending e) m n s) (outputs_same s.channels) (λ r h. record { either = inl (done_ends dialect m c e s r is (lands_as dialect m _ _ r (done_is m.current.spot.depth c s) h)) });
     fits = λ f. record { by = f.by.1 };
     less = λ f. (omega arith, omega arith, omega arith);
     onward = record { spends = omega arith; adds = outputs_same s.channels };

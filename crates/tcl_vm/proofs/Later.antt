@@ -1,5 +1,5 @@
 -- With more units the same is done.
-use Rattle.std.proofs.Common.{◌≡◌, ℕ, zero, suc, ◌+◌, cond, Bool, true, false, List, [], ◌∷◌, Option, Some, None, Result, Ok, Err, refl, sym, ap, ◌∙◌, subst, arith, ⊎_elim, inl, inr}
+use Rattle.std.proofs.Common.{◌≡◌, ℕ, zero, suc, ◌+◌, cond, Bool, true, false, List, [], ◌∷◌, Option, Some, None, Result, Ok, Err, refl, sym, ap, subst, arith, ⊎_elim, inl, inr}
 use Rattle.std.specs.Prelude.{nat_lt}
 use Rattle.tcl_chars.specs.declared.numbers.Dialect.{Dialect}
 use Rattle.tcl_chars.specs.Messages.{truth_value}
@@ -9,7 +9,10 @@ use Rattle.tcl_list.specs.Elements.{elements_of}
 use Rattle.tcl_meaning.specs.declared.refusal.Refusal.{Refusal}
 use Rattle.tcl_meaning.specs.Agreement.{Agrees}
 use Rattle.tcl_meaning.specs.Beginnings.{more, Longer}
-use Rattle.tcl_meaning.specs.Completions.{Completion}
+use Rattle.tcl_meaning.specs.declared.code.Code.{Code}
+use Rattle.tcl_meaning.specs.declared.code.Code.TheVariants as how
+use Rattle.tcl_meaning.specs.Asking.{Asks, value_step}
+use Rattle.tcl_meaning.specs.Completions.{Completion, code_now}
 use Rattle.tcl_meaning.specs.Effects.{Scope, Here, At, Within, Plain, Give, Look, Make, Link, Write, Take, HasEnded, Exit, Call, Got, Gives, Broke, Exits, Untold, made, linked, wrote, take_from, entered, nothing_runs, exec, does}
 use Rattle.tcl_meaning.specs.Input.{Want}
 use Rattle.tcl_meaning.specs.Links.{link}
@@ -18,14 +21,20 @@ use Rattle.tcl_meaning.specs.Pages.{invoked}
 use Rattle.tcl_meaning.specs.Script.{most_depth}
 use Rattle.tcl_meaning.specs.State.{State, with_units}
 use Rattle.tcl_meaning.specs.Substitution.{spelled_element}
+use Rattle.tcl_meaning.specs.Tasks.{Step, Done, Run, Evaluate, Pay}
+use Rattle.tcl_meaning.specs.Value.{Value}
+use Rattle.tcl_meaning.specs.VariablePages.{set_page, update_page}
 use Rattle.tcl_meaning.specs.Variables.{get}
-use Rattle.tcl_code.specs.Instructions.{Instruction, Push, Read, ReadElement, Join, Spend, Enter, Leave, Call as CallWords, Gather, Add, AddAll, CallGathered, Raise, Skip, SkipWhen, Turn, Unary, Binary, Power, Apply, Truth, Final, Answer as AnswerTop}
-use Rattle.tcl_code.specs.Machine.{Texts, Taken, taken, on_taken, on_read, on_answer, on_operator, spend, Spot, Move, To, Ends, Calls, Wrong, move}
+use Rattle.tcl_pages.specs.declared.pages.UpdatePage.TheVariants as update
+use Rattle.tcl_code.specs.Caught.{caught, caught_by}
+use Rattle.tcl_code.specs.Instructions.{Instruction, Push, Read, ReadElement, Join, Spend, Enter, Leave, Call as CallWords, Gather, Add, AddAll, CallGathered, Raise, Guard, Under, Write as WriteName, Bump, Become, Body, Again, Break, Continue, Skip, SkipWhen, Turn, Unary, Binary, Power, Apply, Truth, Final, Answer as AnswerTop}
+use Rattle.tcl_code.specs.Machine.{Loop, Texts, Taken, taken, on_taken, on_read, on_answer, on_operator, on_code, on_step, on_page, spend, Spot, Move, To, Fails, Ends, Calls, Wrong, move}
 use Rattle.std.specs.Prelude.{slice_get}
-use Rattle.tcl_vm.specs.Engines.{Views, step_of, Answers, Position, IsFree, PaysHere, MovesOn, CallsOn, LeadsOn, WalksIn, Walks, Spent}
+use Rattle.tcl_vm.specs.Engines.{Views, Answers, Position, IsFree, PaysHere, MovesOn, CallsOn, LeadsOn, WalksIn, Walks, Spent}
 use Rattle.tcl_vm.specs.Standing.{Running, here, Undone, Nothing, Back, Gone, undone_of, undo}
 use Rattle.tcl_vm.specs.Turns.{Onward}
-use Rattle.tcl_vm.specs.declared.engine.Stop.{Stop}
+use Rattle.tcl_vm.proofs.Forward.{raw}
+use Rattle.tcl_vm.proofs.Landing.{both_caught}
 use Rattle.tcl_steps.specs.declared.step.Step.{Step as Asked}
 
 -- the same position with b more units
@@ -33,11 +42,44 @@ abbrev pub plus_at : ℕ → Position → Position
 plus_at b p = record p { state = more b p.state }
 
 module _ (b : ℕ) where
+  -- ---- a page
+
+  take_longer : {A : Type 0} (want : Want) (i : Option Text) (s : State) (f g : Text → State → Got A) → ((t : Text) (u : State) → Longer b (f t u) (g t (more b u))) → Longer b (take_from want i s f) (take_from want i (more b s) g)
+  take_longer want None s f g k = refl
+  take_longer want (Some cs) s f g k = k _ _
+
+  does_longer : {A : Type 0} (p : Plain A) (s : State) → Longer b (does p s) (does p (more b s))
+  does_longer (Give a) s = refl
+  does_longer (Look q) s = does_longer (q s.store) s
+  does_longer (Make ch p) s = does_longer p (made ch s)
+  does_longer (Link level other local q) s = does_longer (q (link s.store level other local).0) (linked level other local s)
+  does_longer (Write o t p) s = does_longer p (wrote o t s)
+  does_longer (Take want q) s = take_longer want s.channels.input s (λ t after. exec nothing_runs (q t) after) (λ t after. exec nothing_runs (q t) after) (λ t u. does_longer (q t) u)
+  does_longer (HasEnded q) s = does_longer (q s.channels.met_end) s
+  does_longer (Exit m) s = refl
+  does_longer (Call scope task q) s = absurd task
+
+  abbrev later_got : {A : Type 0} → Got A → Got A
+  later_got (Gives a s) = Gives a (more b s)
+  later_got (Broke r) = Broke r
+  later_got (Exits n r) = Exits n r
+  later_got (Untold c) = Untold c
+
+  agrees_longer : {A : Type 0} (g h : Got A) (v : A) (t : State) → Longer b g h → Agrees g (Gives v t) → Agrees h (Gives v (more b t))
+  agrees_longer (Gives a u) h v t l e = subst (λ x. Agrees x (Gives v (more b t))) (sym l) (ap later_got e)
+  agrees_longer (Broke x) h v t l e = absurd cc
+  agrees_longer (Exits n x) h v t l e = absurd cc
+  agrees_longer (Untold c) h v t l e = subst (λ x. Agrees x (Gives v (more b t))) (sym l) e
+
+  pub does_later : {A : Type 0} (p : Plain A) (s t : State) (v : A) → Agrees (does p s) (Gives v t) → Agrees (does p (more b s)) (Gives v (more b t))
+  does_later p s t v e = agrees_longer (does p s) (does p (more b s)) v t (does_longer p s) e
+
   -- ---- one instruction
 
   -- what it leads to with more units; where a unit is wanting, that is another thing
   abbrev MovesSo : Move → Move → Type 0
   MovesSo (To p s) n = n ≡ To p (more b s)
+  MovesSo (Fails c s) n = n ≡ Fails c (more b s)
   MovesSo (Ends (Gives c s)) n = n ≡ Ends (Gives c (more b s))
   MovesSo (Ends (Broke r)) n = Unit {0}
   MovesSo (Ends (Exits k r)) n = Unit {0}
@@ -71,58 +113,127 @@ module _ (b : ℕ) where
     so_spend (suc u) zero p e = absurd (omega arith)
     so_spend (suc u) (suc v) p e = let q : v ≡ u + b = omega arith in ap (λ k. To p (with_units k s)) q
 
-    so : (i : Option Instruction) (at : ℕ) (ts : Texts) (ls : List Texts) (rs : List Completion) (d : ℕ) → MovesSo (move dialect i at ts ls rs d s) (move dialect i at ts ls rs d (more b s))
-    so None at [] [] [] d = refl
-    so None at [] [] (r ∷ []) d = refl
-    so None at [] [] (r ∷ q ∷ rs) d = refl
-    so None at [] (l ∷ ls) rs d = refl
-    so None at (t ∷ ts) ls rs d = refl
-    so (Some (Push t)) at ts ls rs d = refl
-    so (Some (Read name)) at ts ls rs d = so_read name (get s.store name) _
-    so (Some (ReadElement name)) at [] ls rs d = refl
-    so (Some (ReadElement name)) at (i ∷ ts) ls rs d = so_read (spelled_element name i) (get s.store (spelled_element name i)) _
-    so (Some (Join n)) at ts ls rs d = so_taken (taken n [] ts) _ _ (λ us below. refl)
-    so (Some Spend) at ts ls rs d = so_spend s.units (s.units + b) _ refl
-    so (Some Enter) at ts ls rs d = so_cond (nat_lt most_depth (suc d)) _ _ _ _ refl refl
-    so (Some Leave) at ts ls [] d = refl
-    so (Some Leave) at ts ls (r ∷ rs) zero = refl
-    so (Some Leave) at ts ls (r ∷ rs) (suc d) = refl
-    so (Some (CallWords n)) at ts ls [] d = refl
-    so (Some (CallWords n)) at ts ls (r ∷ rs) d = so_taken (taken n [] ts) _ _ (λ us below. refl)
-    so (Some Gather) at ts ls rs d = refl
-    so (Some Add) at [] ls rs d = refl
-    so (Some Add) at (t ∷ ts) [] rs d = refl
-    so (Some Add) at (t ∷ ts) (l ∷ ls) rs d = refl
-    so (Some AddAll) at [] ls rs d = refl
-    so (Some AddAll) at (t ∷ ts) [] rs d = refl
-    so (Some AddAll) at (t ∷ ts) (l ∷ ls) rs d = so_answer (elements_of t) _
-    so (Some CallGathered) at ts [] rs d = refl
-    so (Some CallGathered) at ts (l ∷ ls) [] d = refl
-    so (Some CallGathered) at ts (l ∷ ls) (r ∷ rs) d = refl
-    so (Some (Raise message)) at ts ls rs d = refl
-    so (Some (Skip n)) at ts ls rs d = refl
-    so (Some (SkipWhen x n)) at [] ls rs d = refl
-    so (Some (SkipWhen x n)) at (t ∷ ts) ls rs d = so_answer (truth_value dialect t) _
-    so (Some (Turn n)) at ts ls rs d = so_spend s.units (s.units + b) _ refl
-    so (Some (Unary u)) at [] ls rs d = refl
-    so (Some (Unary u)) at (t ∷ ts) ls rs d = so_answer (unary_answer dialect u t) _
-    so (Some (Binary o)) at [] ls rs d = refl
-    so (Some (Binary o)) at (x ∷ []) ls rs d = refl
-    so (Some (Binary o)) at (x ∷ y ∷ ts) ls rs d = so_operator (operator dialect o) y x _
-    so (Some Power) at [] ls rs d = refl
-    so (Some Power) at (x ∷ []) ls rs d = refl
-    so (Some Power) at (x ∷ y ∷ ts) ls rs d = so_answer (power_answer dialect y x) _
-    so (Some (Apply f n)) at ts ls rs d = so_taken (taken n [] ts) _ _ (λ us below. so_answer (function_answer dialect f us) _)
-    so (Some Truth) at [] ls rs d = refl
-    so (Some Truth) at (t ∷ ts) ls rs d = so_answer (truth_answer dialect t) _
-    so (Some Final) at [] ls rs d = refl
-    so (Some Final) at (t ∷ ts) ls rs d = so_answer (final_answer dialect t) _
-    so (Some AnswerTop) at [] ls rs d = refl
-    so (Some AnswerTop) at (t ∷ ts) ls [] d = refl
-    so (Some AnswerTop) at (t ∷ ts) ls (r ∷ rs) d = refl
+    so_code : (k : Code) (c : Completion) (to : Completion → Spot) (u : State) → MovesSo (on_code k c to u) (on_code k c to (more b u))
+    so_code how.Ok c to u = refl
+    so_code how.Error c to u = refl
+    so_code how.Return c to u = refl
+    so_code how.Break c to u = refl
+    so_code how.Continue c to u = refl
+    so_code (how.Other z) c to u = refl
+
+    so_step : (x : Step) (to : Completion → Spot) (u : State) → MovesSo (on_step x to u) (on_step x to (more b u))
+    so_step (Done c) to u = so_code (code_now c) c to u
+    so_step (Run scope t o) to u = refl
+    so_step (Evaluate t o) to u = refl
+    so_step (Pay turns) to u = refl
+
+    so_page : (page : Asks) (to : Completion → Spot) → MovesSo (on_page (does page s) to) (on_page (does page (more b s)) to)
+    so_page page to = by_got (does page s) (does page (more b s)) (does_longer page s)
+      where
+        by_got : (g h : Got (Value Step)) → Longer b g h → MovesSo (on_page g to) (on_page h to)
+        by_got (Gives v u) h e = subst (λ (x : Got _). MovesSo (on_step (value_step v) to u) (on_page x to)) (sym e) (so_step (value_step v) to u)
+        by_got (Broke r) h e = tt
+        by_got (Exits n r) h e = tt
+        by_got (Untold c) h e = tt
+
+    so_end : (os : List Loop) (ts : Texts) (ls : List Texts) (rs : List Completion) (at d : ℕ) → MovesSo (move dialect None at ts ls rs os d s) (move dialect None at ts ls rs os d (more b s))
+    so_end [] [] [] [] at d = refl
+    so_end [] [] [] (r ∷ []) at d = refl
+    so_end [] [] [] (r ∷ q ∷ rs) at d = refl
+    so_end [] [] (l ∷ ls) rs at d = refl
+    so_end [] (t ∷ ts) ls rs at d = refl
+    so_end (o ∷ os) [] [] [] at d = refl
+    so_end (o ∷ os) [] [] (r ∷ []) at d = refl
+    so_end (o ∷ os) [] [] (r ∷ q ∷ rs) at d = refl
+    so_end (o ∷ os) [] (l ∷ ls) rs at d = refl
+    so_end (o ∷ os) (t ∷ ts) ls rs at d = refl
+
+    so_again : (os : List Loop) (ts : Texts) (ls : List Texts) (rs : List Completion) (at d : ℕ) → MovesSo (move dialect (Some Again) at ts ls rs os d s) (move dialect (Some Again) at ts ls rs os d (more b s))
+    so_again os (t ∷ ts) ls rs at d = refl
+    so_again os [] (l ∷ ls) rs at d = refl
+    so_again os [] [] [] at d = refl
+    so_again os [] [] (r ∷ q ∷ rs) at d = refl
+    so_again [] [] [] (r ∷ []) at d = refl
+    so_again (o ∷ os) [] [] (r ∷ []) at d = refl
+
+    so : (os : List Loop) (i : Option Instruction) (at : ℕ) (ts : Texts) (ls : List Texts) (rs : List Completion) (d : ℕ) → MovesSo (move dialect i at ts ls rs os d s) (move dialect i at ts ls rs os d (more b s))
+    so os None at ts ls rs d = so_end os ts ls rs at d
+    so os (Some (Push t)) at ts ls rs d = refl
+    so os (Some (Read name)) at ts ls rs d = so_read name (get s.store name) _
+    so os (Some (ReadElement name)) at [] ls rs d = refl
+    so os (Some (ReadElement name)) at (i ∷ ts) ls rs d = so_read (spelled_element name i) (get s.store (spelled_element name i)) _
+    so os (Some (Join n)) at ts ls rs d = so_taken (taken n [] ts) _ _ (λ us below. refl)
+    so os (Some Spend) at ts ls rs d = so_spend s.units (s.units + b) _ refl
+    so os (Some Enter) at ts ls rs d = so_cond (nat_lt most_depth (suc d)) _ _ _ _ refl refl
+    so os (Some Leave) at ts ls [] d = refl
+    so os (Some Leave) at ts ls (r ∷ rs) zero = refl
+    so os (Some Leave) at ts ls (r ∷ rs) (suc d) = refl
+    so os (Some (CallWords n)) at ts ls [] d = refl
+    so os (Some (CallWords n)) at ts ls (r ∷ rs) d = so_taken (taken n [] ts) _ _ (λ us below. refl)
+    so os (Some Gather) at ts ls rs d = refl
+    so os (Some Add) at [] ls rs d = refl
+    so os (Some Add) at (t ∷ ts) [] rs d = refl
+    so os (Some Add) at (t ∷ ts) (l ∷ ls) rs d = refl
+    so os (Some AddAll) at [] ls rs d = refl
+    so os (Some AddAll) at (t ∷ ts) [] rs d = refl
+    so os (Some AddAll) at (t ∷ ts) (l ∷ ls) rs d = so_answer (elements_of t) _
+    so os (Some CallGathered) at ts [] rs d = refl
+    so os (Some CallGathered) at ts (l ∷ ls) [] d = refl
+    so os (Some CallGathered) at ts (l ∷ ls) (r ∷ rs) d = refl
+    so os (Some (Raise message)) at ts ls rs d = refl
+    so os (Some (Guard p n)) at ts ls rs d = refl
+    so os (Some (Under t)) at [] ls rs d = refl
+    so os (Some (Under t)) at (u ∷ ts) ls rs d = refl
+    so os (Some (WriteName name)) at [] ls rs d = refl
+    so os (Some (WriteName name)) at (t ∷ ts) ls [] d = refl
+    so os (Some (WriteName name)) at (t ∷ ts) ls (r ∷ rs) d = so_page (set_page (name ∷ t ∷ [])) _
+    so os (Some (Bump name)) at [] ls rs d = refl
+    so os (Some (Bump name)) at (t ∷ ts) ls [] d = refl
+    so os (Some (Bump name)) at (t ∷ ts) ls (r ∷ rs) d = so_page (update_page dialect update.Incr (name ∷ t ∷ [])) _
+    so os (Some Become) at ts ls [] d = refl
+    so os (Some Become) at ts ls (r ∷ []) d = refl
+    so os (Some Become) at ts ls (r ∷ below ∷ rs) zero = refl
+    so os (Some Become) at ts ls (r ∷ below ∷ rs) (suc d) = refl
+    so os (Some (Body n)) at ts ls rs d = so_cond (nat_lt most_depth (suc d)) _ _ _ _ refl refl
+    so os (Some Again) at ts ls rs d = so_again os ts ls rs at d
+    so os (Some Break) at ts ls rs d = refl
+    so os (Some Continue) at ts ls rs d = refl
+    so os (Some (Skip n)) at ts ls rs d = refl
+    so os (Some (SkipWhen x n)) at [] ls rs d = refl
+    so os (Some (SkipWhen x n)) at (t ∷ ts) ls rs d = so_answer (truth_value dialect t) _
+    so os (Some (Turn n)) at ts ls rs d = so_spend s.units (s.units + b) _ refl
+    so os (Some (Unary u)) at [] ls rs d = refl
+    so os (Some (Unary u)) at (t ∷ ts) ls rs d = so_answer (unary_answer dialect u t) _
+    so os (Some (Binary o)) at [] ls rs d = refl
+    so os (Some (Binary o)) at (x ∷ []) ls rs d = refl
+    so os (Some (Binary o)) at (x ∷ y ∷ ts) ls rs d = so_operator (operator dialect o) y x _
+    so os (Some Power) at [] ls rs d = refl
+    so os (Some Power) at (x ∷ []) ls rs d = refl
+    so os (Some Power) at (x ∷ y ∷ ts) ls rs d = so_answer (power_answer dialect y x) _
+    so os (Some (Apply f n)) at ts ls rs d = so_taken (taken n [] ts) _ _ (λ us below. so_answer (function_answer dialect f us) _)
+    so os (Some Truth) at [] ls rs d = refl
+    so os (Some Truth) at (t ∷ ts) ls rs d = so_answer (truth_answer dialect t) _
+    so os (Some Final) at [] ls rs d = refl
+    so os (Some Final) at (t ∷ ts) ls rs d = so_answer (final_answer dialect t) _
+    so os (Some AnswerTop) at [] ls rs d = refl
+    so os (Some AnswerTop) at (t ∷ ts) ls [] d = refl
+    so os (Some AnswerTop) at (t ∷ ts) ls (r ∷ rs) d = refl
+
+  -- and where completions are caught
+  so_caught : (os : List Loop) (m n : Move) → MovesSo m n → MovesSo (caught os m) (caught os n)
+  so_caught os (To p s) n e = ap (caught os) e
+  so_caught os (Fails c s) n e = subst (λ x. MovesSo (caught_by (code_now c) os c s) (caught os x)) (sym e) (both_caught MovesSo os (code_now c) c s (more b s) (λ k o rest le is. refl) refl)
+  so_caught os (Ends (Gives c s)) n e = ap (caught os) e
+  so_caught os (Ends (Broke r)) n e = tt
+  so_caught os (Ends (Exits k r)) n e = tt
+  so_caught os (Ends (Untold c)) n e = tt
+  so_caught os (Calls ws p s) n e = ap (caught os) e
+  so_caught os Wrong n e = ap (caught os) e
 
   here_so : (dialect : Dialect) (a : Running) (s : State) (m : Move) → here dialect a s ≡ m → MovesSo m (here dialect a (more b s))
-  here_so dialect a s m e = subst (λ x. MovesSo x (here dialect a (more b s))) e (so dialect s (slice_get a.code a.spot.at) a.spot.at a.spot.stack.texts a.spot.stack.lists a.spot.stack.results a.spot.depth)
+  here_so dialect a s m e =
+      subst (λ x. MovesSo x (here dialect a (more b s))) e
+      (so_caught a.spot.stack.loops (raw dialect a s) (raw dialect a (more b s)) (so dialect s a.spot.stack.loops (slice_get a.code a.spot.at) a.spot.at a.spot.stack.texts a.spot.stack.lists a.spot.stack.results a.spot.depth))
 
   pub to_later : (dialect : Dialect) (a : Running) (s t : State) (p : Spot) → here dialect a s ≡ To p t → here dialect a (more b s) ≡ To p (more b t)
   to_later dialect a s t p e = here_so dialect a s (To p t) e
@@ -132,38 +243,6 @@ module _ (b : ℕ) where
 
   pub ends_later : (dialect : Dialect) (a : Running) (s t : State) (c : Completion) → here dialect a s ≡ Ends (Gives c t) → here dialect a (more b s) ≡ Ends (Gives c (more b t))
   ends_later dialect a s t c e = here_so dialect a s (Ends (Gives c t)) e
-
-  -- ---- a page
-
-  take_longer : {A : Type 0} (want : Want) (i : Option Text) (s : State) (f g : Text → State → Got A) → ((t : Text) (u : State) → Longer b (f t u) (g t (more b u))) → Longer b (take_from want i s f) (take_from want i (more b s) g)
-  take_longer want None s f g k = refl
-  take_longer want (Some cs) s f g k = k _ _
-
-  does_longer : {A : Type 0} (p : Plain A) (s : State) → Longer b (does p s) (does p (more b s))
-  does_longer (Give a) s = refl
-  does_longer (Look q) s = does_longer (q s.store) s
-  does_longer (Make ch p) s = does_longer p (made ch s)
-  does_longer (Link level other local q) s = does_longer (q (link s.store level other local).0) (linked level other local s)
-  does_longer (Write o t p) s = does_longer p (wrote o t s)
-  does_longer (Take want q) s = take_longer want s.channels.input s (λ t after. exec nothing_runs (q t) after) (λ t after. exec nothing_runs (q t) after) (λ t u. does_longer (q t) u)
-  does_longer (HasEnded q) s = does_longer (q s.channels.met_end) s
-  does_longer (Exit m) s = refl
-  does_longer (Call scope task q) s = absurd task
-
-  abbrev later_got : {A : Type 0} → Got A → Got A
-  later_got (Gives a s) = Gives a (more b s)
-  later_got (Broke r) = Broke r
-  later_got (Exits n r) = Exits n r
-  later_got (Untold c) = Untold c
-
-  agrees_longer : {A : Type 0} (g h : Got A) (v : A) (t : State) → Longer b g h → Agrees g (Gives v t) → Agrees h (Gives v (more b t))
-  agrees_longer (Gives a u) h v t l e = subst (λ x. Agrees x (Gives v (more b t))) (sym l) (ap later_got e)
-  agrees_longer (Broke x) h v t l e = absurd cc
-  agrees_longer (Exits n x) h v t l e = absurd cc
-  agrees_longer (Untold c) h v t l e = subst (λ x. Agrees x (Gives v (more b t))) (sym l) e
-
-  pub does_later : {A : Type 0} (p : Plain A) (s t : State) (v : A) → Agrees (does p s) (Gives v t) → Agrees (does p (more b s)) (Gives v (more b t))
-  does_later p s t v e = agrees_longer (does p s) (does p (more b s)) v t (does_longer p s) e
 
   pub onward_later : (s t : State) → Onward s t → Onward (more b s) (more b t)
   onward_later s t h = record { spends = let u = h.spends in omega arith; adds = h.adds }
@@ -195,7 +274,8 @@ module _ (b : ℕ) where
     moves_later p q h = record {
       code = h.code;
       leads = to_later dialect p.running p.state q.state q.running.spot h.leads;
-      state = ap (more b) h.state;
+      channels = h.channels;
+      frames = record { count = h.frames.count };
       pays = ⊎_elim (λ f. inl (free f)) (λ f. inr (pays f)) h.pays;
     }
       where

@@ -1,14 +1,13 @@
 -- What a page's step and the end of a code make of the real machine.
-use Rattle.std.proofs.Common.{◌≡◌, ℕ, ◌+◌, ◌≤◌, ◌<◌, Bool, true, false, List, [], ◌∷◌, ◌++◌, Ok, Err, refl, sym, ap, ◌∙◌, subst, arith}
+use Rattle.std.proofs.Common.{◌≡◌, ℕ, ◌+◌, ◌≤◌, ◌<◌, Bool, true, false, List, [], ◌∷◌, ◌++◌, Some, None, Ok, Err, refl, sym, ap, ◌∙◌, subst, arith}
 use Rattle.tcl_chars.specs.declared.numbers.Dialect.{Dialect}
 use Rattle.tcl_pages.specs.Texts.{Text}
-use Rattle.tcl_meaning.specs.declared.code.Code.TheVariants as how
 use Rattle.tcl_meaning.specs.Agreement.{Agrees, IsPart}
 use Rattle.tcl_meaning.specs.Asking.{questions, questions_owed}
 use Rattle.tcl_meaning.specs.Beginnings.{OutputsBegin}
-use Rattle.tcl_meaning.specs.Completions.{Completion, too_deep, code_now}
+use Rattle.tcl_meaning.specs.Completions.{Completion, too_deep}
 use Rattle.tcl_meaning.specs.Control.{turned}
-use Rattle.tcl_meaning.specs.Effects.{Scope, Here, At, Within, Got, Exits, does, entered}
+use Rattle.tcl_meaning.specs.Effects.{Scope, Got, Exits, does, entered}
 use Rattle.tcl_meaning.specs.Pages.{owed}
 use Rattle.tcl_meaning.specs.Script.{most_depth}
 use Rattle.tcl_meaning.specs.State.{State, with_units, remains}
@@ -16,8 +15,7 @@ use Rattle.tcl_meaning.specs.Tasks.{Step, Done, Run, Evaluate, Pay}
 use Rattle.tcl_meaning.specs.Value.{Value}
 use Rattle.tcl_code.specs.Machine.{first_spot}
 use Rattle.tcl_code.specs.Means.{Means, MeansExpr}
-use Rattle.tcl_vm.specs.Engines.{Views, completion_of, step_of, Answers, BeginsAs, Spent}
-use Rattle.tcl_vm.specs.Fitting.{answered}
+use Rattle.tcl_vm.specs.Engines.{Views, completion_of, step_of, Answers, BeginsAs, LandsSo, Spent}
 use Rattle.tcl_vm.specs.Machines.{waiting_of, waitings, machine_of, Stops}
 use Rattle.tcl_vm.specs.Standing.{Running, Undone, Nothing, Back, Gone, undone_of, undo}
 use Rattle.tcl_vm.specs.Standing as standing
@@ -70,11 +68,25 @@ module _ {A U S O L : Type 0} (dialect : Dialect) (views : Views A U S O L) wher
 
   -- ---- done
 
-  pub done_made : (m : Machine A U O) (a : A) (s : State) (c : Completion) → code_now (completion_of c) ≡ how.Ok → views.running a ≡ answered (views.running m.current) (completion_of c)
+  -- the code goes on behind the command, or at a loop
+  pub done_made : (m : Machine A U O) (a : A) (s : State) (c : Completion) → LandsSo None (views.running m.current) (views.running a) (completion_of c)
       → Turned dialect On (config (Asking (Done (completion_of c))) (machine_of views m) m.paid s) (config Next (record { current = views.running a; callers = waitings views m.callers.items }) m.paid s)
-  done_made m a s c k e =
-      subst (λ b. Turned dialect On (config (Asking (Done (completion_of c))) (machine_of views m) m.paid s) (config Next (record { current = b; callers = waitings views m.callers.items }) m.paid s)) (sym e)
-      (on_done dialect (machine_of views m) m.paid s (completion_of c) k)
+  done_made m a s c h =
+      let spot = (views.running a).spot in
+      subst (λ k. Turned dialect On (config (Asking (Done (completion_of c))) (machine_of views m) m.paid s) (config Next (record { current = record { code = k; spot = spot }; callers = waitings views m.callers.items }) m.paid s)) (sym h.0)
+      (on_done dialect (machine_of views m) m.paid s (completion_of c) spot (h.1 s))
+
+  -- or it ends
+  pub failed_made : (m : Machine A U O) (a : A) (s : State) (c e : Completion) → LandsSo (Some e) (views.running m.current) (views.running a) (completion_of c)
+      → Turned dialect On (config (Asking (Done (completion_of c))) (machine_of views m) m.paid s) (config (Ending (completion_of e)) (record { current = views.running a; callers = waitings views m.callers.items }) m.paid s)
+  failed_made m a s c e h =
+      let t = on_failed dialect (machine_of views m) m.paid s (completion_of c) (completion_of e) (h s) in
+      record {
+        stands = λ r y. record { either = (t.stands r y).either };
+        fits = λ f. let y = t.fits f in record { by = y.by };
+        less = λ f. t.less f;
+        onward = t.onward;
+      }
 
   -- ---- what begins
 
@@ -228,12 +240,13 @@ module _ {A U S O L : Type 0} (views : Views A U S O L) where
 -- ---- with more units
 
 module _ {A U S O L : Type 0} (dialect : Dialect) (views : Views A U S O L) where
-  pub done_later : (m : Machine A U O) (a : A) (s : State) (c : Completion) → code_now (completion_of c) ≡ how.Ok → views.running a ≡ answered (views.running m.current) (completion_of c)
+  pub done_later : (m : Machine A U O) (a : A) (s : State) (c : Completion) → LandsSo None (views.running m.current) (views.running a) (completion_of c)
       → Later dialect (config (Asking (Done (completion_of c))) (machine_of views m) m.paid s) (config Next (record { current = views.running a; callers = waitings views m.callers.items }) m.paid s)
-  done_later m a s c k e = record { stands = λ b r y. (done_made dialect views m a (more b s) c k e).stands r y }
+  done_later m a s c h = record { stands = λ b r y. (done_made dialect views m a (more b s) c h).stands r y }
 
-  pub failed_later : (m : standing.Machine) (n : ℕ) (s : State) (c : Completion) → (code_now c ≡ how.Ok → ⊥) → Later dialect (config (Asking (Done c)) m n s) (config (Ending c) m n s)
-  failed_later m n s c k = record { stands = λ b r y. (on_failed dialect m n (more b s) c k).stands r y }
+  pub failed_later : (m : Machine A U O) (a : A) (s : State) (c e : Completion) → LandsSo (Some e) (views.running m.current) (views.running a) (completion_of c)
+      → Later dialect (config (Asking (Done (completion_of c))) (machine_of views m) m.paid s) (config (Ending (completion_of e)) (record { current = views.running a; callers = waitings views m.callers.items }) m.paid s)
+  failed_later m a s c e h = record { stands = λ b r y. (failed_made dialect views m a (more b s) c e h).stands r y }
 
   pub run_later : (m n : Machine A U O) (a : A) (scope : S) (text : Text) (o : O) (u : U) (d : ℕ) (s s1 t : State) → d ≡ (views.running m.current).spot.depth → d < most_depth → BeginsAs (Means dialect) text (d + 1) (views.running a) → s1 ≡ s
       → views.undone u ≡ undone_of (views.scope scope) s1 → t ≡ entered (views.scope scope) s1

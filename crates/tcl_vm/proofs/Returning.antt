@@ -4,12 +4,10 @@ use Rattle.std.proofs.lemmas.Bool.{lt-ltb}
 use Rattle.tcl_chars.specs.declared.numbers.Dialect.{Dialect}
 use Rattle.tcl_pages.specs.Texts.{Text}
 use Rattle.tcl_words.specs.First.{first_command, most_levels}
-use Rattle.tcl_meaning.specs.declared.code.Code.{Code}
-use Rattle.tcl_meaning.specs.declared.code.Code.TheVariants as how
 use Rattle.tcl_meaning.specs.Agreement.{Agrees, IsPart}
 use Rattle.tcl_meaning.specs.Asking.{Asks, value_step, answered, all_answered, asked}
 use Rattle.tcl_meaning.specs.Beginnings.{OutputsBegin, channels_of}
-use Rattle.tcl_meaning.specs.Completions.{Completion, too_deep, code_now}
+use Rattle.tcl_meaning.specs.Completions.{Completion, too_deep}
 use Rattle.tcl_meaning.specs.Control.{turned}
 use Rattle.tcl_meaning.specs.Effects.{Scope, Here, At, Within, Got, Gives, Broke, Exits, Untold, on_got, exec, does, plainly, entered, returned, Now, start, paid}
 use Rattle.tcl_meaning.specs.Expressions.{expression}
@@ -17,7 +15,7 @@ use Rattle.tcl_meaning.specs.Pages.{owed, invoked}
 use Rattle.tcl_meaning.specs.Script.{Run, plan, page_in, by_first, most_depth}
 use Rattle.tcl_meaning.specs.State.{State, Channels, remains}
 use Rattle.tcl_meaning.specs.Substitution.{inside}
-use Rattle.tcl_meaning.specs.Tasks.{Task, Script, Turn, Step, Done, Evaluate, Pay, Owes, Loop}
+use Rattle.tcl_meaning.specs.Tasks.{Script, Turn, Step, Evaluate, Pay, Owes, Loop}
 use Rattle.tcl_meaning.specs.Tasks as tasks
 use Rattle.tcl_meaning.specs.Value.{Value, completed}
 use Rattle.tcl_meaning.proofs.Onward.{outputs_trans}
@@ -25,7 +23,10 @@ use Rattle.tcl_meaning.proofs.Runs.{exec_goes, exec_bind, outcome_law}
 use Rattle.tcl_meaning.proofs.Rules.{turn_runs}
 use Rattle.tcl_meaning.proofs.Plain.{plainly_does}
 use Rattle.tcl_meaning.proofs.Questions.{run_answered, expression_answered}
-use Rattle.tcl_code.specs.Machine.{Spot, result_at, Move, To, Ends, Calls, Ended, landed_by, exec_code}
+use Rattle.tcl_code.specs.Caught.{lands}
+use Rattle.tcl_code.specs.Machine.{Spot, result_at, Move, To, Ends, Calls, Ended, landed, follow, exec_code}
+use Rattle.tcl_code.specs.Running.{running}
+use Rattle.tcl_code.proofs.Catching.{landed_caught}
 use Rattle.tcl_vm.specs.Standing.{Running, here, Undone, Nothing, Back, Gone, undone_of, undo, Waiting, Machine, After, left_of_page, paid_back, Returns, Goes, Lands, IsLost}
 use Rattle.tcl_vm.proofs.Forward.{onward, ended_same, outputs_same, comes_then, Then, Grows, grows_on, comes_grows, after_grows}
 
@@ -120,29 +121,24 @@ module _ (dialect : Dialect) where
   pub lands_as : (m : Machine) (got real r : Got Completion) → got ≡ real → Lands dialect m got r → Lands dialect m real r
   lands_as m got real r e h = subst (λ x. Lands dialect m x r) e h
 
-  -- it is done, and the code goes on
-  pub done_goes : (m : Machine) (c : Completion) (s : State) (r : Got Completion) → code_now c ≡ how.Ok → Lands dialect m (Gives c s) r
-      → Goes dialect (record { current = record { code = m.current.code; spot = result_at m.current.spot.at m.current.spot.stack m.current.spot.depth c }; callers = m.callers }) s r
-  done_goes m c s r e h = record {
+  -- where a completion lands the run goes on
+  pub landed_follows : (a : Running) (k : ℕ) (c : Completion) (s : State) (m : Move) → lands a c s ≡ m
+      → landed (exec_code dialect a.code k) a.spot.stack.loops (result_at a.spot.at a.spot.stack a.spot.depth) (Gives c s) ≡ follow dialect (exec_code dialect a.code k) a.spot.stack.loops m
+  landed_follows a k c s m e = landed_caught dialect (exec_code dialect a.code k) a.spot.stack.loops (result_at a.spot.at a.spot.stack a.spot.depth) c s ∙ ap (follow dialect (exec_code dialect a.code k) a.spot.stack.loops) e
+
+  -- it is done, and the code goes on behind the command, or at a loop
+  pub done_goes : (m : Machine) (q : Spot) (c : Completion) (s : State) (r : Got Completion) → lands m.current c s ≡ To q s → Lands dialect m (Gives c s) r → Goes dialect (record { current = running m.current.code q; callers = m.callers }) s r
+  done_goes m q c s r e h = record {
     mid = h.mid;
-    runs = record { steps = h.lands.steps; ends = subst (λ k. landed_by (exec_code dialect m.current.code h.lands.steps) (result_at m.current.spot.at m.current.spot.stack m.current.spot.depth) k c s ≡ Ended h.mid) e h.lands.ends };
+    runs = record { steps = h.lands.steps; ends = sym (landed_follows m.current h.lands.steps c s (To q s) e) ∙ h.lands.ends };
     returns = h.returns;
   }
 
-  -- or the code ends with it
-  pub done_ends : (m : Machine) (c : Completion) (s : State) (r : Got Completion) → (code_now c ≡ how.Ok → ⊥) → Lands dialect m (Gives c s) r → Returns dialect m.callers (Gives c s) r
-  done_ends m c s r other h = by_code (code_now c) refl h.lands.ends
-    where
-      ended : Ended (Gives c s) ≡ Ended h.mid → Returns dialect m.callers (Gives c s) r
-      ended e = subst (λ x. Returns dialect m.callers x r) (sym (ended_same _ _ e)) h.returns
-
-      by_code : (k : Code) → code_now c ≡ k → landed_by (exec_code dialect m.current.code h.lands.steps) (result_at m.current.spot.at m.current.spot.stack m.current.spot.depth) k c s ≡ Ended h.mid → Returns dialect m.callers (Gives c s) r
-      by_code how.Ok q e = absurd (other q)
-      by_code how.Error q e = ended e
-      by_code how.Return q e = ended e
-      by_code how.Break q e = ended e
-      by_code how.Continue q e = ended e
-      by_code (how.Other z) q e = ended e
+  -- or the code ends
+  pub done_ends : (m : Machine) (c e : Completion) (s : State) (r : Got Completion) → lands m.current c s ≡ Ends (Gives e s) → Lands dialect m (Gives c s) r → Returns dialect m.callers (Gives e s) r
+  done_ends m c e s r is h =
+      let ended : Ended (Gives e s) ≡ Ended h.mid = sym (landed_follows m.current h.lands.steps c s (Ends (Gives e s)) is) ∙ h.lands.ends in
+      subst (λ x. Returns dialect m.callers x r) (sym (ended_same _ _ ended)) h.returns
 
   -- the page that waits goes on
   pub owed_lands : (ws : List Waiting) (w : Waiting) (c : Completion) (s : State) (r : Got Completion) → Returns dialect (ws ++ w ∷ []) (Gives c s) r

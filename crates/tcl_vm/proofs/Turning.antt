@@ -1,5 +1,5 @@
 -- Each turn of a machine, seen as a whole.
-use Rattle.std.proofs.Common.{◌≡◌, ◌⊎◌, inl, inr, ℕ, ◌+◌, ◌-◌, ◌≤◌, ◌<◌, List, [], ◌∷◌, length, Some, refl, sym, ◌∙◌, subst, arith, ⊎_elim}
+use Rattle.std.proofs.Common.{◌≡◌, ◌⊎◌, inl, inr, ℕ, ◌+◌, ◌-◌, ◌≤◌, List, Some, refl, sym, ◌∙◌, subst, arith, ⊎_elim}
 use Rattle.std.specs.Prelude.{slice_get}
 use Rattle.tcl_chars.specs.declared.numbers.Dialect.{Dialect}
 use Rattle.tcl_pages.specs.Texts.{Text}
@@ -18,9 +18,9 @@ use Rattle.tcl_meaning.proofs.Runs.{exec_goes}
 use Rattle.tcl_code.specs.Instructions.{Spend, Turn as TurnBack}
 use Rattle.tcl_code.specs.Machine.{Spot, To, Ends, Calls}
 use Rattle.tcl_vm.specs.Fitting.{FitsHere, FitsThen}
-use Rattle.tcl_vm.specs.Standing.{here, Waiting, Machine, Goes, Lands, IsLost, left_of_page}
-use Rattle.tcl_vm.specs.Turns.{Turn, Next, Asking, Ending, Config, Stands, StandsBy, Fits, On, Used, Less, Turned, Paused, Exited, BrokenOff}
-use Rattle.tcl_vm.proofs.Fitting.{MoveFits, here_fits, fits_inside}
+use Rattle.tcl_vm.specs.Standing.{here, Machine, Goes, Lands, IsLost, left_of_page}
+use Rattle.tcl_vm.specs.Turns.{Turn, Next, Asking, Ending, Config, Stands, StandsBy, Fits, left, On, Used, Less, Turned, Paused, Exited, BrokenOff}
+use Rattle.tcl_vm.proofs.Fitting.{MoveFits, here_fits}
 use Rattle.tcl_vm.proofs.Forward.{Grows, outputs_same, onward}
 use Rattle.tcl_vm.proofs.Returning.{goes_to, goes_ends, goes_calls, goes_grow, lands_grow, returns_grow, returns_broke, stepped, exited, broken, part_of, lost_part}
 
@@ -86,11 +86,8 @@ module _ (dialect : Dialect) where
     to_stands : (k : ℕ) (r : Got Completion) → Stands dialect (config Next m n s) r → Stands dialect (config Next (moved_to m q) k t) r
     to_stands k = stands_on (config Next m n s) (config Next (moved_to m q) k t) g (λ r h. record { either = inl (goes_to dialect m s t q r h e) })
 
-    to_fits : (p : ℕ) → FitsHere m.current p → MoveFits (slice_get m.current.code m.current.spot.at) m.current.code m.current.spot.at p s (To q t)
-    to_fits p h = subst (MoveFits (slice_get m.current.code m.current.spot.at) m.current.code m.current.spot.at p s) e (here_fits dialect m.current p s h)
-
-    less_left : (p : ℕ) → FitsHere (record { code = m.current.code; spot = q }) p → m.current.spot.at < q.at → length m.current.code - q.at < length m.current.code - m.current.spot.at
-    less_left p h l = let i = fits_inside (record { code = m.current.code; spot = q }) p h in omega arith
+    to_fits : (p : ℕ) → FitsHere m.current p → MoveFits (slice_get m.current.code m.current.spot.at) m.current.code (left m.current) p s (To q t)
+    to_fits p h = subst (MoveFits (slice_get m.current.code m.current.spot.at) m.current.code (left m.current) p s) e (here_fits dialect m.current p s h)
 
     pub on_moved : t.units ≡ s.units → Turned dialect On (config Next m n s) (config Next (moved_to m q) n t)
     on_moved u = record {
@@ -104,7 +101,7 @@ module _ (dialect : Dialect) where
         made f =
             let x = to_fits n f.by.0 in
             ⊎_elim
-            (λ y. (record { by = (subst (FitsHere (record { code = m.current.code; spot = q })) y.0 x.1, f.by.1) }, (omega arith, omega arith, let z = less_left x.0 x.1 y.1 in omega arith)))
+            (λ y. (record { by = (subst (FitsHere (record { code = m.current.code; spot = q })) y.0 x.1, f.by.1) }, (omega arith, omega arith, let z = y.1 in omega arith)))
             (⊎_elim (λ y. absurd (let z = y.3 in omega arith)) (λ y. absurd (let z = y.3 in omega arith)))
             x.2
 
@@ -122,7 +119,7 @@ module _ (dialect : Dialect) where
             ⊎_elim
             (λ y. absurd (let z = y.2 in omega arith))
             (⊎_elim
-            (λ y. (record { by = (subst (FitsHere (record { code = m.current.code; spot = q })) y.1 x.1, f.by.1) }, (omega arith, omega arith, let z = less_left x.0 x.1 y.2 in omega arith)))
+            (λ y. (record { by = (subst (FitsHere (record { code = m.current.code; spot = q })) y.1 x.1, f.by.1) }, (omega arith, omega arith, let z = y.2 in omega arith)))
             (λ y. absurd (let z : Some Spend ≡ Some (TurnBack y.0) = sym i ∙ y.1 in cc)))
             x.2
 
@@ -162,8 +159,8 @@ module _ (dialect : Dialect) where
   -- ---- a command is called
 
   module _ (m : Machine) (n : ℕ) (s t : State) (words : List Text) (q : Spot) (e : here dialect m.current s ≡ Calls words q s) where
-    calls_fit : (p : ℕ) → FitsHere m.current p → MoveFits (slice_get m.current.code m.current.spot.at) m.current.code m.current.spot.at p s (Calls words q s)
-    calls_fit p h = subst (MoveFits (slice_get m.current.code m.current.spot.at) m.current.code m.current.spot.at p s) e (here_fits dialect m.current p s h)
+    calls_fit : (p : ℕ) → FitsHere m.current p → MoveFits (slice_get m.current.code m.current.spot.at) m.current.code (left m.current) p s (Calls words q s)
+    calls_fit p h = subst (MoveFits (slice_get m.current.code m.current.spot.at) m.current.code (left m.current) p s) e (here_fits dialect m.current p s h)
 
     -- it has been paid for
     pub called_paid : Fits (config Next m n s) → 1 ≤ n

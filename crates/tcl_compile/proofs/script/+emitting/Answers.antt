@@ -9,7 +9,8 @@ use Rattle.tcl_meaning.proofs.Nests.{first_nests, parts_nest_at, words_nest_at}
 use Rattle.tcl_compile.specs.Emitted.{GatheredLeft}
 use Rattle.tcl_compile.specs.Within.{PartWithin, PartsWithin, WordsWithin}
 use Rattle.tcl_compile.proofs.Within.{first_shorter, parts_within_at, words_within_at}
-use Rattle.tcl_compile.proofs.Emits.{grown_text, grown_escape, grown_var, grown_elem, grown_bracket, grown_deeper, grown_word, grown_command, grown_gathered, piece_leads, word_leads, gather_leads, leads_start, plain_at, script_leads, script_ends, script_fails, grown_changed, change_long}
+use Rattle.tcl_compile.proofs.Emits.{grown_text, grown_escape, grown_var, grown_elem, grown_bracket, grown_deeper, grown_word, grown_command, grown_gathered, piece_leads, word_leads, gather_leads, leads_start, plain_at, script_leads, script_ends, script_fails}
+use Rattle.tcl_compile.proofs.Forming.{grown_changed, change_long, form_plain, grown_guarded}
 use Rattle.tcl_compile.proofs.Parsing.{parsed_end, parsed_bad, parsed_command, map_at, part-text, part-escape, part-var, part-elem, part-bracket}
 use Rattle.tcl_compile.proofs.script.+emitting.Goals as goal
 
@@ -145,7 +146,7 @@ emit_script-emit_command-requires t c =
     let less = short.less in
     let shorter = c.commands.invariant.1.shorter in
     let some : 0 < length now = omega arith in
-    let falls : 1000 * length now + (2 * most_levels + 4) < 1000 * length (chars c.args.text.now) + 900 = omega arith in
+    let falls : 1000 * length now + (2 * most_levels + 6) < 1000 * length (chars c.args.text.now) + 900 = omega arith in
     let nests : WordsNest most_levels (map shape_of c.as_slice.result.now) = rw c.as_slice.ensures.value (first_nests most_levels now _ e.rest e.is) in
     let within : WordsWithin (length now - 1) (map shape_of c.as_slice.result.now) = rw c.as_slice.ensures.value short.within in
     search rules
@@ -185,3 +186,12 @@ emit_changed-returns t c =
     let is = c.requires.1.1.0 in
     let at = map_at shape_of c.args.words.now 2 c.index-words-2.result c.index-words-2.is in
     on_ok_weaker c.emit_change.result (λ h. grown_changed c.args.change (chars c.args.name.now) ws (shape_of c.index-words-2.result) _ _ _ is at (change_long c.args.change (chars c.args.name.now) ws is) c.in_ok-emit_word.ensures h) c.emit_change.ensures
+
+pub emit_inlined-emit_plain-requires : goal.emit_inlined-emit_plain-requires
+emit_inlined-emit_plain-requires t c = (search rules, (form_plain c.args.form.now (map shape_of c.args.words.now) c.requires.1.1.0, c.requires.1.1.1))
+
+pub emit_inlined-returns : goal.emit_inlined-returns
+emit_inlined-returns t c =
+    on_ok_weaker c.lead_here-2.result
+    (λ h. grown_guarded _ _ _ _ _ _ _ c.args.form.now (map shape_of c.args.words.now) c.requires.1.1.0 (rw c.command_of.ensures at c.in_ok-emit.ensures.done) c.in_ok-emit_page.ensures c.in_ok-emit-2.ensures.done
+    (λ front back i e p. c.in_ok-lead_here.ensures front back i e (c.len-guard.ensures ∙ p)) c.in_ok-emit_plain.ensures (λ front back i e p. h front back i e (c.len-past.ensures ∙ p))) c.lead_here-2.ensures

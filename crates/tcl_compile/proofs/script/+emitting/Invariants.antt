@@ -35,8 +35,11 @@ decreases-emit_changed l = 1000 * length (chars l.whole.now) + (2 * most_levels 
 abbrev pub decreases-emit_gathered : goal.decreases-emit_gathered
 decreases-emit_gathered l = 1000 * length (chars l.whole.now) + (2 * most_levels + 4)
 
+abbrev pub decreases-emit_inlined : goal.decreases-emit_inlined
+decreases-emit_inlined l = 1000 * length (chars l.whole.now) + (2 * most_levels + 5)
+
 abbrev pub decreases-emit_command : goal.decreases-emit_command
-decreases-emit_command l = 1000 * length (chars l.whole.now) + (2 * most_levels + 5)
+decreases-emit_command l = 1000 * length (chars l.whole.now) + (2 * most_levels + 6)
 
 abbrev pub invariant-emit_script-commands : goal.invariant-emit_script-commands
 invariant-emit_script-commands l = shadow (Utf8 l.rest) × record {

@@ -1,5 +1,5 @@
 use Rattle.std.proofs.Common.{Ok, ap, refl}
-use Rattle.tcl_code.specs.Instructions.{Push, Read, ReadElement, Join, Raise}
+use Rattle.tcl_code.specs.Instructions.{Push, Read, ReadElement, Join, Raise, Under}
 use Rattle.tcl_code.specs.declared.instr.Instr.TheVariants as instr
 use Rattle.tcl_activation.specs.declared.progress.Progress.TheVariants as progress
 use Rattle.tcl_activation.proofs.Topics.{copied, reads_as}
@@ -24,3 +24,7 @@ returns-in_ok-join-in-Join g c = reads_as (g.F.Variables.store c.args.frames.now
 pub returns-in_ok-copy-in-Raise : goal.returns-in_ok-copy-in-Raise
 returns-in_ok-copy-in-Raise g c = reads_as (g.F.Variables.store c.args.frames.now) c.args.code.now.texts c.args.instr (instr.Raise c.in-Raise.number) (Raise c.in_ok-copy-in-Raise.field-0) c.args.self.now c.args.self.now c.raise.result
     c.in-Raise.is (ap Raise (copied c.args.code.now.texts c.in-Raise.number c.text-in-Raise.result.now c.in_ok-copy-in-Raise.field-0 c.text-in-Raise.ensures c.in_ok-copy-in-Raise.ensures)) (λ dialect at s same. c.raise.ensures dialect at s)
+
+pub returns-in_ok-under-in-Under : goal.returns-in_ok-under-in-Under
+returns-in_ok-under-in-Under g c = reads_as (g.F.Variables.store c.args.frames.now) c.args.code.now.texts c.args.instr (instr.Under c.in-Under.number) (Under c.in_ok-copy-in-Under.field-0) c.args.self.now c.under.new.self (Ok progress.Moved)
+    c.in-Under.is (ap Under (copied c.args.code.now.texts c.in-Under.number c.text-in-Under.result.now c.in_ok-copy-in-Under.field-0 c.text-in-Under.ensures c.in_ok-copy-in-Under.ensures)) (λ dialect at s same. c.in_ok-under-in-Under.ensures dialect at s)

@@ -1,7 +1,7 @@
 use Rattle.std.proofs.Common.{arith}
 use Rattle.std.proofs.lemmas.Result.{on_ok_weaker}
-use Rattle.tcl_compile.proofs.TreeEmits.{led}
-use Rattle.tcl_compile.proofs.tree.lead_here.Goals as goal
+use Rattle.tcl_compile.proofs.Forks.{led}
+use Rattle.tcl_compile.proofs.skips.lead_here.Goals as goal
 
 pub returns : goal.returns
 returns c =

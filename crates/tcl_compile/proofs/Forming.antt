@@ -1,0 +1,136 @@
+-- Commands of literal words, read and emitted.
+use Rattle.std.proofs.Common.{◌≡◌, ℕ, ◌+◌, ◌<◌, ◌≤◌, List, [], ◌∷◌, ◌++◌, length, get_or, drop, map, sym, ap, ◌∙◌, subst, append_assoc, append-nil, arith}
+use Rattle.std.specs.Borrow.{Bor}
+use Rattle.std.specs.Str.{chars}
+use Rattle.tcl_chars.specs.Texts.{literal}
+use Rattle.tcl_chars.specs.declared.numbers.Dialect.{Dialect}
+use Rattle.tcl_words.specs.Parts.{Part, text, escape, var, elem_, bracket, Shape}
+use Rattle.tcl_pages.specs.Texts.{Text}
+use Rattle.tcl_meaning.specs.Effects.{Gives, exec}
+use Rattle.tcl_meaning.specs.Script.{Run}
+use Rattle.tcl_meaning.specs.State.{State}
+use Rattle.tcl_meaning.specs.Substitution.{pieces_text}
+use Rattle.tcl_meaning.specs.Value.{Has}
+use Rattle.tcl_meaning.proofs.ScriptRules.{drop_here}
+use Rattle.tcl_code.specs.Guards.{inlined_of, name_of}
+use Rattle.tcl_code.specs.Instructions.{Push, Call, Guard, Under, Write, Bump, Skip, Break as BreakNow, Continue as ContinueNow}
+use Rattle.tcl_code.specs.Parts.{Does}
+use Rattle.tcl_code.specs.declared.inlined.Change.{Change}
+use Rattle.tcl_code.specs.declared.inlined.Change.TheVariants as change
+use Rattle.tcl_code.specs.declared.inlined.Inlined.TheVariants as inlined
+use Rattle.tcl_compile.specs.Changes.{IsChange, changing}
+use Rattle.tcl_compile.specs.Emitted.{CommandCode, WordCode}
+use Rattle.tcl_compile.specs.Forms.{IsVerbatim, AreVerbatim, IsLiteral, AllLiteral, command_of, IsForm, HasForm, page_does, PageCode}
+use Rattle.tcl_compile.specs.Fragments.{Grown, Plain}
+use Rattle.tcl_compile.specs.Inlining.{Says, AllSay, Makes}
+use Rattle.tcl_compile.specs.declared.inlining.Form.{Form}
+use Rattle.tcl_compile.specs.declared.inlining.Form.TheVariants as form
+use Rattle.tcl_compile.proofs.Emits.{Code, ext, join, drop_end}
+use Rattle.tcl_compile.proofs.Forks.{LedHere, forked}
+use Rattle.tcl_compile.proofs.Guarded.{command_said, guarded, guarded_runs}
+use Rattle.tcl_compile.proofs.Inlined.{set_runs, bump_runs, incr_makes, break_makes, continue_makes}
+
+-- ---- literal words
+
+piece_says : (p : Part) (t : Text) → IsVerbatim p t → (dialect : Dialect) (d : ℕ) (s : State) → exec (Run dialect) (pieces_text d (p ∷ [])) s ≡ Gives (Has t) s
+piece_says (text x) t e dialect d s = ap (λ u. Gives (Has u) s) (append-nil x.text ∙ sym e)
+piece_says (escape x c) t e dialect d s = absurd e
+piece_says (var x name) t e dialect d s = absurd e
+piece_says (elem_ x name ps) t e dialect d s = absurd e
+piece_says (bracket x script) t e dialect d s = absurd e
+
+pieces_say : (ps : List Part) (t : Text) → AreVerbatim ps t → (dialect : Dialect) (d : ℕ) (s : State) → exec (Run dialect) (pieces_text d ps) s ≡ Gives (Has t) s
+pieces_say [] t e dialect d s = ap (λ u. Gives (Has u) s) (sym e)
+pieces_say (p ∷ []) t e dialect d s = piece_says p t e dialect d s
+pieces_say (p ∷ q ∷ ps) t e dialect d s = absurd e
+
+pub says : (w : Shape) (t : Text) → IsLiteral w t → Says w t
+says w t h = record { one = h.0; text = λ dialect d s. pieces_say w.pieces t h.1 dialect d s }
+
+pub all_say : (ws : List Shape) (ts : List Text) → AllLiteral ws ts → AllSay ws ts
+all_say [] [] h = tt
+all_say [] (t ∷ ts) h = absurd h
+all_say (w ∷ ws) [] h = absurd h
+all_say (w ∷ ws) (t ∷ ts) h = (says w t h.0, all_say ws ts h.1)
+
+all_plain : (ws : List Shape) (ts : List Text) → AllLiteral ws ts → Plain ws
+all_plain [] [] h = tt
+all_plain [] (t ∷ ts) h = absurd h
+all_plain (w ∷ ws) [] h = absurd h
+all_plain (w ∷ ws) (t ∷ ts) h = (h.0.0, all_plain ws ts h.1)
+
+pub form_plain : (f : Form) (ws : List Shape) → HasForm f ws → Plain ws
+form_plain f ws h = all_plain ws (name_of (command_of f) ∷ h.0) h.1
+
+-- a word of no pieces
+pub none_verbatim : {A : Type 0} (f : A → Part) (xs : List A) (t : Text) → length xs ≡ 0 → t ≡ [] → AreVerbatim (map f xs) t
+none_verbatim f [] t e h = h
+none_verbatim f (x ∷ xs) t e h = absurd cc
+
+-- ---- literal words, one after another
+
+-- the words that are left have these texts behind those that were read
+abbrev pub Texts : ℕ → List Shape → List Text → Type 0
+Texts i ws us = (ts : List Text) → AllLiteral (drop i ws) ts → AllLiteral ws (us ++ ts)
+
+pub texts_next : (ws : List Shape) (i : ℕ) (w : Shape) (t : Text) (us : List Text) → i < length ws → w ≡ get_or ws i w → IsLiteral w t → Texts i ws us → Texts (i + 1) ws (us ++ t ∷ [])
+texts_next ws i w t us lt e is h ts k = subst (AllLiteral ws) (sym (append_assoc us (t ∷ []) ts)) (h (t ∷ ts) (subst (λ vs. AllLiteral vs (t ∷ ts)) (sym (drop_here ws i w lt e)) (is, k)))
+
+pub texts_end : (ws : List Shape) (i : ℕ) (us : List Text) → length ws ≤ i → Texts i ws us → AllLiteral ws us
+texts_end ws i us le h = subst (AllLiteral ws) (append-nil us) (h [] (subst (λ vs. AllLiteral vs []) (sym (drop_end ws i le)) tt))
+
+-- ---- pages
+
+pub grown_break : (f : Form) (old new : Code) → f ≡ form.Break → new ≡ old ++ BreakNow ∷ [] → Grown (PageCode f) old new
+grown_break f old new e h = (BreakNow ∷ [], h, λ dialect ts is. subst (λ (g : Form). IsForm g ts → Makes dialect (BreakNow ∷ []) (page_does dialect (command_of g) ts)) (sym e) (λ k. subst (λ us. Makes dialect (BreakNow ∷ []) (page_does dialect inlined.Break us)) (sym k) (break_makes dialect)) is)
+
+pub grown_continue : (f : Form) (old new : Code) → f ≡ form.Continue → new ≡ old ++ ContinueNow ∷ [] → Grown (PageCode f) old new
+grown_continue f old new e h = (
+  ContinueNow ∷ [],
+  h,
+  λ dialect ts is. subst (λ (g : Form). IsForm g ts → Makes dialect (ContinueNow ∷ []) (page_does dialect (command_of g) ts)) (sym e) (λ k. subst (λ us. Makes dialect (ContinueNow ∷ []) (page_does dialect inlined.Continue us)) (sym k) (continue_makes dialect)) is,
+)
+
+pub grown_increment : (f : Form) (name : Bor (List ℕ)) (m0 m1 m2 : Code) → f ≡ form.Increment name → m1 ≡ m0 ++ Push (literal "1") ∷ [] → m2 ≡ m1 ++ Bump (chars name.now) ∷ [] → Grown (PageCode f) m0 m2
+grown_increment f name m0 m1 m2 e h k =
+    let c = Push (literal "1") ∷ Bump (chars name.now) ∷ [] in (
+      c,
+      (join (ext {m0 = m0} {c = Push (literal "1") ∷ []} h) (ext {m0 = m1} {c = Bump (chars name.now) ∷ []} k)).is,
+      λ dialect ts is. subst (λ (g : Form). IsForm g ts → Makes dialect c (page_does dialect (command_of g) ts)) (sym e) (λ j. subst (λ us. Makes dialect c (page_does dialect inlined.Incr us)) (sym j) (incr_makes dialect (chars name.now))) is,
+    )
+
+-- ---- a guard, and the call beside it
+
+pub grown_guarded : (m0 m1 m2 m3 m4 m5 m6 : Code) (f : Form) (ws : List Shape) → HasForm f ws → m1 ≡ m0 ++ Guard (command_of f) 0 ∷ [] → Grown (PageCode f) m1 m2 → m3 ≡ m2 ++ Skip 0 ∷ [] → LedHere (length m0) m3 m4 → Grown (CommandCode ws) m4 m5 → LedHere (length m2) m5 m6
+    → Grown (CommandCode ws) m0 m6
+grown_guarded m0 m1 m2 m3 m4 m5 m6 f ws h e g k l x n =
+    let p = command_of f in (
+      guarded p g.0 x.0,
+      forked (Guard p 0) g.0 x.0 m0 m1 m2 m3 m4 m5 m6 e g.1 k l x.1 n,
+      λ dialect. guarded_runs dialect p h.0 _ g.0 x.0 (λ d s. command_said dialect d ws (name_of p ∷ h.0) s (all_say ws (name_of p ∷ h.0) h.1)) (g.2 dialect h.0 h.2) (x.2 dialect),
+    )
+
+-- ---- a variable's change
+
+pub grown_changed : (k : Change) (name : Text) (ws : List Shape) (w : Shape) (m0 m1 m2 : Code) → IsChange k name ws → w ≡ get_or ws 2 w → 2 < length ws → Grown (WordCode w.pieces) m0 m1
+    → m2 ≡ m1 ++ Guard (inlined_of k) 2 ∷ changing k name ∷ Skip 3 ∷ Under (name_of (inlined_of k)) ∷ Under name ∷ Call 3 ∷ [] → Grown (CommandCode ws) m0 m2
+grown_changed k name [] w m0 m1 m2 h e lt g n = absurd h
+grown_changed k name (w0 ∷ []) w m0 m1 m2 h e lt g n = absurd h
+grown_changed k name (w0 ∷ w1 ∷ []) w m0 m1 m2 h e lt g n = absurd h
+grown_changed k name (w0 ∷ w1 ∷ w2 ∷ x ∷ ws) w m0 m1 m2 h e lt g n = absurd h
+grown_changed change.Set name (w0 ∷ w1 ∷ w2 ∷ []) w m0 m1 m2 h e lt g n = (
+  g.0 ++ Guard inlined.Set 2 ∷ Write name ∷ Skip 3 ∷ Under (name_of inlined.Set) ∷ Under name ∷ Call 3 ∷ [],
+  (join (ext {m0 = m0} {c = g.0} g.1) (ext {m0 = m1} {c = Guard inlined.Set 2 ∷ Write name ∷ Skip 3 ∷ Under (name_of inlined.Set) ∷ Under name ∷ Call 3 ∷ []} n)).is,
+  λ dialect. set_runs dialect name w0 w1 w2 g.0 (says w0 (name_of inlined.Set) h.0) (says w1 name h.1) h.2 (subst (λ (v : Shape). Does dialect g.0 (λ d. pieces_text d v.pieces)) e (g.2 dialect)),
+)
+grown_changed change.Incr name (w0 ∷ w1 ∷ w2 ∷ []) w m0 m1 m2 h e lt g n = (
+  g.0 ++ Guard inlined.Incr 2 ∷ Bump name ∷ Skip 3 ∷ Under (name_of inlined.Incr) ∷ Under name ∷ Call 3 ∷ [],
+  (join (ext {m0 = m0} {c = g.0} g.1) (ext {m0 = m1} {c = Guard inlined.Incr 2 ∷ Bump name ∷ Skip 3 ∷ Under (name_of inlined.Incr) ∷ Under name ∷ Call 3 ∷ []} n)).is,
+  λ dialect. bump_runs dialect name w0 w1 w2 g.0 (says w0 (name_of inlined.Incr) h.0) (says w1 name h.1) h.2 (subst (λ (v : Shape). Does dialect g.0 (λ d. pieces_text d v.pieces)) e (g.2 dialect)),
+)
+
+pub change_long : (k : Change) (name : Text) (ws : List Shape) → IsChange k name ws → 2 < length ws
+change_long k name [] h = absurd h
+change_long k name (w0 ∷ []) h = absurd h
+change_long k name (w0 ∷ w1 ∷ []) h = absurd h
+change_long k name (w0 ∷ w1 ∷ w2 ∷ ws) h = omega arith
