@@ -1,11 +1,12 @@
-//! Instructions of inlined commands.
-ghost use Rattle.std.specs.Prelude.{◌≤◌, length, OnOk};
+//! Instructions of inlined commands, and of loops among them.
+ghost use Rattle.std.specs.Prelude.{◌≡◌, ◌≤◌, ◌<◌, ◌+◌, ◌^◌, length, IfSome, OnOk};
 ghost use Rattle.tcl_activation.specs.Changing.{ChangesBy, changing};
+ghost use Rattle.tcl_activation.specs.Loops.{Closes, opened};
 ghost use Rattle.tcl_activation.specs.Moves.{Goes};
 ghost use Rattle.tcl_code.specs.Instructions.{Become, Under};
 
 use crate::stack::Stack;
-use std::alloc::AllocError;
+use std::alloc::{AllocError, Global};
 use tcl_code::Change;
 use tcl_values::Value;
 
@@ -43,5 +44,39 @@ impl Stack {
         let last = self.results.pop();
         self.results.replace(last);
         self.depth -= 1;
+    }
+    /// A loop's body begins, one deeper. It owns none of what stands there, which comes back when the loop goes on, at `at` or
+    /// one further.
+    pub fn open(&mut self, alloc: Global, at: usize) -> Result<(), AllocError>
+        requires place { at + 1 < 2 ^ 64 }
+        requires depth { self.old.depth < 1000 }
+        ensures { OnOk result (self.new ≡ opened at self.old) }
+    {
+        let depth = self.depth;
+        self.loops.open(
+            alloc,
+            at,
+            depth,
+            &mut self.texts,
+            &mut self.lists,
+            &mut self.results,
+        )?;
+        self.depth = depth + 1;
+        Ok(())
+    }
+
+    /// Puts back what the innermost loop has saved, if there is a loop, and answers where it goes on.
+    pub fn close(&mut self) -> Option<usize>
+        ensures closes { Closes result self.old self.new }
+        ensures place { IfSome result (λ at. at + 1 < 2 ^ 64) }
+    {
+        if self.loops.is_empty() {
+            return None;
+        }
+        let (at, depth) = self
+            .loops
+            .close(&mut self.texts, &mut self.lists, &mut self.results);
+        self.depth = depth;
+        Some(at)
     }
 }

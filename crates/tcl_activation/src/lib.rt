@@ -17,6 +17,7 @@ mod variables;
 mod ways;
 
 pub use activation::Activation;
+pub use loops::Loops;
 pub use open_loop::OpenLoop;
 pub use pile::Pile;
 pub use progress::Progress;

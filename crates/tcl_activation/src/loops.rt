@@ -1,43 +1,104 @@
-//! Instructions of loops whose bodies run.
-ghost use Rattle.std.specs.Prelude.{◌≡◌, ◌+◌, ◌<◌, ◌^◌, IfSome, OnOk};
-ghost use Rattle.tcl_activation.specs.Loops.{Closes, opened};
+//! Loops whose bodies run.
+ghost use Rattle.std.specs.Prelude.{◌≡◌, ◌≤◌, ◌<◌, ◌+◌, ◌^◌, [], ◌∷◌, true, false, length, take, OnOk};
+ghost use Rattle.tcl_activation.specs.Saved.{loop_of};
+ghost use Rattle.tcl_meaning.specs.Completions.{nothing};
 
 use crate::open_loop::OpenLoop;
 use crate::pile::Pile;
 use crate::results::Results;
-use crate::stack::Stack;
+use crate::stack::Words;
 use std::alloc::{AllocError, Global};
-use std::mem;
+use std::marker::Model;
+use tcl_values::Value;
 
-impl Stack {
-    /// A loop's body begins, one deeper. It owns none of what stands there, which comes back when the loop goes on, at `at` or
-    /// one further.
-    pub fn open(&mut self, alloc: Global, at: usize) -> Result<(), AllocError>
-        requires place { at + 1 < 2 ^ 64 }
-        requires depth { self.old.depth < 1000 }
-        ensures { OnOk result (self.new ≡ opened at self.old) }
+/// Loops whose bodies run. Contracts see a list, the newest first. One that is closed stays there with its room for the next one:
+/// a turn of a loop takes no memory for what its body puts.
+#[derive(Drop)]
+pub struct Loops {
+    // Those that are open come first.
+    items: Vec<OpenLoop>,
+    open: usize,
+}
+
+impl Model for Loops {
+    ghost use Rattle.std.specs.Prelude.{◌≤◌, List, length, reverse, take};
+    ghost use Rattle.tcl_code.specs.Machine.{Loop};
+
+    ghost Value = { List Loop };
+
+    ghost view = { λ l. reverse (take l.open l.items.items) };
+
+    ghost invariant = { λ l. l.open ≤ length l.items.items };
+}
+
+// Has one more than `count` there.
+fn provide(items: &mut Vec<OpenLoop>, alloc: Global, count: usize) -> Result<(), AllocError>
+    requires { count ≤ length items.old.items }
+    ensures more { OnOk result (count < length items.new.items) }
+    ensures enough { count ≤ length items.new.items }
+    ensures same { take count items.new.items ≡ take count items.old.items }
+{
+    if count == items.len() {
+        items.push(OpenLoop::unused(alloc))?;
+    }
+    Ok(())
+}
+
+impl Loops {
+    /// None yet.
+    pub fn new(alloc: Global) -> Loops
+        ensures { result ≡ [] }
     {
-        self.loops.push(OpenLoop {
-            at,
-            texts: mem::replace(&mut self.texts, Pile::new(alloc)),
-            lists: mem::replace(&mut self.lists, Pile::new(alloc)),
-            results: mem::replace(&mut self.results, Results::new(alloc)),
-            depth: self.depth,
-        })?;
-        self.depth += 1;
+        Loops {
+            items: Vec::new(alloc),
+            open: 0,
+        }
+    }
+
+    /// Is none open?
+    pub fn is_empty(&self) -> bool
+        ensures is { result ≡ true → self.now ≡ [] }
+        ensures other { result ≡ false → 1 ≤ length self.now }
+    {
+        self.open == 0
+    }
+
+    /// One more is open, and saves these. In their place comes what its body begins with.
+    pub fn open(
+        &mut self,
+        alloc: Global,
+        at: usize,
+        depth: u32,
+        texts: &mut Pile<Value>,
+        lists: &mut Pile<Words>,
+        results: &mut Results,
+    ) -> Result<(), AllocError>
+        requires { at + 1 < 2 ^ 64 }
+        ensures saved { OnOk result (self.new ≡ loop_of at texts.old lists.old results.old depth ∷ self.old) }
+        ensures texts { OnOk result (texts.new ≡ []) }
+        ensures lists { OnOk result (lists.new ≡ []) }
+        ensures results { OnOk result (results.new ≡ nothing ∷ []) }
+    {
+        let open = self.open;
+        provide(&mut self.items, alloc, open)?;
+        self.items[open].save(at, depth, texts, lists, results);
+        self.open = open + 1;
         Ok(())
     }
 
-    /// Puts back what the innermost loop has saved, if there is a loop, and answers where it goes on.
-    pub fn close(&mut self) -> Option<usize>
-        ensures closes { Closes result self.old self.new }
-        ensures place { IfSome result (λ at. at + 1 < 2 ^ 64) }
+    /// The newest is closed. It puts back what it has saved, and answers its place and its depth.
+    pub fn close(
+        &mut self,
+        texts: &mut Pile<Value>,
+        lists: &mut Pile<Words>,
+        results: &mut Results,
+    ) -> (usize, u32)
+        requires { 1 ≤ length self.old }
+        ensures saved { self.old ≡ loop_of result.0 texts.new lists.new results.new result.1 ∷ self.new }
+        ensures place { result.0 + 1 < 2 ^ 64 }
     {
-        let open = self.loops.take()?;
-        self.texts = open.texts;
-        self.lists = open.lists;
-        self.results = open.results;
-        self.depth = open.depth;
-        Some(open.at)
+        let newest = self.open - 1;
+        self.open = newest;
+        self.items[newest].restore(texts, lists, results)
     }
 }

@@ -1,18 +1,24 @@
 //! A loop whose body runs, as it stands on the stack.
+ghost use Rattle.std.specs.Prelude.{◌≡◌, ◌+◌, ◌<◌, ◌^◌, [], ◌∷◌};
+ghost use Rattle.tcl_activation.specs.Saved.{loop_of};
+ghost use Rattle.tcl_meaning.specs.Completions.{nothing};
+
 use crate::pile::Pile;
 use crate::results::Results;
 use crate::stack::Words;
+use std::alloc::Global;
 use std::marker::Model;
+use std::mem;
 use tcl_values::Value;
 
 /// A loop whose body runs: where the code goes on after `break`, one further after `continue`, and what stands there then.
 #[derive(Drop)]
 pub struct OpenLoop {
-    pub(crate) at: usize,
-    pub(crate) texts: Pile<Value>,
-    pub(crate) lists: Pile<Words>,
-    pub(crate) results: Results,
-    pub(crate) depth: u32,
+    at: usize,
+    texts: Pile<Value>,
+    lists: Pile<Words>,
+    results: Results,
+    depth: u32,
 }
 
 impl Model for OpenLoop {
@@ -25,4 +31,61 @@ impl Model for OpenLoop {
     ghost view = { λ o. loop_of o.at o.texts o.lists o.results o.depth };
 
     ghost invariant = { λ o. o.at + 1 < 2 ^ 64 };
+}
+
+impl OpenLoop {
+    /// One that has saved nothing yet.
+    pub(crate) fn unused(alloc: Global) -> OpenLoop {
+        OpenLoop {
+            at: 0,
+            texts: Pile::new(alloc),
+            lists: Pile::new(alloc),
+            results: Results::new(alloc),
+            depth: 0,
+        }
+    }
+
+    /// Saves these. In their place comes what a body begins with.
+    pub(crate) fn save(
+        &mut self,
+        at: usize,
+        depth: u32,
+        texts: &mut Pile<Value>,
+        lists: &mut Pile<Words>,
+        results: &mut Results,
+    )
+        requires { at + 1 < 2 ^ 64 }
+        ensures saved { self.new ≡ loop_of at texts.old lists.old results.old depth }
+        ensures texts { texts.new ≡ [] }
+        ensures lists { lists.new ≡ [] }
+        ensures results { results.new ≡ nothing ∷ [] }
+    {
+        self.at = at;
+        self.depth = depth;
+        self.texts.clear();
+        self.lists.clear();
+        self.results.restart();
+        mem::swap(&mut self.texts, texts);
+        mem::swap(&mut self.lists, lists);
+        mem::swap(&mut self.results, results);
+    }
+
+    /// Puts back what it has saved, and answers its place and its depth. What stood there instead is let go, all but its room.
+    pub(crate) fn restore(
+        &mut self,
+        texts: &mut Pile<Value>,
+        lists: &mut Pile<Words>,
+        results: &mut Results,
+    ) -> (usize, u32)
+        ensures saved { self.old ≡ loop_of result.0 texts.new lists.new results.new result.1 }
+        ensures place { result.0 + 1 < 2 ^ 64 }
+    {
+        mem::swap(&mut self.texts, texts);
+        mem::swap(&mut self.lists, lists);
+        mem::swap(&mut self.results, results);
+        self.texts.clear();
+        self.lists.clear();
+        self.results.restart();
+        (self.at, self.depth)
+    }
 }

@@ -1,7 +1,7 @@
 //! Values that are put on top of one another.
 ghost use Rattle.std.specs.Prelude.{◌≡◌, ◌≤◌, ◌∷◌, ◌++◌, Some, [], length, take, drop, reverse, option_map, OnOk, OnErr, IfOk};
 ghost use Rattle.std.specs.Borrow.{sem};
-ghost use Rattle.tcl_activation.specs.Piles.{Lifts, Takes};
+ghost use Rattle.tcl_activation.specs.Piles.{Lifts};
 ghost use Rattle.tcl_activation.specs.PileLent.{LendsTop};
 
 use std::alloc::{AllocError, Global};
@@ -64,11 +64,11 @@ impl<T: Drop> Pile<T> {
         }
     }
 
-    /// What lies on top is taken away, if anything lies there.
-    pub fn take(&mut self) -> Option<T>
-        ensures { Takes result self.old self.new }
+    /// All is let go.
+    pub fn clear(&mut self)
+        ensures { self.new ≡ [] }
     {
-        self.items.pop()
+        self.items.clear();
     }
 
     /// More on top, the last of them uppermost.

@@ -101,6 +101,14 @@ impl Results {
         }
     }
 
+    /// All are let go but that of one script, which has run no command yet.
+    pub fn restart(&mut self)
+        ensures { self.new ≡ nothing ∷ [] }
+    {
+        self.newest = Some(Last::nothing());
+        self.others.clear();
+    }
+
     /// Adds the result of one more script.
     pub fn push(&mut self, last: Last) -> Result<(), AllocError>
         ensures { OnOk result (self.new ≡ last ∷ self.old) }

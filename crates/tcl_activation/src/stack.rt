@@ -2,7 +2,7 @@
 ghost use Rattle.std.specs.Prelude.{◌≡◌, [], ◌∷◌, ◌++◌, ◌≤◌, Some, length, IfOk, OnOk};
 ghost use Rattle.tcl_code.specs.Machine.{taken};
 
-use crate::open_loop::OpenLoop;
+use crate::loops::Loops;
 use crate::pile::Pile;
 use crate::results::Results;
 use std::alloc::{AllocError, Global};
@@ -63,7 +63,7 @@ pub struct Stack {
     pub texts: Pile<Value>,
     pub lists: Pile<Words>,
     pub results: Results,
-    pub loops: Pile<OpenLoop>,
+    pub loops: Loops,
     pub depth: u32,
 }
 

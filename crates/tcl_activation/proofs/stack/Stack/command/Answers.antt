@@ -2,7 +2,7 @@ use Rattle.std.proofs.Common.{Ok}
 use Rattle.tcl_code.specs.declared.instr.Instr.TheVariants as instr
 use Rattle.tcl_activation.proofs.Topics.{acts_as, goes_as}
 use Rattle.tcl_activation.proofs.stack.Stack.command.Goals as goal
-use Rattle.tcl_activation.proofs.stack.Stack.command.Goals.{in-Leave+in_ok-leave-in-Leave, in-Gather+in_ok-gather-in-Gather, in-Add+in_ok-add-in-Add, in-Answer}
+use Rattle.tcl_activation.proofs.stack.Stack.command.Goals.{in-Leave+in_ok-leave-in-Leave, in-Gather+in_ok-gather-in-Gather, in-Add+in_ok-add-in-Add, in-Answer, in-Become}
 
 pub returns-in-Call : goal.returns-in-Call
 returns-in-Call c ts = acts_as c.args.dialect ts c.args.instr (instr.Call c.in-Call.count) c.args.self.now c.call.new.self (Ok c.call.result) c.in-Call.is (c.call.ensures c.args.dialect)
@@ -19,4 +19,5 @@ returns c ts at s = elim c.match-instr.branch [
   | in-Gather+in_ok-gather-in-Gather w ↦ goes_as c.args.dialect ts c.args.instr instr.Gather c.args.self.now w.gather.new.self c.match-instr.self w.in-Gather.is w.self-is w.in_ok-gather-in-Gather.ensures at s
   | in-Add+in_ok-add-in-Add w ↦ goes_as c.args.dialect ts c.args.instr instr.Add c.args.self.now w.add.new.self c.match-instr.self w.in-Add.is w.self-is w.in_ok-add-in-Add.ensures at s
   | in-Answer w ↦ goes_as c.args.dialect ts c.args.instr instr.Answer c.args.self.now w.set_result.new.self c.match-instr.self w.in-Answer.is w.self-is w.set_result.ensures at s
+  | in-Become w ↦ goes_as c.args.dialect ts c.args.instr instr.Become c.args.self.now w.end_script.new.self c.match-instr.self w.in-Become.is w.self-is w.end_script.ensures at s
 ]
