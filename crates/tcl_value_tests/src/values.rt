@@ -191,6 +191,31 @@ fn numbers(alloc: Global, count: u32) -> Result<Value, Fault> {
     Ok(list)
 }
 
+/// A number in a list, as the text that its row lends and as the value that is taken out.
+fn kept_number(alloc: Global, number: i64) -> Result<String, Fault> {
+    let mut items = Vec::new(alloc);
+    items.push(Value::of_int(number))?;
+    let mut list = Value::of_list(alloc, items)?;
+    let mut kept = String::new(alloc);
+    for element in list.row(alloc)?.items() {
+        kept.push_str(element.text())?;
+        kept.push(' ')?;
+        kept.push_str(text(alloc, element.copy()?)?.as_str())?;
+    }
+    Ok(kept)
+}
+
+/// Does the text stand there twice?
+fn twice(found: Result<String, Fault>, want: &str) -> bool {
+    match found {
+        Ok(kept) => match kept.as_str().split_once(' ') {
+            Some((lent, copied)) => lent == want && copied == want,
+            None => false,
+        },
+        Err(_) => false,
+    }
+}
+
 /// A thousand numbers, each of which is replaced.
 fn all_replaced(alloc: Global) -> Result<RcStr, Fault> {
     let mut list = numbers(alloc, 1000)?;
@@ -282,6 +307,22 @@ fn a_text_is_a_number_of_the_dialect_that_asks(rt: HostRuntime) {
             holds(reads_by_turns(rt.alloc(), start, old, new)),
             "{start}"
         );
+    }
+}
+
+#[test]
+fn numbers_in_lists_have_their_texts(rt: HostRuntime) {
+    for (number, want) in [
+        (0, "0"),
+        (-1, "-1"),
+        (99_999_999_999_999, "99999999999999"),
+        (100_000_000_000_000, "100000000000000"),
+        (-9_999_999_999_999, "-9999999999999"),
+        (-10_000_000_000_000, "-10000000000000"),
+        (i64::MAX, "9223372036854775807"),
+        (i64::MIN, "-9223372036854775808"),
+    ] {
+        assert!(rt; twice(kept_number(rt.alloc(), number), want), "{want}");
     }
 }
 

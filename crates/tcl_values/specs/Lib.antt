@@ -4,5 +4,6 @@ pub mod Falls
 pub mod Gathered
 pub mod Kept
 pub mod Lists
+pub mod Numerals
 pub mod Paired
 pub mod Shape

@@ -14,6 +14,7 @@ use Rattle.tcl_list.specs.Elements.{elements_of}
 use Rattle.tcl_list.specs.Written.{written}
 use Rattle.tcl_list.specs.Texts.{text_of}
 use Rattle.tcl_values.specs.Kept.{Kept, texts, depth_over}
+use Rattle.tcl_values.specs.Numerals.{digits, AreDigits}
 use Rattle.tcl_values.specs.Paired.{zipped}
 use Rattle.tcl_pages.specs.Dictionaries.{pairs_of}
 use Rattle.tcl_pages.specs.Dictionaries as dictionaries
@@ -119,6 +120,7 @@ pub record AreSameLengthening (l m : Lengthening) : Type 0 where
 
 abbrev pub entry_text : Entry → List ℕ
 entry_text (entry.Text s) = text_of s
+entry_text (entry.Number d) = chars (digits d)
 entry_text (entry.Row r) = items_text r.value
 entry_text (entry.Dict r) = pairs_text r.value
 entry_text (entry.Grown s) = chars (string_bytes s.value.text)
@@ -126,6 +128,7 @@ entry_text (entry.Longer l) = chars (string_bytes l.value.text)
 
 abbrev pub entry_depth : Entry → ℕ
 entry_depth (entry.Text s) = 0
+entry_depth (entry.Number d) = 0
 entry_depth (entry.Row r) = r.value.depth
 entry_depth (entry.Dict r) = r.value.depth
 entry_depth (entry.Grown s) = 0
@@ -133,6 +136,7 @@ entry_depth (entry.Longer l) = l.value.row.value.depth
 
 abbrev pub IsEntry : Entry → Type 0
 IsEntry (entry.Text s) = ⊤
+IsEntry (entry.Number d) = AreDigits d
 IsEntry (entry.Row r) = IsSome r.value.text × AreKept r.value
 IsEntry (entry.Dict r) = IsSome r.value.text × ArePaired r.value
 IsEntry (entry.Grown s) = IsGrown s.value

@@ -4,6 +4,7 @@ ghost use Rattle.std.specs.Prelude.{◌≡◌, ◌<◌, IfOk};
 ghost use Rattle.std.specs.Str.{chars};
 ghost use Rattle.tcl_list.specs.Texts.{text_of};
 
+use crate::digits::Digits;
 use crate::value::{Growing, Held, Value};
 use indexmap::IndexSet;
 use std::alloc::{AllocError, Global};
@@ -23,6 +24,8 @@ pub struct Element {
 pub(crate) enum Entry {
     /// Its text alone.
     Text(RcStr),
+    /// A number, by its decimal text, which is short.
+    Number(Digits),
     /// The list that its text is read as, with the text.
     Row(Rc<Items>),
     /// The dictionary that its text is read as, with the text.
@@ -102,6 +105,7 @@ impl Element {
     {
         match &self.entry {
             Entry::Text(text) => text.as_str(),
+            Entry::Number(digits) => digits.text(),
             Entry::Row(row) => match &row.text {
                 Some(text) => text.as_str(),
                 None => unreachable!(),
@@ -121,6 +125,7 @@ impl Element {
     {
         let held = match &self.entry {
             Entry::Text(text) => Held::Text(text.clone()?),
+            Entry::Number(digits) => Held::Number(digits.number()),
             Entry::Row(row) => Held::Row(row.clone()?),
             Entry::Dict(pairs) => Held::Dict(pairs.clone()?),
             Entry::Grown(grown) => Held::Grown(grown.clone()?),
@@ -135,6 +140,7 @@ impl Element {
     {
         let entry = match &self.entry {
             Entry::Text(text) => Entry::Text(text.clone()?),
+            Entry::Number(digits) => Entry::Number(*digits),
             Entry::Row(row) => Entry::Row(row.clone()?),
             Entry::Dict(pairs) => Entry::Dict(pairs.clone()?),
             Entry::Grown(grown) => Entry::Grown(grown.clone()?),
@@ -149,6 +155,7 @@ impl Element {
     {
         match &self.entry {
             Entry::Text(_) => 0,
+            Entry::Number(_) => 0,
             Entry::Row(row) => row.depth,
             Entry::Dict(pairs) => pairs.depth,
             Entry::Grown(_) => 0,
@@ -162,6 +169,7 @@ impl Element {
     {
         match &self.entry {
             Entry::Text(text) => text.clone(),
+            Entry::Number(digits) => RcStr::from_str(alloc, digits.text()),
             Entry::Row(row) => match &row.text {
                 Some(text) => text.clone(),
                 None => unreachable!(),
@@ -175,11 +183,16 @@ impl Element {
         }
     }
 
-    /// The element as its text alone.
+    /// The element as its text alone, that of a number in its place.
     pub(crate) fn plain(&self, alloc: Global) -> Result<Element, AllocError>
         ensures text { IfOk result (λ e. e.text ≡ self.now.text) }
         ensures depth { IfOk result (λ e. e.depth ≡ 0) }
     {
+        if let Entry::Number(digits) = &self.entry {
+            return Ok(Element {
+                entry: Entry::Number(*digits),
+            });
+        }
         Ok(Element {
             entry: Entry::Text(self.shared_text(alloc)?),
         })

@@ -22,6 +22,7 @@
 mod change;
 mod dict;
 mod dictionary;
+mod digits;
 mod element;
 mod gathering;
 mod items;

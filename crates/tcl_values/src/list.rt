@@ -8,6 +8,7 @@ ghost use Rattle.tcl_values.specs.Kept.{texts, depth_over};
 ghost use Rattle.tcl_values.specs.Lists.{count_of, item_of, part_of, pushed, spliced, with_item, Leaves};
 ghost use Rattle.tcl_values.specs.Shape.{elements, elements_held, held_text, is_row, items_text, AreKept, IsHeld};
 
+use crate::digits::number_element;
 use crate::element::{Element, Entry, Items};
 use crate::items::{
     gathered, part, push_element, row_text, set_element, settle, splice, take_element,
@@ -129,6 +130,7 @@ impl Value {
         ensures depth { IfOk result (λ e. e.depth < 64) }
     {
         match self.held {
+            Held::Number(n) => number_element(alloc, n),
             Held::Row(row) => row_element(row, alloc),
             Held::Dict(pairs) => dict_element(pairs, alloc),
             Held::Text(text) => Ok(Element {
