@@ -13,5 +13,3 @@ mod large;
 mod runs;
 #[cfg(test)]
 mod scripts;
-#[cfg(test)]
-mod setting;

@@ -1,4 +1,5 @@
-//! What the tests share.
+//! What the unit tests of an interpreter share: scripts over devices in memory, and how they ended.
+#![tactic(auto)]
 
 use std::alloc::{AllocError, Global};
 use tcl_chan::device::{Input, Output};
@@ -8,7 +9,7 @@ use tcl_chars::{Dialect, Fault};
 use tcl_interp::{Config, Interp, Outcome};
 
 /// An interpreter without variables.
-pub(crate) fn fresh(alloc: Global) -> Result<Interp, Fault> {
+pub fn fresh(alloc: Global) -> Result<Interp, Fault> {
     Interp::new(
         alloc,
         Config {
@@ -18,7 +19,7 @@ pub(crate) fn fresh(alloc: Global) -> Result<Interp, Fault> {
 }
 
 /// Evaluates a script over the devices.
-pub(crate) fn eval_over<R: Input, W: Output, E: Output>(
+pub fn eval_over<R: Input, W: Output, E: Output>(
     alloc: Global,
     interp: &mut Interp,
     input: &mut R,
@@ -33,14 +34,14 @@ pub(crate) fn eval_over<R: Input, W: Output, E: Output>(
 
 /// How a script ended, and what it put out.
 #[derive(Drop)]
-pub(crate) struct Ending {
-    pub(crate) outcome: Outcome,
-    pub(crate) out: MemoryOutput,
-    pub(crate) err: MemoryOutput,
+pub struct Ending {
+    pub outcome: Outcome,
+    pub out: MemoryOutput,
+    pub err: MemoryOutput,
 }
 
 /// Evaluates a script over outputs that take `capacity` bytes each.
-pub(crate) fn evaluated(
+pub fn evaluated(
     alloc: Global,
     interp: &mut Interp,
     capacity: usize,
@@ -57,7 +58,7 @@ pub(crate) fn evaluated(
 }
 
 /// Did the script end by itself, with this code, this result or message, and this number of units left?
-pub(crate) fn is_done(outcome: &Outcome, want_code: i64, want: &str, want_left: u64) -> bool {
+pub fn is_done(outcome: &Outcome, want_code: i64, want: &str, want_left: u64) -> bool {
     match outcome {
         Outcome::Done {
             code,
@@ -70,7 +71,7 @@ pub(crate) fn is_done(outcome: &Outcome, want_code: i64, want: &str, want_left: 
 }
 
 /// Is this the variable's text, as the host is told it?
-pub(crate) fn holds(interp: &mut Interp, name: &str, want: &str) -> bool {
+pub fn holds(interp: &mut Interp, name: &str, want: &str) -> bool {
     match interp.var(name) {
         Ok(Some(text)) => text.as_str() == want,
         _ => false,
@@ -78,6 +79,6 @@ pub(crate) fn holds(interp: &mut Interp, name: &str, want: &str) -> bool {
 }
 
 /// Is the host told of no such variable?
-pub(crate) fn lacks(interp: &mut Interp, name: &str) -> bool {
+pub fn lacks(interp: &mut Interp, name: &str) -> bool {
     matches!(interp.var(name), Ok(None))
 }
