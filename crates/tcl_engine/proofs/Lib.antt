@@ -4,3 +4,4 @@ pub mod Landing
 pub mod Leading
 pub mod Owing
 pub mod Scoping
+pub mod Standing
