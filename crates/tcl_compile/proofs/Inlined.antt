@@ -1,5 +1,5 @@
 -- The commands that are inlined, but for loops.
-use Rattle.std.proofs.Common.{◌≡◌, ℕ, ◌+◌, ◌-◌, Bool, true, false, cond, List, [], ◌∷◌, ◌++◌, length, Option, Some, refl, sym, ap, ◌∙◌, subst, arith, length-append}
+use Rattle.std.proofs.Common.{◌≡◌, ℕ, suc, ◌+◌, ◌-◌, Bool, true, false, cond, List, [], ◌∷◌, ◌++◌, length, None, Option, Some, refl, sym, ap, ◌∙◌, subst, arith, length-append}
 use Rattle.tcl_chars.specs.declared.numbers.Dialect.{Dialect}
 use Rattle.tcl_chars.specs.Texts.{literal}
 use Rattle.tcl_pages.specs.Texts.{Text}
@@ -11,7 +11,7 @@ use Rattle.tcl_meaning.specs.declared.code.Code.TheVariants as ending
 use Rattle.tcl_meaning.specs.Asking.{Asks, answered, all_answered, asked, value_step, done}
 use Rattle.tcl_meaning.specs.CodePages.{break_page, continue_page}
 use Rattle.tcl_meaning.specs.Completions.{Completion, normal, ended, code_now}
-use Rattle.tcl_meaning.specs.Control.{expr_page, if_page, if_shaped}
+use Rattle.tcl_meaning.specs.Control.{expr_page, if_page, if_shaped, next_clause}
 use Rattle.tcl_meaning.specs.Shapes.{if_shape}
 use Rattle.tcl_meaning.specs.State.{State}
 use Rattle.tcl_meaning.specs.Effects.{Plain, Got, Gives, Broke, Exits, Untold, on_got, exec, does, nothing_runs, plainly, ◌>>=◌ as andthen}
@@ -36,14 +36,15 @@ use Rattle.tcl_code.specs.Valid.{Ahead, IsFine, ways_of, shape}
 use Rattle.tcl_code.proofs.Place.{has_front, has_back}
 use Rattle.tcl_code.proofs.Shapes.{fits_one, fits_stop, fits_joined}
 use Rattle.tcl_code.proofs.Steps.{same, one_done, final_done, here_done, moved_done, same_done}
-use Rattle.tcl_compile.specs.Forms.{page_does}
-use Rattle.tcl_compile.specs.Inlining.{Says, AllSay, Makes}
+use Rattle.tcl_compile.specs.Forms.{page_does, ClausesCode}
+use Rattle.tcl_compile.specs.Inlining.{Says, AllSay, Makes, asking}
 use Rattle.tcl_compile.proofs.Commands.{words_one, command_is, calls_end, calls_next, command_does}
 use Rattle.tcl_compile.proofs.Guarded.{fork, past_fits, further, said_next, command_said, invoked_stands, guarded, guarded_runs}
 use Rattle.tcl_compile.proofs.Failing.{finishing, pieces_fail, then_done, landed_stops}
 use Rattle.tcl_compile.specs.Fragments.{Calls, Follows}
 use Rattle.tcl_compile.proofs.Pieces.{push_does}
-use Rattle.tcl_compile.proofs.Looping.{loop_code, while_makes, tested, evaluated_is, expression_fails, IfCode, clauses_make}
+use Rattle.tcl_compile.proofs.Conditions.{tested, evaluated_is, expression_fails}
+use Rattle.tcl_compile.proofs.Looping.{loop_code, while_makes}
 
 -- a page is over at once
 abbrev IsOver : Got (Value Step) → Type 0
@@ -161,11 +162,17 @@ module _ (dialect : Dialect) where
 
   -- ---- if
 
-  pub if_makes : (ws : List Text) (cond body : Text) (cs : List (Text × Text)) (o : Option Text) (g : List Instruction) → if_shape ws ≡ Some (record { clauses = (cond, body) ∷ cs; otherwise = o }) → IfCode dialect ((cond, body) ∷ cs) o g → Makes dialect g (page_does dialect inlined.If ws)
+  clauses_are : (cs : List (Text × Text)) (o : Option Text) (d : ℕ) (s : State) → exec (Run dialect) (page_in dialect d (next_clause cs o)) s ≡ exec (Run dialect) (asking dialect (suc (length cs)) (next_clause cs o) d) s
+  unfolding asked all_answered answered
+  clauses_are [] None d s = refl
+  clauses_are [] (Some body) d s = refl
+  clauses_are (c ∷ cs) o d s = refl
+
+  pub if_makes : (ws : List Text) (cs : List (Text × Text)) (o : Option Text) (g : List Instruction) → if_shape ws ≡ Some (record { clauses = cs; otherwise = o }) → ClausesCode dialect cs o g → Makes dialect g (page_does dialect inlined.If ws)
   unfolding page_asks if_page asked all_answered
-  if_makes ws cond body cs o g e i = record {
-    from = λ code at last stack d s has. same_done dialect code (sym (ap (λ x. exec (Run dialect) (page_in dialect d (if_shaped x)) s) e)) ((clauses_make dialect ((cond, body) ∷ cs) o g i).from code at last stack d s has);
-    keeps = (clauses_make dialect ((cond, body) ∷ cs) o g i).keeps;
+  if_makes ws cs o g e x = record {
+    from = λ code at last stack d s has. same_done dialect code (sym (ap (λ z. exec (Run dialect) (page_in dialect d (if_shaped z)) s) e ∙ clauses_are cs o d s)) (x.from code at last stack d s has);
+    keeps = x.keeps;
   }
 
   -- ---- a variable's change by the text of a word

@@ -1,5 +1,7 @@
 pub mod Changing
+pub mod Clauses
 pub mod Commands
+pub mod Conditions
 pub mod Emits
 pub mod Expressions
 pub mod Guarded
@@ -11,9 +13,12 @@ pub mod KeptLemmas
 pub mod Leaves
 pub mod Looping
 pub mod Operators
+pub mod Paging
 pub mod Parsing
 pub mod Pieces
+pub mod Shorter
 pub mod TreeEmits
 pub mod Views
+pub mod Weights
 pub mod Whole
 pub mod Within

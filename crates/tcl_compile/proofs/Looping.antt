@@ -1,213 +1,46 @@
--- Conditions and loops, inlined.
-use Rattle.std.proofs.Common.{◌≡◌, ℕ, zero, suc, ◌+◌, ◌-◌, ◌<◌, ◌≤◌, Bool, true, false, List, [], ◌∷◌, ◌++◌, length, Option, Some, None, Result, Ok, Err, refl, sym, ap, ◌∙◌, subst, arith, length-append, cond, ⊎_elim}
+-- Loops, inlined.
+use Rattle.std.proofs.Common.{◌≡◌, ℕ, zero, suc, ◌+◌, ◌-◌, ◌<◌, ◌≤◌, false, List, [], ◌∷◌, ◌++◌, length, Some, refl, sym, ap, ◌∙◌, subst, arith, length-append, cond, ⊎_elim}
 use Rattle.std.specs.Prelude.{nat_lt, slice_get}
 use Rattle.std.proofs.lemmas.Bool.{cases_lt, lt-ltb, le-ltb}
 use Rattle.tcl_chars.specs.declared.numbers.Dialect.{Dialect}
-use Rattle.tcl_chars.specs.Messages.{truth_value}
-use Rattle.tcl_pages.specs.Answers.{Answer}
 use Rattle.tcl_pages.specs.Texts.{Text}
 use Rattle.tcl_meaning.specs.declared.code.Code.{Code}
 use Rattle.tcl_meaning.specs.declared.code.Code.TheVariants as ending
-use Rattle.tcl_meaning.specs.Asking.{Asks, answered, all_answered, asked, value_step, done, ask}
+use Rattle.tcl_meaning.specs.Asking.{Asks, answered, all_answered, asked, done, ask}
 use Rattle.tcl_meaning.specs.Beginnings.{units_of}
-use Rattle.tcl_meaning.specs.Completions.{Completion, normal, nothing, failure, too_deep, code_now}
-use Rattle.tcl_meaning.specs.Control.{if_true, if_ok, ask_if, if_goes_on, while_next, while_page, turned, next_clause}
+use Rattle.tcl_meaning.specs.Completions.{Completion, nothing, too_deep, code_now}
+use Rattle.tcl_meaning.specs.Control.{if_true, if_goes_on, while_next, while_page, turned}
 use Rattle.tcl_meaning.specs.State.{State, with_units}
-use Rattle.tcl_meaning.specs.Effects.{Here, Prog, Got, Gives, Broke, Exits, Untold, on_got, exec, paid, plainly, ◌>>=◌ as andthen}
-use Rattle.tcl_meaning.specs.Expressions.{expression, is_same, tree_text, parsed_text}
+use Rattle.tcl_meaning.specs.Effects.{Prog, Got, Gives, Broke, Exits, Untold, on_got, exec, paid}
+use Rattle.tcl_meaning.specs.Expressions.{expression}
 use Rattle.tcl_meaning.specs.Pages.{owed, page_asks}
 use Rattle.tcl_meaning.specs.Script.{Run, most_depth, plan, page_in}
-use Rattle.tcl_meaning.specs.Substitution.{inside}
-use Rattle.tcl_meaning.specs.Tasks.{Task, Script, Turn as turn_task, Run as Runs_script, Evaluate, Pay, While, Owes, Nothing, IfTest, WhileTest, WhileBody}
-use Rattle.tcl_meaning.specs.Value.{Value, Has, Fails, completed, judged, ◌>>=◌}
-use Rattle.tcl_meaning.proofs.Runs.{exec_bind, exec_goes, outcome_law}
-use Rattle.tcl_meaning.proofs.Reaching.{on_got_give, on_got_same}
+use Rattle.tcl_meaning.specs.Tasks.{Task, Script, Turn as turn_task, Pay, While, WhileTest, WhileBody}
+use Rattle.tcl_meaning.specs.Value.{completed}
+use Rattle.tcl_meaning.proofs.Runs.{exec_goes, outcome_law}
+use Rattle.tcl_meaning.proofs.Reaching.{on_got_give}
 use Rattle.tcl_meaning.proofs.ScriptRules.{script_deep, run_onward}
-use Rattle.tcl_code.specs.Instructions.{Instruction, Push, Answer as AnswerTop, Enter, Become, Skip, SkipWhen, Turn, Body, Again}
+use Rattle.tcl_code.specs.Instructions.{Instruction, Push, Answer as AnswerTop, Skip, SkipWhen, Turn, Body, Again}
 use Rattle.tcl_code.specs.Machine as M
 use Rattle.tcl_code.specs.Machine.{Loop, Next, Stack, stack_of, with_text, with_result, text_at, result_at, Spot, spot, To, on_answer, landed, landed_by, thrown_by, spend, follow, act, behind_loop, exec_code, Ended}
-use Rattle.tcl_code.specs.Parts.{HasAt, Fits, LandsValue, Lands, Does}
+use Rattle.tcl_code.specs.Parts.{HasAt, Fits, Lands, Does}
 use Rattle.tcl_code.proofs.Place.{has_front, has_back}
-use Rattle.tcl_code.proofs.Steps.{one_done, final_done, here_done, moved_done, same_done}
+use Rattle.tcl_code.proofs.Steps.{one_done, final_done, here_done, same_done}
 use Rattle.tcl_compile.specs.Fragments.{Follows}
-use Rattle.tcl_compile.proofs.Failing.{FailsBadly, NeverOk, both_fail, judged_fails, landed_stops}
-use Rattle.tcl_compile.proofs.Operators.{tree_fails}
-use Rattle.tcl_code.proofs.Shapes.{fits_one, fits_joined}
-use Rattle.tcl_code.specs.Valid.{Ahead, target, IsFine, IsInside, EachWay, ways_of, bare_in, shape}
+use Rattle.tcl_compile.proofs.Failing.{landed_stops}
+use Rattle.tcl_code.specs.Valid.{target, IsFine, IsInside, EachWay, ways_of, bare_in, shape}
 use Rattle.tcl_code.specs.declared.shape.Shape.{Shape as Standing}
 use Rattle.tcl_code.specs.declared.inlined.Inlined.TheVariants as inlined
 use Rattle.tcl_code.proofs.Placing.{Stands, Placed, placed_joined, placed_fits, fits_placed}
-use Rattle.tcl_expr.specs.Expr.{Expr}
-use Rattle.tcl_expr.specs.ExprFault.{ExprFault}
-use Rattle.tcl_expr.specs.Machine.{expression_of}
-use Rattle.tcl_expr.specs.Texts.{fault_text}
-use Rattle.tcl_meaning.specs.Operators.{final_answer}
-use Rattle.tcl_compile.proofs.Guarded.{further, fork, on_fits}
 use Rattle.tcl_compile.specs.Forms.{page_does}
-use Rattle.tcl_compile.specs.Inlining.{Makes}
+use Rattle.tcl_compile.specs.Inlining.{Makes, asking}
+use Rattle.tcl_compile.proofs.Conditions.{test_stops, forks, tested, expression_fails, evaluated_is, ran_is}
 
 -- to the test; the body, and behind it what follows a `break`; the test, and a turn back to the body; an empty result
 abbrev pub loop_code : List Instruction → List Instruction → List Instruction
 loop_code t b = Skip (length b + 3) ∷ Body (length b + 1) ∷ (b ++ Again ∷ Skip (length t + 2) ∷ (t ++ SkipWhen false 1 ∷ Turn (length b + length t + 4) ∷ Push [] ∷ AnswerTop ∷ []))
 
 module _ (dialect : Dialect) where
-  -- what is left of a page that has asked, in so many questions more at most
-  abbrev pub asking : ℕ → Asks → ℕ → Prog Task Completion
-  asking n page d = andthen (plainly page) (λ next. answered dialect (owed dialect) d n (value_step next))
-
-  -- ---- a condition
-
-  abbrev judging : Answer Bool → Asks → Asks → Asks
-  judging a go stay = judged a >>= λ b. ask_if b go stay
-
-  pub test_stops : (d n : ℕ) (go stay : Asks) (c : Completion) (u : State) → (code_now c ≡ ending.Ok → ⊥) → exec (Run dialect) (asking n (if_true dialect c go stay) d) u ≡ Gives c u
-  unfolding answered
-  test_stops d n go stay c u h = by_code (code_now c) h
-    where
-      by_code : (k : Code) → (k ≡ ending.Ok → ⊥) → exec (Run dialect) (asking n (if_ok k c (judging (truth_value dialect c.result) go stay)) d) u ≡ Gives c u
-      by_code ending.Ok h = absurd (h refl)
-      by_code ending.Error h = refl
-      by_code ending.Return h = refl
-      by_code ending.Break h = refl
-      by_code ending.Continue h = refl
-      by_code (ending.Other z) h = refl
-
-  -- the text of a condition is there: on where it is true, past so many where it isn't
-  module _ (code : List Instruction) {r : Completion → Spot} (at n m d : ℕ) (stack : Stack) (go stay : Asks) (h : slice_get code at ≡ Some (SkipWhen false n)) where
-    pub forks : (t : Text) (u : State) → Lands dialect code stack.loops (spot (at + 1) stack d) u r (exec (Run dialect) (asking m go d) u) → Lands dialect code stack.loops (spot (at + 1 + n) stack d) u r (exec (Run dialect) (asking m stay d) u)
-        → Lands dialect code stack.loops (text_at at stack d t) u r (exec (Run dialect) (asking m (if_true dialect (normal t) go stay) d) u)
-    unfolding answered
-    forks t u x y = by_truth (truth_value dialect t) refl
-      where
-        by_truth : (a : Answer Bool) → truth_value dialect t ≡ a → Lands dialect code stack.loops (text_at at stack d t) u r (exec (Run dialect) (asking m (judging (truth_value dialect t) go stay) d) u)
-        by_truth (Ok true) e =
-            one_done dialect code (SkipWhen false n) h (ap (λ z. on_answer z (λ holds. spot (cond (is_same holds false) (at + 1 + n) (at + 1)) stack d) u) e)
-            (same_done dialect code (sym (ap (λ z. exec (Run dialect) (asking m (judging z go stay) d) u) e)) x)
-        by_truth (Ok false) e =
-            one_done dialect code (SkipWhen false n) h (ap (λ z. on_answer z (λ holds. spot (cond (is_same holds false) (at + 1 + n) (at + 1)) stack d) u) e)
-            (same_done dialect code (sym (ap (λ z. exec (Run dialect) (asking m (judging z go stay) d) u) e)) y)
-        by_truth (Err message) e =
-            final_done dialect code (SkipWhen false n) h
-            (λ next. ap (λ z. follow dialect next stack.loops (on_answer z (λ holds. spot (cond (is_same holds false) (at + 1 + n) (at + 1)) stack d) u)) e
-            ∙ ap (λ z. landed next stack.loops r (exec (Run dialect) (asking m (judging z go stay) d) u)) (sym e))
-
-  -- an expression's value, as a completion, and what follows it
-  module _ (code : List Instruction) {os : List Loop} {r : Completion → Spot} (A : Completion → State → Got Completion) (bad : (c : Completion) (u : State) → (code_now c ≡ ending.Ok → ⊥) → A c u ≡ Gives c u) where
-    pub tested : {p : Spot} {s : State} {q : Text → Spot} (g : Got (Value Text)) → FailsBadly g → LandsValue dialect code os p s q g → ((t : Text) (u : State) → g ≡ Gives (Has t) u → Lands dialect code os (q t) u r (A (normal t) u)) → Lands dialect code os p s r (on_got g (λ v u. A (completed v) u))
-    tested (Gives (Has t) u) h l n = record { by = λ k. let b = (n t u refl).by k in let a = l.by b.0 in (a.0, omega (arith, a.1, b.1), a.2 ∙ b.2) }
-    tested (Gives (Fails c) u) h l n = record {
-      by = λ k.
-          let a = l.by k in
-          (a.0, a.1, a.2 ∙ sym (landed_stops (exec_code dialect code k) os r (code_now c) c u h) ∙ ap (landed (exec_code dialect code k) os r) (sym (bad c u h)));
-    }
-    tested (Broke u) h l n = record { by = l.by }
-    tested (Exits m u) h l n = record { by = l.by }
-    tested (Untold c) h l n = record { by = l.by }
-
-  pub expression_fails : (d : ℕ) (t : Text) → NeverOk dialect (expression dialect d t)
-  unfolding expression
-  expression_fails d t = parsed_fails (expression_of dialect t)
-    where
-      parsed_fails : (x : Result Expr ExprFault) → NeverOk dialect (parsed_text dialect d x)
-      parsed_fails (Ok e) = both_fail dialect (tree_text dialect d e) _ (tree_fails dialect d e) (λ v. judged_fails dialect (final_answer dialect v))
-      parsed_fails (Err f) = record { fails = λ s z. fails_by (fault_text f) z }
-        where
-          fails_by : (m : Text) → code_now (failure m) ≡ ending.Ok → ⊥
-          fails_by m z = cc
-
-  pub evaluated_is : (n d : ℕ) (test : Text) (owes : Owes) (s : State) → exec (Run dialect) (answered dialect (owed dialect) d (suc n) (Evaluate test owes)) s ≡ on_got (exec (Run dialect) (expression dialect d test) s) (λ v u. exec (Run dialect) (asking n (owed dialect owes (completed v)) d) u)
-  unfolding answered
-  evaluated_is n d test owes s = exec_bind (Run dialect) (expression dialect d test) (λ v. asking n (owed dialect owes (completed v)) d) s
-
-  -- ---- a body, one deeper
-
-  ran_is : (n d : ℕ) (body : Text) (owes : Owes) (s : State) → exec (Run dialect) (answered dialect (owed dialect) d (suc n) (Runs_script Here body owes)) s ≡ on_got (Run dialect (inside d body) s) (λ c u. exec (Run dialect) (asking n (owed dialect owes c) d) u)
-  unfolding answered
-  ran_is n d body owes s = refl
-
-  -- the completion of a body as that of the command
-  abbrev pub body_code : List Instruction → List Instruction
-  body_code b = Enter ∷ (b ++ Become ∷ [])
-
-  body_is : (n d : ℕ) (body : Text) (s : State) → exec (Run dialect) (asking (suc n) (ask (Runs_script Here body Nothing)) d) s ≡ Run dialect (Script (suc d) nothing body) s
-  unfolding answered owed
-  body_is n d body s =
-      let e : d + 1 ≡ suc d = omega arith in
-      ap (λ m. on_got (Run dialect (Script m nothing body) s) (λ c u. Gives c u)) e ∙ on_got_give (Run dialect (Script (suc d) nothing body) s)
-
-  pub body_makes : (n : ℕ) (body : Text) (b : List Instruction) → Follows dialect b body → Makes dialect (body_code b) (asking (suc n) (ask (Runs_script Here body Nothing)))
-  body_makes n body b f = record { from = λ code at last stack d s has. same_done dialect code (sym (body_is n d body s)) (⊎_elim (deep code at last stack d s has) (shallow code at last stack d s has) (cases_lt most_depth (suc d))); keeps = fits }
-    where
-      fits : (h l d p o : ℕ) → Fits (body_code b) (shape h l d p o) (shape h l d p o)
-      fits h l d p o =
-          fits_joined (Enter ∷ []) (b ++ Become ∷ []) (shape h l d p o) (shape h l (d + 1) p o) (shape h l d p o)
-          (fits_one Enter (shape h l d p o) (shape h l (d + 1) p o) _ tt refl refl)
-          (fits_joined b (Become ∷ []) (shape h l (d + 1) p o) (shape h l (d + 1) p o) (shape h l d p o) (f.keeps h l (d + 1) p o)
-          (fits_one Become (shape h l (d + 1) p o) (shape h l d p o) _ (omega arith) refl (ap (λ n. shape h l n p o) (omega arith))))
-
-      deep : (code : List Instruction) (at : ℕ) (last : Completion) (stack : Stack) (d : ℕ) (s : State) → HasAt code at (body_code b) → most_depth < suc d → Lands dialect code stack.loops (spot at (with_result last stack) d) s (result_at (at + length (body_code b)) stack d) (Run dialect (Script (suc d) nothing body) s)
-      deep code at last stack d s has lt =
-          let e = script_deep dialect (suc d) nothing body s lt in
-          final_done dialect code Enter has.0 (λ next. ap (λ z. follow dialect next stack.loops (cond z (M.Fails too_deep s) (To (spot (at + 1) (with_result nothing (with_result last stack)) (suc d)) s))) (lt-ltb most_depth (suc d) lt)
-          ∙ ap (landed next stack.loops (result_at (at + length (body_code b)) stack d)) (sym e))
-
-      shallow : (code : List Instruction) (at : ℕ) (last : Completion) (stack : Stack) (d : ℕ) (s : State) → HasAt code at (body_code b) → suc d ≤ most_depth → Lands dialect code stack.loops (spot at (with_result last stack) d) s (result_at (at + length (body_code b)) stack d) (Run dialect (Script (suc d) nothing body) s)
-      shallow code at last stack d s has le =
-          let back = has_back code (at + 1) b (Become ∷ []) has.1 in
-          one_done dialect code Enter has.0 (ap (λ z. cond z (M.Fails too_deep s) (To (spot (at + 1) (with_result nothing (with_result last stack)) (suc d)) s)) (le-ltb most_depth (suc d) le))
-          (further dialect code (Run dialect (Script (suc d) nothing body) s) (f.from code (at + 1) nothing (with_result last stack) (suc d) s refl le (has_front code (at + 1) b (Become ∷ []) has.1))
-          (λ c u fine. one_done dialect code Become back.0 refl (here_done dialect code (omega (arith, length-append b (Become ∷ []))) fine)))
-
-  -- ---- if
-
-  abbrev pub clause_code : List Instruction → List Instruction → List Instruction → List Instruction
-  clause_code t e g = t ++ fork (SkipWhen false (length e + 1)) e g
-
-  pub clause_makes : (n : ℕ) (test : Text) (owes : Owes) (go stay : Asks) (t e g : List Instruction) → ((c : Completion) → owed dialect owes c ≡ if_true dialect c go stay) → Does dialect t (λ d. expression dialect d test) → Makes dialect e (asking n go) → Makes dialect g (asking n stay) → Makes dialect (clause_code t e g) (asking (suc n) (ask (Evaluate test owes)))
-  clause_makes n test owes go stay t e g owe x y z = record {
-    from = λ code at last stack d s has.
-        let back = has_back code at t (fork (SkipWhen false (length e + 1)) e g) has in
-        let rest = has_back code (at + length t + 1) e (Skip (length g) ∷ g) back.1 in
-        let m : at + length t + 1 + length e + 1 ≡ at + length t + 1 + (length e + 1) = omega arith in
-        let whole = length-append t (fork (SkipWhen false (length e + 1)) e g) in
-        let inner = length-append e (Skip (length g) ∷ g) in
-        same_done dialect code (sym (asked_is d s))
-        (tested code (λ c u. exec (Run dialect) (asking n (if_true dialect c go stay) d) u) (λ c u h. test_stops d n go stay c u h) (exec (Run dialect) (expression dialect d test) s) ((expression_fails d test).fails s)
-        (x.from code at (with_result last stack) d s (has_front code at t (fork (SkipWhen false (length e + 1)) e g) has))
-        (λ v u k. forks code (at + length t) (length e + 1) n d (with_result last stack) go stay back.0 v u
-        (further dialect code (exec (Run dialect) (asking n go d) u) (y.from code (at + length t + 1) last stack d u (has_front code (at + length t + 1) e (Skip (length g) ∷ g) back.1))
-        (λ c w fine. one_done dialect code (Skip (length g)) rest.0 refl (here_done dialect code (omega (arith, whole, inner)) fine)))
-        (moved_done dialect code (omega (arith, whole, inner)) (z.from code (at + length t + 1 + (length e + 1)) last stack d u (subst (λ j. HasAt code j g) m rest.1)))));
-    keeps = λ h l d p o.
-        fits_joined t (fork (SkipWhen false (length e + 1)) e g) (shape h l d p o) (shape (h + 1) l d p o) (shape h l d p o) (x.adds h l d p o)
-        (on_fits (SkipWhen false (length e + 1)) e g (shape (h + 1) l d p o) (shape h l d p o) (shape h l d p o) (shape h l d p o) (y.keeps h l d p o) (z.keeps h l d p o) (omega arith)
-        (ap (λ i. (Ahead 0, shape i l d p o) ∷ (Ahead (length e + 1), shape i l d p o) ∷ []) (omega arith)));
-  }
-    where
-      asked_is : (d : ℕ) (s : State) → exec (Run dialect) (asking (suc n) (ask (Evaluate test owes)) d) s ≡ on_got (exec (Run dialect) (expression dialect d test) s) (λ v u. exec (Run dialect) (asking n (if_true dialect (completed v) go stay) d) u)
-      asked_is d s = evaluated_is n d test owes s ∙ on_got_same (exec (Run dialect) (expression dialect d test) s) (λ v u. exec (Run dialect) (asking n (owed dialect owes (completed v)) d) u) (λ v u. exec (Run dialect) (asking n (if_true dialect (completed v) go stay) d) u) (λ v u. ap (λ pg. exec (Run dialect) (asking n pg d) u) (owe (completed v)))
-
-  -- no body is run
-  pub none_makes : (n : ℕ) → Makes dialect (Push [] ∷ AnswerTop ∷ []) (asking n (done nothing))
-  unfolding answered
-  none_makes n = record {
-    from = λ code at last stack d s has. one_done dialect code (Push []) has.0 refl (one_done dialect code AnswerTop has.1.0 refl (here_done dialect code (omega arith) refl));
-    keeps = λ h l d p o. fits_joined (Push [] ∷ []) (AnswerTop ∷ []) (shape h l d p o) (shape (h + 1) l d p o) (shape h l d p o) (fits_one (Push []) (shape h l d p o) (shape (h + 1) l d p o) _ tt refl (ap (λ n. shape n l d p o) (omega arith))) (fits_one AnswerTop (shape (h + 1) l d p o) (shape h l d p o) _ (omega arith) refl (ap (λ n. shape n l d p o) (omega arith)));
-  }
-
-  -- the code of the clauses of an `if`
-  pub data IfCode : List (Text × Text) → Option Text → List Instruction → Type 0 where
-    without : IfCode [] None (Push [] ∷ AnswerTop ∷ [])
-    otherwise : (body : Text) (b : List Instruction) → Follows dialect b body → IfCode [] (Some body) (body_code b)
-    clause : (test body : Text) (cs : List (Text × Text)) (o : Option Text) (t b g : List Instruction) → Does dialect t (λ d. expression dialect d test) → Follows dialect b body → IfCode cs o g → IfCode ((test, body) ∷ cs) o (clause_code t (body_code b) g)
-
-  pub clauses_make : (cs : List (Text × Text)) (o : Option Text) (g : List Instruction) → IfCode cs o g → Makes dialect g (asking (suc (length cs)) (next_clause cs o))
-  unfolding owed
-  clauses_make _ _ _ without = none_makes 1
-  clauses_make _ _ _ (otherwise body b f) = body_makes 0 body b f
-  clauses_make _ _ _ (clause test body cs o t b g x f i) =
-      clause_makes (suc (length cs)) test (IfTest body (record { clauses = cs; otherwise = o })) (ask (Runs_script Here body Nothing)) (next_clause cs o) t (body_code b) g (λ c. refl) x (body_makes (length cs) body b f) (clauses_make cs o g i)
-
   -- ---- a loop's body
 
   -- no loop takes any other completion
@@ -223,19 +56,23 @@ module _ (dialect : Dialect) where
   -- a body has ended, where it was one more loop's
   module _ (code : List Instruction) (o : Loop) (os : List Loop) {q r : Completion → Spot} (m d : ℕ) (on out : Asks) where
     pub body_ends : {p : Spot} {s : State} (g : Got Completion) → Lands dialect code (o ∷ os) p s q g → ((c : Completion) (v : State) (k : ℕ) → exec_code dialect code (suc k) (q c) v ≡ exec_code dialect code k (behind_loop 1 o os) v)
-        → ((c : Completion) (v : State) → g ≡ Gives c v → Lands dialect code os (behind_loop 1 o os) v r (exec (Run dialect) (asking m on d) v)) → ((v : State) → Lands dialect code os (behind_loop 0 o os) v r (exec (Run dialect) (asking m out d) v))
-        → Lands dialect code os p s r (on_got g (λ c v. exec (Run dialect) (asking m (if_goes_on (code_now c) c on out) d) v))
+        → ((c : Completion) (v : State) → g ≡ Gives c v → Lands dialect code os (behind_loop 1 o os) v r (exec (Run dialect) (asking dialect m on d) v)) → ((v : State) → Lands dialect code os (behind_loop 0 o os) v r (exec (Run dialect) (asking dialect m out d) v))
+        → Lands dialect code os p s r (on_got g (λ c v. exec (Run dialect) (asking dialect m (if_goes_on (code_now c) c on out) d) v))
     unfolding answered
     body_ends {p} {s} (Gives c v) l again n x = by_code (code_now c) refl
       where
         other : (k : Code) → code_now c ≡ k → (k ≡ ending.Ok → ⊥) → (k ≡ ending.Break → ⊥) → (k ≡ ending.Continue → ⊥) → Lands dialect code os p s r (Gives c v)
         other k e h i j = record {
           by = λ z.
-              let a = l.by z in
-              (a.0, a.1, a.2 ∙ ap (λ w. landed_by (exec_code dialect code z) (o ∷ os) q w c v) e ∙ landed_stops (exec_code dialect code z) (o ∷ os) q k c v h ∙ thrown_other (exec_code dialect code z) (o ∷ os) k c v i j
-              ∙ sym (ap (λ w. landed_by (exec_code dialect code z) os r w c v) e ∙ landed_stops (exec_code dialect code z) os r k c v h ∙ thrown_other (exec_code dialect code z) os k c v i j));
+              let a = l.by z in (
+                a.0,
+                a.1,
+                a.2 ∙ ap (λ w. landed_by (exec_code dialect code z) (o ∷ os) q w c v) e ∙ landed_stops (exec_code dialect code z) (o ∷ os) q k c v h ∙ thrown_other (exec_code dialect code z) (o ∷ os) k c v i j
+                    ∙ sym (ap (λ w. landed_by (exec_code dialect code z) os r w c v) e ∙ landed_stops (exec_code dialect code z) os r k c v h ∙ thrown_other (exec_code dialect code z) os k c v i j),
+              );
         }
-        by_code : (k : Code) → code_now c ≡ k → Lands dialect code os p s r (exec (Run dialect) (asking m (if_goes_on k c on out) d) v)
+
+        by_code : (k : Code) → code_now c ≡ k → Lands dialect code os p s r (exec (Run dialect) (asking dialect m (if_goes_on k c on out) d) v)
         by_code ending.Ok e = record {
           by = λ z.
               let b = (n c v refl).by z in
@@ -264,21 +101,21 @@ module _ (dialect : Dialect) where
   -- ---- while
 
   abbrev pub next_test : Text → Text → ℕ → Prog Task Completion
-  next_test test body d = asking 1 (while_next dialect test body) d
+  next_test test body d = asking dialect 1 (while_next dialect test body) d
 
-  test_is : (d : ℕ) (test body : Text) (s : State) → exec (Run dialect) (next_test test body d) s ≡ on_got (exec (Run dialect) (expression dialect d test) s) (λ v u. exec (Run dialect) (asking 0 (if_true dialect (completed v) (ask (Pay (While test body))) (done nothing)) d) u)
+  test_is : (d : ℕ) (test body : Text) (s : State) → exec (Run dialect) (next_test test body d) s ≡ on_got (exec (Run dialect) (expression dialect d test) s) (λ v u. exec (Run dialect) (asking dialect 0 (if_true dialect (completed v) (ask (Pay (While test body))) (done nothing)) d) u)
   unfolding owed
-  test_is d test body s = evaluated_is 0 d test (WhileTest test body) s
+  test_is d test body s = evaluated_is dialect 0 d test (WhileTest test body) s
 
-  turn_is : (d : ℕ) (test body : Text) (u : State) → exec (Run dialect) (asking 0 (ask (Pay (While test body))) d) u ≡ paid (Run dialect) (page_in dialect d (turned (While test body))) u u.units
+  turn_is : (d : ℕ) (test body : Text) (u : State) → exec (Run dialect) (asking dialect 0 (ask (Pay (While test body))) d) u ≡ paid (Run dialect) (page_in dialect d (turned (While test body))) u u.units
   unfolding answered plan
   turn_is d test body u = on_got_give (Run dialect (turn_task d (While test body)) u) ∙ outcome_law (plan dialect) (turn_task d (While test body)) u
 
-  looped_is : (d : ℕ) (test body : Text) (s : State) → exec (Run dialect) (page_in dialect d (turned (While test body))) s ≡ on_got (Run dialect (Script (suc d) nothing body) s) (λ c v. exec (Run dialect) (asking 1 (if_goes_on (code_now c) c (while_next dialect test body) (done nothing)) d) v)
+  looped_is : (d : ℕ) (test body : Text) (s : State) → exec (Run dialect) (page_in dialect d (turned (While test body))) s ≡ on_got (Run dialect (Script (suc d) nothing body) s) (λ c v. exec (Run dialect) (asking dialect 1 (if_goes_on (code_now c) c (while_next dialect test body) (done nothing)) d) v)
   unfolding asked all_answered owed
   looped_is d test body s =
       let e : d + 1 ≡ suc d = omega arith in
-      ran_is 1 d body (WhileBody test body) s ∙ ap (λ m. on_got (Run dialect (Script m nothing body) s) (λ c v. exec (Run dialect) (asking 1 (if_goes_on (code_now c) c (while_next dialect test body) (done nothing)) d) v)) e
+      ran_is dialect 1 d body (WhileBody test body) s ∙ ap (λ m. on_got (Run dialect (Script m nothing body) s) (λ c v. exec (Run dialect) (asking dialect 1 (if_goes_on (code_now c) c (while_next dialect test body) (done nothing)) d) v)) e
 
   module _ (test body : Text) (t b : List Instruction) (x : Does dialect t (λ d. expression dialect d test)) (f : Follows dialect b body) (code : List Instruction) (at : ℕ) (stack : Stack) (d : ℕ) (has : HasAt code at (loop_code t b)) where
     abbrev Tail : List Instruction
@@ -300,7 +137,7 @@ module _ (dialect : Dialect) where
     long : length (loop_code t b) ≡ length b + length t + 8
     long = omega (arith, length-append b (Again ∷ Skip (length t + 2) ∷ (t ++ Tail)), length-append t Tail)
 
-    out : (last : Completion) (u : State) (p : ℕ) → p ≡ top + length t + 1 + 1 → Lands dialect code stack.loops (spot p (with_result last stack) d) u end (exec (Run dialect) (asking 0 (done nothing) d) u)
+    out : (last : Completion) (u : State) (p : ℕ) → p ≡ top + length t + 1 + 1 → Lands dialect code stack.loops (spot p (with_result last stack) d) u end (exec (Run dialect) (asking dialect 0 (done nothing) d) u)
     unfolding answered
     out last u p e =
         let h = subst (λ n. HasAt code n (Push [] ∷ AnswerTop ∷ [])) (sym e) behind_test.1.1 in
@@ -318,7 +155,7 @@ module _ (dialect : Dialect) where
     again : (last c : Completion) (v : State) (k : ℕ) → exec_code dialect code (suc k) (result_at (at + 1 + 1 + length b) (bodied last) (suc d) c) v ≡ exec_code dialect code k (behind_loop 1 (loop last) stack.loops) v
     again last c v k = ap (λ i. act dialect i (exec_code dialect code k) (result_at (at + 1 + 1 + length b) (bodied last) (suc d) c) v) behind_body.0
 
-    left : (last : Completion) (v : State) → Lands dialect code stack.loops (behind_loop 0 (loop last) stack.loops) v end (exec (Run dialect) (asking 1 (done nothing) d) v)
+    left : (last : Completion) (v : State) → Lands dialect code stack.loops (behind_loop 0 (loop last) stack.loops) v end (exec (Run dialect) (asking dialect 1 (done nothing) d) v)
     unfolding answered
     left last v =
         let e : at + 1 + 1 + length b + 1 ≡ at + 1 + 1 + (length b + 1) + 0 = omega arith in
@@ -329,25 +166,25 @@ module _ (dialect : Dialect) where
     unfolding answered
     turned_body n ih last u lt = same_done dialect code (sym (looped_is d test body u)) (⊎_elim deep shallow (cases_lt most_depth (suc d)))
       where
-        deep : most_depth < suc d → Lands dialect code stack.loops (spot (at + 1) (with_result last stack) d) u end (on_got (Run dialect (Script (suc d) nothing body) u) (λ c v. exec (Run dialect) (asking 1 (if_goes_on (code_now c) c (while_next dialect test body) (done nothing)) d) v))
+        deep : most_depth < suc d → Lands dialect code stack.loops (spot (at + 1) (with_result last stack) d) u end (on_got (Run dialect (Script (suc d) nothing body) u) (λ c v. exec (Run dialect) (asking dialect 1 (if_goes_on (code_now c) c (while_next dialect test body) (done nothing)) d) v))
         deep gt =
             let e = script_deep dialect (suc d) nothing body u gt in
             final_done dialect code (Body (length b + 1)) has.1.0 (λ next. ap (λ z. follow dialect next stack.loops (cond z (M.Fails too_deep u) (To (spot (at + 1 + 1) (with_result nothing (bodied last)) (suc d)) u))) (lt-ltb most_depth (suc d) gt)
-            ∙ ap (λ g. landed next stack.loops end (on_got g (λ c v. exec (Run dialect) (asking 1 (if_goes_on (code_now c) c (while_next dialect test body) (done nothing)) d) v))) (sym e))
+            ∙ ap (λ g. landed next stack.loops end (on_got g (λ c v. exec (Run dialect) (asking dialect 1 (if_goes_on (code_now c) c (while_next dialect test body) (done nothing)) d) v))) (sym e))
 
-        shallow : suc d ≤ most_depth → Lands dialect code stack.loops (spot (at + 1) (with_result last stack) d) u end (on_got (Run dialect (Script (suc d) nothing body) u) (λ c v. exec (Run dialect) (asking 1 (if_goes_on (code_now c) c (while_next dialect test body) (done nothing)) d) v))
+        shallow : suc d ≤ most_depth → Lands dialect code stack.loops (spot (at + 1) (with_result last stack) d) u end (on_got (Run dialect (Script (suc d) nothing body) u) (λ c v. exec (Run dialect) (asking dialect 1 (if_goes_on (code_now c) c (while_next dialect test body) (done nothing)) d) v))
         shallow le =
             one_done dialect code (Body (length b + 1)) has.1.0 (ap (λ z. cond z (M.Fails too_deep u) (To (spot (at + 1 + 1) (with_result nothing (bodied last)) (suc d)) u)) (le-ltb most_depth (suc d) le))
             (body_ends code (loop last) stack.loops 1 d (while_next dialect test body) (done nothing) (Run dialect (Script (suc d) nothing body) u)
             (f.from code (at + 1 + 1) nothing (bodied last) (suc d) u refl le (has_front code (at + 1 + 1) b (Again ∷ Skip (length t + 2) ∷ (t ++ Tail)) has.1.1))
             (again last)
             (λ c v k. let e : top ≡ at + 1 + 1 + (length b + 1) + 1 = omega arith in
-                let less = (run_onward dialect (Script (suc d) nothing body) u).spends in
-                let same = ap units_of k in
-                subst (λ p. Lands dialect code stack.loops (spot p (with_result last stack) d) v end (exec (Run dialect) (next_test test body d) v)) e (ih last v (omega (arith, less, same, lt))))
+            let less = (run_onward dialect (Script (suc d) nothing body) u).spends in
+            let same = ap units_of k in
+            subst (λ p. Lands dialect code stack.loops (spot p (with_result last stack) d) v end (exec (Run dialect) (next_test test body d) v)) e (ih last v (omega (arith, less, same, lt))))
             (left last))
 
-    turned_back : (n : ℕ) → Tests n → (last : Completion) (u : State) → u.units < suc n → (m : ℕ) → u.units ≡ m → Lands dialect code stack.loops (spot (top + length t + 1) (with_result last stack) d) u end (exec (Run dialect) (asking 0 (ask (Pay (While test body))) d) u)
+    turned_back : (n : ℕ) → Tests n → (last : Completion) (u : State) → u.units < suc n → (m : ℕ) → u.units ≡ m → Lands dialect code stack.loops (spot (top + length t + 1) (with_result last stack) d) u end (exec (Run dialect) (asking dialect 0 (ask (Pay (While test body))) d) u)
     turned_back n ih last u lt zero z =
         final_done dialect code (Turn (length b + length t + 4)) behind_test.1.0
         (λ next. ap (λ k. follow dialect next stack.loops (spend k (spot (top + length t + 1 - (length b + length t + 4)) (with_result last stack) d) u)) z
@@ -363,13 +200,13 @@ module _ (dialect : Dialect) where
     tests zero last s lt = absurd (omega (arith, lt))
     tests (suc n) last s lt =
         same_done dialect code (sym (test_is d test body s))
-        (tested code (λ c u. exec (Run dialect) (asking 0 (if_true dialect c (ask (Pay (While test body))) (done nothing)) d) u) (λ c u h. test_stops d 0 (ask (Pay (While test body))) (done nothing) c u h) (exec (Run dialect) (expression dialect d test) s) ((expression_fails d test).fails s)
+        (tested dialect code (λ c u. exec (Run dialect) (asking dialect 0 (if_true dialect c (ask (Pay (While test body))) (done nothing)) d) u) (λ c u h. test_stops dialect d 0 (ask (Pay (While test body))) (done nothing) c u h) (exec (Run dialect) (expression dialect d test) s) ((expression_fails dialect d test).fails s)
         (x.from code top (with_result last stack) d s (has_front code top t Tail behind_body.1.1))
         (λ v u k. let less = (exec_goes (Run dialect) (run_onward dialect) (expression dialect d test) s).spends in
-            let same = ap units_of k in
-            forks code (top + length t) 1 0 d (with_result last stack) (ask (Pay (While test body))) (done nothing) behind_test.0 v u
-            (turned_back n (tests n) last u (omega (arith, less, same, lt)) u.units refl)
-            (out last u _ (omega arith))))
+        let same = ap units_of k in
+        forks dialect code (top + length t) 1 0 d (with_result last stack) (ask (Pay (While test body))) (done nothing) behind_test.0 v u
+        (turned_back n (tests n) last u (omega (arith, less, same, lt)) u.units refl)
+        (out last u _ (omega arith))))
 
     pub while_lands : (last : Completion) (s : State) → Lands dialect code stack.loops (spot at (with_result last stack) d) s end (exec (Run dialect) (next_test test body d) s)
     while_lands last s =
@@ -463,7 +300,7 @@ module _ (t b : List Instruction) (h l d p o : ℕ) (x : Fits t (shape h l d p o
       let n = length b + length t + 8 in
       let tail = SkipWhen false 1 ∷ Turn (length b + length t + 4) ∷ Push [] ∷ AnswerTop ∷ [] in
       let on_test : Stands table n ps (SkipWhen false 1) = stands_at ps (SkipWhen false 1) More (in_test ps (length t) (omega arith) (omega arith) ∙ x.ends) (omega arith)
-          ((omega arith, at_turn (ps + 1 + 0) 0 (omega arith) (omega arith) ∙ same_height _ (omega arith)), ((omega arith, at_turn (ps + 1 + 1) 1 (omega arith) (omega arith) ∙ same_height _ (omega arith)), tt)) in
+      ((omega arith, at_turn (ps + 1 + 0) 0 (omega arith) (omega arith) ∙ same_height _ (omega arith)), ((omega arith, at_turn (ps + 1 + 1) 1 (omega arith) (omega arith) ∙ same_height _ (omega arith)), tt)) in
       let on_turn : Stands table n (ps + 1) (Turn (length b + length t + 4)) = stands_at (ps + 1) (Turn (length b + length t + 4)) Base (at_turn (ps + 1) 0 (omega arith) (omega arith)) tt ((omega arith, in_front (ps + 1 - (length b + length t + 4)) (omega arith)), tt) in
       let on_push : Stands table n (ps + 1 + 1) (Push []) = stands_at (ps + 1 + 1) (Push []) Base (at_turn (ps + 1 + 1) 1 (omega arith) (omega arith)) tt ((omega arith, at_answer (ps + 1 + 1 + 1 + 0) (omega arith) ∙ ap (λ m. shape m l d p o) (omega arith)), tt) in
       let on_answer : Stands table n (ps + 1 + 1 + 1) AnswerTop = stands_at (ps + 1 + 1 + 1) AnswerTop More (at_answer (ps + 1 + 1 + 1) (omega arith)) (omega arith) ((omega arith, at_finish (ps + 1 + 1 + 1 + 1 + 0) (omega arith) ∙ same_height _ (omega arith)), tt) in
@@ -475,7 +312,7 @@ module _ (t b : List Instruction) (h l d p o : ℕ) (x : Fits t (shape h l d p o
       let of_body : Placed table n p2 (b ++ Again ∷ Skip (length t + 2) ∷ (t ++ tail)) = placed_joined table n p2 b (Again ∷ Skip (length t + 2) ∷ (t ++ tail)) (placed_fits table n b (bare_in (o + 1)) (bare_in (o + 1)) y p2 (omega arith) (λ m le. in_body (p2 + m) m (omega arith) le)) behind_body in
       let on_skip : Stands table n 0 (Skip (length b + 3)) = stands_at 0 (Skip (length b + 3)) Base (in_front 0 (omega arith)) tt ((omega arith, in_test (0 + 1 + (length b + 3)) 0 (omega arith) (omega arith) ∙ x.starts), tt) in
       let on_body : Stands table n (0 + 1) (Body (length b + 1)) = stands_at (0 + 1) (Body (length b + 1)) Base (in_front (0 + 1) (omega arith)) tt
-          ((omega arith, at_out (0 + 1 + 1 + (length b + 1)) (omega arith)), ((omega arith, in_test (0 + 1 + 1 + (length b + 1 + 1)) 0 (omega arith) (omega arith) ∙ x.starts), ((omega arith, in_body (0 + 1 + 1 + 0) 0 (omega arith) (omega arith) ∙ y.starts), tt))) in
+      ((omega arith, at_out (0 + 1 + 1 + (length b + 1)) (omega arith)), ((omega arith, in_test (0 + 1 + 1 + (length b + 1 + 1)) 0 (omega arith) (omega arith) ∙ x.starts), ((omega arith, in_body (0 + 1 + 1 + 0) 0 (omega arith) (omega arith) ∙ y.starts), tt))) in
       fits_placed table n (loop_code t b) Base Base size (in_front 0 (omega arith)) (at_finish (length (loop_code t b)) (omega (arith, long, long2))) (on_skip, (on_body, of_body))
 
 module _ (dialect : Dialect) where

@@ -11,12 +11,13 @@ use Rattle.tcl_meaning.specs.declared.code.Code.TheVariants as ending
 use Rattle.tcl_meaning.specs.Completions.{Completion, nothing, too_deep, code_now}
 use Rattle.tcl_meaning.specs.State.{State}
 use Rattle.tcl_meaning.specs.Variables.{read}
-use Rattle.tcl_meaning.specs.Effects.{Got, Gives, Broke, Exits, Untold, on_got, exec}
+use Rattle.tcl_meaning.specs.Effects.{Got, Gives, Broke, Exits, Untold, Prog, on_got, exec}
 use Rattle.tcl_meaning.specs.Script.{Run, most_depth}
 use Rattle.tcl_meaning.specs.Substitution.{inside, result_by, bracket_text, spelled_element, piece_text, index_text, pieces_text}
-use Rattle.tcl_meaning.specs.Tasks.{Script}
-use Rattle.tcl_meaning.specs.Value.{Value, Has, Fails, ◌>>=◌, give, behind}
-use Rattle.tcl_meaning.proofs.Reaching.{bind_bind}
+use Rattle.tcl_meaning.specs.Tasks.{Task, Script}
+use Rattle.tcl_meaning.specs.Value.{Value, Has, Fails, ◌>>=◌, on_value, give, behind}
+use Rattle.tcl_meaning.proofs.Reaching.{bind_bind, on_got_give, on_got_same}
+use Rattle.tcl_meaning.proofs.Runs.{exec_bind}
 use Rattle.tcl_meaning.proofs.ScriptRules.{script_deep, index_pieces, pieces_start, pieces_next}
 use Rattle.tcl_code.specs.Instructions.{Instruction, Push, Read, ReadElement, Join, Enter, Leave}
 use Rattle.tcl_code.specs.Machine as M
@@ -183,3 +184,18 @@ module _ (dialect : Dialect) where
 
   pub word_does : (ps : List Part) (c : List Instruction) → Joins dialect (length ps) c ps → Does dialect c (λ d. pieces_text d ps)
   word_does ps c f = record { from = λ code at stack d s has. same dialect code (sym (pieces_start dialect d ps s)) (f.from code at [] stack d s (omega arith) has); adds = λ h l d p o. fits_same (ap (λ m. shape m l d p o) (omega arith)) refl (f.adds h 0 l d p o (omega arith)) }
+
+  abbrev alone : Text → Prog Task (Value Text)
+  alone t = give [] >>= λ more. give (t ++ more)
+
+  piece_alone : (d : ℕ) (p : Part) (s : State) → exec (Run dialect) (pieces_text d (p ∷ [])) s ≡ exec (Run dialect) (piece_text d p) s
+  piece_alone d p s =
+      exec_bind (Run dialect) (piece_text d p) (on_value alone) s ∙ on_got_same (exec (Run dialect) (piece_text d p) s) (λ v u. exec (Run dialect) (on_value alone v) u) (λ v u. Gives v u) go ∙ on_got_give (exec (Run dialect) (piece_text d p) s)
+    where
+      go : (v : Value Text) (u : State) → exec (Run dialect) (on_value alone v) u ≡ Gives v u
+      go (Has t) u = ap (λ x. Gives (Has x) u) (append-nil t)
+      go (Fails c) u = refl
+
+  -- a word of one piece is that piece
+  pub piece_does : (p : Part) (c : List Instruction) → Does dialect c (λ d. piece_text d p) → Does dialect c (λ d. pieces_text d (p ∷ []))
+  piece_does p c f = record { from = λ code at stack d s has. same dialect code (sym (piece_alone d p s)) (f.from code at stack d s has); adds = f.adds }

@@ -3,7 +3,6 @@ use Rattle.std.proofs.Common.{◌≡◌, ℕ, ◌+◌, ◌≤◌, List, [], ◌�
 use Rattle.std.specs.Prelude.{slice_get}
 use Rattle.std.proofs.lemmas.Option.{slice_get_past}
 use Rattle.tcl_chars.specs.declared.numbers.Dialect.{Dialect}
-use Rattle.tcl_chars.specs.declared.numbers.Dialect.TheVariants.{Tcl86}
 use Rattle.tcl_pages.specs.Texts.{Text}
 use Rattle.tcl_meaning.specs.declared.code.Code.{Code}
 use Rattle.tcl_meaning.specs.declared.code.Code.TheVariants as ending
@@ -80,9 +79,9 @@ module _ (dialect : Dialect) (code : List Instruction) where
   pub means : (t : Text) → Follows dialect code t → Means dialect code t
   means t f = ends_as (λ d s. Run dialect (Script d nothing t) s) (f.keeps 0 0 0 0 0) (λ d s le. f.from code 0 nothing (stack_of [] [] [] []) d s refl le (has_all code []))
 
--- what was emitted for a script, from nothing, is valid, and means it in every dialect
-pub emitted_valid : (c0 c1 : List Instruction) (t : Text) → c0 ≡ [] → Grown (ScriptCode t) c0 c1 → Valid c1
-emitted_valid c0 c1 t e0 g = valid c1 (subst (λ c. Fits c bare bare) (sym (g.1 ∙ ap (λ x. x ++ g.0) e0)) ((g.2 Tcl86).keeps 0 0 0 0 0))
+-- what was emitted for a script, from nothing, is valid, and means it
+pub emitted_valid : (dialect : Dialect) (c0 c1 : List Instruction) (t : Text) → c0 ≡ [] → Grown (ScriptCode dialect t) c0 c1 → Valid c1
+emitted_valid dialect c0 c1 t e0 g = valid c1 (subst (λ c. Fits c bare bare) (sym (g.1 ∙ ap (λ x. x ++ g.0) e0)) (g.2.keeps 0 0 0 0 0))
 
-pub emitted_means : (c0 c1 : List Instruction) (t : Text) → c0 ≡ [] → Grown (ScriptCode t) c0 c1 → (dialect : Dialect) → Means dialect c1 t
-emitted_means c0 c1 t e0 g dialect = subst (λ c. Means dialect c t) (sym (g.1 ∙ ap (λ x. x ++ g.0) e0)) (means dialect g.0 t (g.2 dialect))
+pub emitted_means : (dialect : Dialect) (c0 c1 : List Instruction) (t : Text) → c0 ≡ [] → Grown (ScriptCode dialect t) c0 c1 → Means dialect c1 t
+emitted_means dialect c0 c1 t e0 g = subst (λ c. Means dialect c t) (sym (g.1 ∙ ap (λ x. x ++ g.0) e0)) (means dialect g.0 t g.2)

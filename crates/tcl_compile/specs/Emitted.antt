@@ -1,4 +1,4 @@
--- What is emitted, in every dialect of numbers.
+-- What is emitted. In a dialect of numbers.
 use Rattle.std.specs.Prelude.{ℕ, List}
 use Rattle.tcl_chars.specs.declared.numbers.Dialect.{Dialect}
 use Rattle.tcl_words.specs.Parts.{Part, Shape}
@@ -10,28 +10,28 @@ use Rattle.tcl_code.specs.Parts.{Does, Runs}
 use Rattle.tcl_compile.specs.Fragments.{Joins, Calls, Gathers, Follows}
 
 -- the code of a piece, of a word, and of a bracket's script
-abbrev pub PieceCode : Part → List Instruction → Type 0
-PieceCode p c = (dialect : Dialect) → Does dialect c (λ d. piece_text d p)
+abbrev pub PieceCode : Dialect → Part → List Instruction → Type 0
+PieceCode dialect p c = Does dialect c (λ d. piece_text d p)
 
-abbrev pub WordCode : List Part → List Instruction → Type 0
-WordCode ps c = (dialect : Dialect) → Does dialect c (λ d. pieces_text d ps)
+abbrev pub WordCode : Dialect → List Part → List Instruction → Type 0
+WordCode dialect ps c = Does dialect c (λ d. pieces_text d ps)
 
-abbrev pub BracketCode : Text → List Instruction → Type 0
-BracketCode script c = (dialect : Dialect) → Does dialect c (λ d. bracket_text d script)
+abbrev pub BracketCode : Dialect → Text → List Instruction → Type 0
+BracketCode dialect script c = Does dialect c (λ d. bracket_text d script)
 
 -- of a command that has been paid for, and of a script
-abbrev pub CommandCode : List Shape → List Instruction → Type 0
-CommandCode ws c = (dialect : Dialect) → Runs dialect c (λ d. run_command dialect d ws)
+abbrev pub CommandCode : Dialect → List Shape → List Instruction → Type 0
+CommandCode dialect ws c = Runs dialect c (λ d. run_command dialect d ws)
 
-abbrev pub ScriptCode : Text → List Instruction → Type 0
-ScriptCode t c = (dialect : Dialect) → Follows dialect c t
+abbrev pub ScriptCode : Dialect → Text → List Instruction → Type 0
+ScriptCode dialect t c = Follows dialect c t
 
 -- of what is left of a word's n pieces, of a command's n words, and of a command some of whose words are expanded
-abbrev pub PiecesLeft : ℕ → List Part → List Instruction → Type 0
-PiecesLeft n ps c = (dialect : Dialect) → Joins dialect n c ps
+abbrev pub PiecesLeft : Dialect → ℕ → List Part → List Instruction → Type 0
+PiecesLeft dialect n ps c = Joins dialect n c ps
 
-abbrev pub WordsLeft : ℕ → List Shape → List Instruction → Type 0
-WordsLeft n ws c = (dialect : Dialect) → Calls dialect n c ws
+abbrev pub WordsLeft : Dialect → ℕ → List Shape → List Instruction → Type 0
+WordsLeft dialect n ws c = Calls dialect n c ws
 
-abbrev pub GatheredLeft : List Shape → List Instruction → Type 0
-GatheredLeft ws c = (dialect : Dialect) → Gathers dialect c ws
+abbrev pub GatheredLeft : Dialect → List Shape → List Instruction → Type 0
+GatheredLeft dialect ws c = Gathers dialect c ws

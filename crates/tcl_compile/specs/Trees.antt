@@ -1,5 +1,5 @@
--- What the parts of an expression's code do, and what is emitted, in every dialect of numbers.
-use Rattle.std.specs.Prelude.{◌≡◌, ℕ, ◌+◌, true, false, List, ◌++◌, length, Option, Some, None, Bool, Result}
+-- What the parts of an expression's code do, and what is emitted. In a dialect of numbers.
+use Rattle.std.specs.Prelude.{◌≡◌, ℕ, ◌+◌, true, false, List, ◌++◌, length, Option, Some, None, Bool}
 use Rattle.tcl_chars.specs.declared.numbers.Dialect.{Dialect}
 use Rattle.tcl_expr.specs.Expr.{Leaf, literal, word, Expr, operand, group, call, unary, power, chain, choice, Rest, last, next, Args, no_args, arg, argument_count}
 use Rattle.tcl_expr.specs.declared.token.BinaryOp.{BinaryOp}
@@ -10,17 +10,15 @@ use Rattle.tcl_words.specs.Parts.{Shape, parts_of}
 use Rattle.tcl_meaning.specs.Operators.{operator, function_answer}
 use Rattle.tcl_pages.specs.Texts.{Text}
 use Rattle.tcl_meaning.specs.State.{State}
-use Rattle.tcl_expr.specs.ExprFault.{ExprFault}
-use Rattle.tcl_meaning.specs.Effects.{Prog, Give, exec, ◌>>=◌ as andthen}
-use Rattle.tcl_meaning.specs.Expressions.{tree_text, rest_text, args_text, applied, parsed_text}
+use Rattle.tcl_meaning.specs.Effects.{Prog, exec}
+use Rattle.tcl_meaning.specs.Expressions.{tree_text, rest_text, args_text, applied, expression}
 use Rattle.tcl_meaning.specs.Nesting.{PartsNest}
 use Rattle.tcl_meaning.specs.Script.{Run}
 use Rattle.tcl_meaning.specs.Tasks.{Task}
-use Rattle.tcl_meaning.specs.Value.{Value, ◌>>=◌, judged, completed}
+use Rattle.tcl_meaning.specs.Value.{Value, ◌>>=◌, judged}
 use Rattle.tcl_code.specs.Instructions.{Instruction}
 use Rattle.tcl_code.specs.Machine.{Texts, Stack, with_text, text_at, spot}
 use Rattle.tcl_code.specs.Valid.{shape}
-use Rattle.tcl_code.specs.Means.{EndsAs}
 use Rattle.tcl_code.specs.Parts.{Fits, HasAt, LandsValue, Does}
 use Rattle.tcl_compile.specs.Fragments.{stacked}
 use Rattle.tcl_compile.specs.Within.{PartsWithin}
@@ -47,19 +45,19 @@ module _ (dialect : Dialect) where
     pub adds : (h k l d p o : ℕ) → k + argument_count es ≡ n → Fits c (shape (h + k) l d p o) (shape (h + 1) l d p o)
 
 -- the code of a tree
-abbrev pub TreeCode : Expr → List Instruction → Type 0
-TreeCode e c = (dialect : Dialect) → Does dialect c (λ d. tree_text dialect d e)
+abbrev pub TreeCode : Dialect → Expr → List Instruction → Type 0
+TreeCode dialect e c = Does dialect c (λ d. tree_text dialect d e)
 
 -- of an operator and its right operand, where the left one's text is there; and of several
-abbrev pub StepCode : BinaryOp → Expr → List Instruction → Type 0
-StepCode o e c = (dialect : Dialect) → Changes dialect c (λ d a. applied dialect (operator dialect o) a (tree_text dialect d e))
+abbrev pub StepCode : Dialect → BinaryOp → Expr → List Instruction → Type 0
+StepCode dialect o e c = Changes dialect c (λ d a. applied dialect (operator dialect o) a (tree_text dialect d e))
 
-abbrev pub RestCode : Rest → List Instruction → Type 0
-RestCode r c = (dialect : Dialect) → Changes dialect c (λ d a. rest_text dialect d a r)
+abbrev pub RestCode : Dialect → Rest → List Instruction → Type 0
+RestCode dialect r c = Changes dialect c (λ d a. rest_text dialect d a r)
 
 -- of arguments that are left of n, and their function
-abbrev pub ArgsLeft : Function → ℕ → Args → List Instruction → Type 0
-ArgsLeft f n es c = (dialect : Dialect) → Applies dialect f n c es
+abbrev pub ArgsLeft : Dialect → Function → ℕ → Args → List Instruction → Type 0
+ArgsLeft dialect f n es c = Applies dialect f n c es
 
 -- ---- the words of operands
 
@@ -92,6 +90,6 @@ abbrev mutual
 
 -- ---- whole expressions
 
--- the code ends as the value of a tree does, or raises a fault
-abbrev pub ParsedCode : Result Expr ExprFault → List Instruction → Type 0
-ParsedCode r code = (dialect : Dialect) → EndsAs dialect code (λ d s. exec (Run dialect) (andthen (parsed_text dialect d r) (λ v. Give (completed v))) s)
+-- the code of an expression, or of the fault that it has
+abbrev pub ExpressionCode : Dialect → Text → List Instruction → Type 0
+ExpressionCode dialect t c = Does dialect c (λ d. expression dialect d t)

@@ -1,16 +1,25 @@
 //! The commands of literal words that are inlined.
 
-ghost use Rattle.std.specs.Prelude.{◌≡◌, ◌+◌, ◌-◌, ◌<◌, ◌++◌, ◌∷◌, [], drop, IfOk, IfSome, OnOk, length, map};
+ghost use Rattle.std.specs.Prelude.{◌≡◌, true, IfOk, IfSome, map};
 ghost use Rattle.std.specs.Str.{chars};
 ghost use Rattle.tcl_code.specs.Guards.{name_of};
+ghost use Rattle.tcl_code.specs.declared.inlined.Inlined.TheVariants as inlined;
 ghost use Rattle.tcl_words.specs.Parts.{part_of, shape_of};
-ghost use Rattle.tcl_compile.specs.Fragments.{Grown};
 ghost use Rattle.tcl_compile.specs.Forms as forms;
-ghost use Rattle.tcl_compile.specs.Forms.{AllLiteral, HasForm, IsForm, IsLiteral, IsNamed, IsVerbatim, PageCode};
+ghost use Rattle.tcl_compile.specs.Forms.{AllLiteral, HasClause, HasForm, IsFormOf, IsJoint, IsLiteral, IsNamed, IsVerbatim};
 
+use crate::context::Context;
 use std::alloc::{AllocError, Global};
-use tcl_code::{CodeBuilder, Inlined, Instr};
+use tcl_chars::is_text;
+use tcl_code::Inlined;
 use tcl_words::{Piece, Word};
+
+/// A condition, and the body that is run where it holds.
+#[derive(Clone, Copy)]
+pub(crate) struct Clause<'a> {
+    pub(crate) test: &'a str,
+    pub(crate) body: &'a str,
+}
 
 /// A command that is inlined, with the texts of its words.
 #[derive(Drop)]
@@ -19,6 +28,22 @@ pub(crate) enum Form<'a> {
     Continue,
     /// `incr` of a variable by one.
     Increment(&'a str),
+    Expr(&'a str),
+    /// The clauses, and the body behind `else`.
+    If(Vec<Clause<'a>>, Option<&'a str>),
+    /// The condition, and the body.
+    While(&'a str, &'a str),
+}
+
+// An `if` of more clauses is called.
+const MOST_CLAUSES: usize = 64;
+
+// What stands behind a clause of an `if`.
+enum Joint {
+    Nothing,
+    Else,
+    Elseif,
+    Other,
 }
 
 // The command of a form.
@@ -29,6 +54,32 @@ pub(crate) fn command_of(form: &Form<'_>) -> Inlined
         Form::Break => Inlined::Break,
         Form::Continue => Inlined::Continue,
         Form::Increment(_) => Inlined::Incr,
+        Form::Expr(_) => Inlined::Expr,
+        Form::If(_, _) => Inlined::If,
+        Form::While(_, _) => Inlined::While,
+    }
+}
+
+// An expression of more bytes isn't inlined: the calls that emit it stand in one another as deep as its parts do.
+const LONGEST_EXPRESSION: usize = 1000;
+
+// Are the conditions of all clauses short?
+fn are_short(clauses: &[Clause<'_>]) -> bool {
+    'clauses: for clause in clauses {
+        if clause.test.len() > LONGEST_EXPRESSION {
+            return false;
+        }
+    }
+    true
+}
+
+// Is a form inlined?
+pub(crate) fn is_inlined(context: Context, form: &Form<'_>) -> bool {
+    match form {
+        Form::Expr(text) => context.inlines() && text.len() <= LONGEST_EXPRESSION,
+        Form::If(clauses, _) => context.inlines() && are_short(clauses),
+        Form::While(test, _) => context.inlines() && test.len() <= LONGEST_EXPRESSION,
+        _ => true,
     }
 }
 
@@ -76,6 +127,12 @@ fn command_named(name: &str) -> Option<Inlined>
 {
     if name == "incr" {
         Some(Inlined::Incr)
+    } else if name == "expr" {
+        Some(Inlined::Expr)
+    } else if name == "if" {
+        Some(Inlined::If)
+    } else if name == "while" {
+        Some(Inlined::While)
     } else if name == "break" {
         Some(Inlined::Break)
     } else if name == "continue" {
@@ -85,16 +142,64 @@ fn command_named(name: &str) -> Option<Inlined>
     }
 }
 
+// Does a clause stand in front, with no `then` between?
+fn has_clause(texts: &[&str]) -> bool
+    ensures { result ≡ true → HasClause (map (λ t. chars t.now) texts.now) }
+{
+    texts.len() > 1 && !is_text(texts[1], "then")
+}
+
+// What stands behind a clause.
+fn joint_of(texts: &[&str]) -> Joint
+    ensures { IsJoint result (map (λ t. chars t.now) texts.now) }
+{
+    if texts.is_empty() {
+        return Joint::Nothing;
+    }
+    if is_text(texts[0], "elseif") {
+        return Joint::Elseif;
+    }
+    if texts.len() == 2 && is_text(texts[0], "else") {
+        return Joint::Else;
+    }
+    Joint::Other
+}
+
+// An `if` whose clauses and last body have nothing but `elseif` and `else` between them.
+fn if_by<'a>(alloc: Global, texts: &[&'a str]) -> Result<Option<Form<'a>>, AllocError>
+    ensures { IfOk result (λ form. IfSome form (λ f. IsFormOf inlined.If f (map (λ t. chars t.now) texts.now))) }
+{
+    let mut clauses = Vec::new(alloc);
+    let mut rest = texts;
+    'clauses: while clauses.len() < MOST_CLAUSES && has_clause(rest) {
+        let (test, body) = (rest[0], rest[1]);
+        clauses.push(Clause { test, body })?;
+        match joint_of(&rest[2..]) {
+            Joint::Nothing => return Ok(Some(Form::If(clauses, None))),
+            Joint::Else => return Ok(Some(Form::If(clauses, Some(rest[3])))),
+            Joint::Elseif => rest = &rest[3..],
+            Joint::Other => return Ok(None),
+        }
+    }
+    Ok(None)
+}
+
 // The form of a command, from the texts behind its name.
-fn form_by<'a>(command: Inlined, texts: &[&'a str]) -> Option<Form<'a>>
-    ensures form { IfSome result (λ form. IsForm form (map (λ t. chars t.now) texts.now)) }
-    ensures command { IfSome result (λ form. forms.command_of form ≡ command) }
+fn form_by<'a>(
+    alloc: Global,
+    command: Inlined,
+    texts: &[&'a str],
+) -> Result<Option<Form<'a>>, AllocError>
+    ensures { IfOk result (λ form. IfSome form (λ f. IsFormOf command f (map (λ t. chars t.now) texts.now))) }
 {
     match (command, texts) {
-        (Inlined::Break, []) => Some(Form::Break),
-        (Inlined::Continue, []) => Some(Form::Continue),
-        (Inlined::Incr, [name]) => Some(Form::Increment(*name)),
-        _ => None,
+        (Inlined::Break, []) => Ok(Some(Form::Break)),
+        (Inlined::Continue, []) => Ok(Some(Form::Continue)),
+        (Inlined::Incr, [name]) => Ok(Some(Form::Increment(*name))),
+        (Inlined::Expr, [text]) => Ok(Some(Form::Expr(*text))),
+        (Inlined::While, [test, body]) => Ok(Some(Form::While(*test, *body))),
+        (Inlined::If, _) => if_by(alloc, texts),
+        _ => Ok(None),
     }
 }
 
@@ -108,16 +213,13 @@ fn form_behind<'a>(
     ensures { IfOk result (λ form. IfSome form (λ f. HasForm f (map shape_of words.now))) }
 {
     match literals(alloc, &words[1..])? {
-        Some(texts) => Ok(form_by(command, texts.as_slice())),
+        Some(texts) => form_by(alloc, command, texts.as_slice()),
         None => Ok(None),
     }
 }
 
 // The form of a command, if its words are literal and it is one that is inlined.
-pub(crate) fn form_of<'a>(
-    alloc: Global,
-    words: &[Word<'a>],
-) -> Result<Option<Form<'a>>, AllocError>
+pub(crate) fn form_of<'a>(alloc: Global, words: &[Word<'a>]) -> Result<Option<Form<'a>>, AllocError>
     ensures { IfOk result (λ form. IfSome form (λ f. HasForm f (map shape_of words.now))) }
 {
     if words.is_empty() {
@@ -130,19 +232,5 @@ pub(crate) fn form_of<'a>(
     match command {
         Some(command) => form_behind(alloc, command, words),
         None => Ok(None),
-    }
-}
-
-// The instructions that do a command where its name stands for its page.
-pub(crate) fn emit_page(code: &mut CodeBuilder, form: &Form<'_>) -> Result<(), AllocError>
-    ensures { OnOk result (Grown (PageCode form.now) code.old code.new) }
-{
-    match form {
-        Form::Break => code.emit(Instr::Break),
-        Form::Continue => code.emit(Instr::Continue),
-        Form::Increment(name) => {
-            code.push("1")?;
-            code.bump(*name)
-        }
     }
 }

@@ -8,8 +8,10 @@
 mod change;
 mod codes;
 mod compile;
+mod context;
 mod inlining;
 mod kept;
+mod pages;
 mod script;
 mod skips;
 mod tree;

@@ -10,10 +10,12 @@ ghost use Rattle.tcl_compile.specs.Changes.{IsChange};
 ghost use Rattle.tcl_compile.specs.Emitted.{PieceCode, WordCode, BracketCode, CommandCode, ScriptCode};
 ghost use Rattle.tcl_compile.specs.Forms.{HasForm};
 ghost use Rattle.tcl_compile.specs.Fragments.{Grown, Plain, adding};
-ghost use Rattle.tcl_compile.specs.Within.{PartWithin, PartsWithin, WordsWithin};
+ghost use Rattle.tcl_compile.specs.Within.{ArgumentsAreShort, PartWithin, PartsWithin, WordsWithin};
 
 use crate::change::{change_of, emit_change};
-use crate::inlining::{Form, command_of, emit_page, form_of};
+use crate::context::Context;
+use crate::inlining::{Form, command_of, form_of, is_inlined};
+use crate::pages::emit_page;
 use crate::skips::lead_here;
 use std::alloc::{AllocError, Global};
 use tcl_chars::push;
@@ -33,19 +35,19 @@ fn first(alloc: Global, text: &str) -> Result<Parsed<'_>, AllocError>
 #[cycle(emitting)]
 pub(crate) fn emit_script(
     code: &mut CodeBuilder,
-    alloc: Global,
+    context: Context,
     text: &str,
 ) -> Result<(), AllocError>
-    ensures { OnOk result (Grown (ScriptCode (chars text.now)) code.old code.new) }
+    ensures { OnOk result (Grown (ScriptCode context.dialect (chars text.now)) code.old code.new) }
 {
     let mut rest = text;
     'commands: loop {
-        match first(alloc, rest)? {
+        match first(context.alloc, rest)? {
             Parsed::End(_) => return Ok(()),
             Parsed::Bad(fault) => return code.raise(fault.text()),
             Parsed::Command(words, after) => {
                 code.emit(Instr::Spend)?;
-                emit_command(code, alloc, rest, words.as_slice())?;
+                emit_command(code, context, rest, words.as_slice())?;
                 rest = &rest[after..];
             }
         }
@@ -68,24 +70,27 @@ fn any_expands(words: &[Word<'_>]) -> bool
 #[cycle(emitting)]
 fn emit_command(
     code: &mut CodeBuilder,
-    alloc: Global,
+    context: Context,
     whole: &str,
     words: &[Word<'_>],
 ) -> Result<(), AllocError>
     requires some { 0 < length (chars whole.now) }
     requires nests { WordsNest most_levels (map shape_of words.now) }
     requires within { WordsWithin (length (chars whole.now) - 1) (map shape_of words.now) }
-    ensures { OnOk result (Grown (CommandCode (map shape_of words.now)) code.old code.new) }
+    requires short { ArgumentsAreShort (length (chars whole.now) - 1) (map shape_of words.now) }
+    ensures { OnOk result (Grown (CommandCode context.dialect (map shape_of words.now)) code.old code.new) }
 {
     if any_expands(words) {
-        return emit_gathered(code, alloc, whole, words);
+        return emit_gathered(code, context, whole, words);
     }
     if let Some((change, name)) = change_of(words) {
-        return emit_changed(code, alloc, whole, change, name, words);
+        return emit_changed(code, context, whole, change, name, words);
     }
-    match form_of(alloc, words)? {
-        Some(form) => emit_inlined(code, alloc, whole, &form, words),
-        None => emit_plain(code, alloc, whole, words),
+    match form_of(context.alloc, words)? {
+        Some(form) if is_inlined(context, &form) => {
+            emit_inlined(code, context, whole, &form, words)
+        }
+        _ => emit_plain(code, context, whole, words),
     }
 }
 
@@ -93,7 +98,7 @@ fn emit_command(
 #[cycle(emitting)]
 fn emit_inlined(
     code: &mut CodeBuilder,
-    alloc: Global,
+    context: Context,
     whole: &str,
     form: &Form<'_>,
     words: &[Word<'_>],
@@ -102,15 +107,16 @@ fn emit_inlined(
     requires some { 0 < length (chars whole.now) }
     requires nests { WordsNest most_levels (map shape_of words.now) }
     requires within { WordsWithin (length (chars whole.now) - 1) (map shape_of words.now) }
-    ensures { OnOk result (Grown (CommandCode (map shape_of words.now)) code.old code.new) }
+    requires short { ArgumentsAreShort (length (chars whole.now) - 1) (map shape_of words.now) }
+    ensures { OnOk result (Grown (CommandCode context.dialect (map shape_of words.now)) code.old code.new) }
 {
     let guard = code.len();
     code.emit(Instr::Guard(command_of(form), 0))?;
-    emit_page(code, form)?;
+    emit_page(code, context, whole, form)?;
     let past = code.len();
     code.emit(Instr::Skip(0))?;
     lead_here(code, guard)?;
-    emit_plain(code, alloc, whole, words)?;
+    emit_plain(code, context, whole, words)?;
     lead_here(code, past)
 }
 
@@ -118,7 +124,7 @@ fn emit_inlined(
 #[cycle(emitting)]
 fn emit_changed(
     code: &mut CodeBuilder,
-    alloc: Global,
+    context: Context,
     whole: &str,
     change: Change,
     name: &str,
@@ -128,9 +134,9 @@ fn emit_changed(
     requires some { 0 < length (chars whole.now) }
     requires nests { WordsNest most_levels (map shape_of words.now) }
     requires within { WordsWithin (length (chars whole.now) - 1) (map shape_of words.now) }
-    ensures { OnOk result (Grown (CommandCode (map shape_of words.now)) code.old code.new) }
+    ensures { OnOk result (Grown (CommandCode context.dialect (map shape_of words.now)) code.old code.new) }
 {
-    emit_word(code, alloc, whole, &words[2])?;
+    emit_word(code, context, whole, &words[2])?;
     emit_change(code, change, name)
 }
 
@@ -154,7 +160,7 @@ fn emit_call(code: &mut CodeBuilder, count: usize) -> Result<(), AllocError>
 #[cycle(emitting)]
 fn emit_plain(
     code: &mut CodeBuilder,
-    alloc: Global,
+    context: Context,
     whole: &str,
     words: &[Word<'_>],
 ) -> Result<(), AllocError>
@@ -162,10 +168,10 @@ fn emit_plain(
     requires some { 0 < length (chars whole.now) }
     requires nests { WordsNest most_levels (map shape_of words.now) }
     requires within { WordsWithin (length (chars whole.now) - 1) (map shape_of words.now) }
-    ensures { OnOk result (Grown (CommandCode (map shape_of words.now)) code.old code.new) }
+    ensures { OnOk result (Grown (CommandCode context.dialect (map shape_of words.now)) code.old code.new) }
 {
     'words: for word in words {
-        emit_word(code, alloc, whole, word)?;
+        emit_word(code, context, whole, word)?;
     }
     emit_call(code, words.len())
 }
@@ -185,18 +191,18 @@ fn emit_add(code: &mut CodeBuilder, all: bool) -> Result<(), AllocError>
 #[cycle(emitting)]
 fn emit_gathered(
     code: &mut CodeBuilder,
-    alloc: Global,
+    context: Context,
     whole: &str,
     words: &[Word<'_>],
 ) -> Result<(), AllocError>
     requires some { 0 < length (chars whole.now) }
     requires nests { WordsNest most_levels (map shape_of words.now) }
     requires within { WordsWithin (length (chars whole.now) - 1) (map shape_of words.now) }
-    ensures { OnOk result (Grown (CommandCode (map shape_of words.now)) code.old code.new) }
+    ensures { OnOk result (Grown (CommandCode context.dialect (map shape_of words.now)) code.old code.new) }
 {
     code.emit(Instr::Gather)?;
     'words: for word in words {
-        emit_word(code, alloc, whole, word)?;
+        emit_word(code, context, whole, word)?;
         emit_add(code, word.expands)?;
     }
     code.emit(Instr::CallGathered)
@@ -206,23 +212,23 @@ fn emit_gathered(
 #[cycle(emitting)]
 pub(crate) fn emit_word(
     code: &mut CodeBuilder,
-    alloc: Global,
+    context: Context,
     whole: &str,
     word: &Word<'_>,
 ) -> Result<(), AllocError>
     requires some { 0 < length (chars whole.now) }
     requires nests { PartsNest most_levels (parts_of (shape_of word.now).pieces) }
     requires within { PartsWithin (length (chars whole.now) - 1) (parts_of (shape_of word.now).pieces) }
-    ensures { OnOk result (Grown (WordCode (shape_of word.now).pieces) code.old code.new) }
+    ensures { OnOk result (Grown (WordCode context.dialect (shape_of word.now).pieces) code.old code.new) }
 {
-    emit_pieces(code, alloc, whole, MOST_LEVELS, word.pieces.as_slice())
+    emit_pieces(code, context, whole, MOST_LEVELS, word.pieces.as_slice())
 }
 
-// Pieces, which are joined. Their array indices stand in one another at most `levels` deep.
+// Pieces, which are joined where there isn't only one. Their array indices stand in one another at most `levels` deep.
 #[cycle(emitting)]
 fn emit_pieces(
     code: &mut CodeBuilder,
-    alloc: Global,
+    context: Context,
     whole: &str,
     levels: u32,
     pieces: &[Piece<'_>],
@@ -230,10 +236,13 @@ fn emit_pieces(
     requires some { 0 < length (chars whole.now) }
     requires nests { PartsNest levels (parts_of (map part_of pieces.now)) }
     requires within { PartsWithin (length (chars whole.now) - 1) (parts_of (map part_of pieces.now)) }
-    ensures { OnOk result (Grown (WordCode (map part_of pieces.now)) code.old code.new) }
+    ensures { OnOk result (Grown (WordCode context.dialect (map part_of pieces.now)) code.old code.new) }
 {
+    if pieces.len() == 1 {
+        return emit_piece(code, context, whole, levels, &pieces[0]);
+    }
     'pieces: for piece in pieces {
-        emit_piece(code, alloc, whole, levels, piece)?;
+        emit_piece(code, context, whole, levels, piece)?;
     }
     emit_join(code, pieces.len())
 }
@@ -251,7 +260,7 @@ fn emit_char(code: &mut CodeBuilder, alloc: Global, c: char) -> Result<(), Alloc
 #[cycle(emitting)]
 fn emit_piece(
     code: &mut CodeBuilder,
-    alloc: Global,
+    context: Context,
     whole: &str,
     levels: u32,
     piece: &Piece<'_>,
@@ -259,26 +268,26 @@ fn emit_piece(
     requires some { 0 < length (chars whole.now) }
     requires nests { PartNests levels (part_of piece.now) }
     requires within { PartWithin (length (chars whole.now) - 1) (part_of piece.now) }
-    ensures { OnOk result (Grown (PieceCode (part_of piece.now)) code.old code.new) }
+    ensures { OnOk result (Grown (PieceCode context.dialect (part_of piece.now)) code.old code.new) }
 {
     match piece {
         Piece::Text(span) => code.push(span.text),
-        Piece::Escape(_, c) => emit_char(code, alloc, *c),
+        Piece::Escape(_, c) => emit_char(code, context.alloc, *c),
         Piece::Var(_, name) => code.read(name.text),
         Piece::Elem(_, name, index) => {
-            emit_pieces(code, alloc, whole, levels - 1, index)?;
+            emit_pieces(code, context, whole, levels - 1, index)?;
             code.read_element(name.text)
         }
-        Piece::Bracket(_, script) => emit_deeper(code, alloc, script.text),
+        Piece::Bracket(_, script) => emit_deeper(code, context, script.text),
     }
 }
 
 // A script one deeper.
 #[cycle(emitting)]
-fn emit_deeper(code: &mut CodeBuilder, alloc: Global, text: &str) -> Result<(), AllocError>
-    ensures { OnOk result (Grown (BracketCode (chars text.now)) code.old code.new) }
+fn emit_deeper(code: &mut CodeBuilder, context: Context, text: &str) -> Result<(), AllocError>
+    ensures { OnOk result (Grown (BracketCode context.dialect (chars text.now)) code.old code.new) }
 {
     code.emit(Instr::Enter)?;
-    emit_script(code, alloc, text)?;
+    emit_script(code, context.within(), text)?;
     code.emit(Instr::Leave)
 }

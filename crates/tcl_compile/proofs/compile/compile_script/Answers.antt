@@ -6,7 +6,7 @@ use Rattle.tcl_compile.proofs.Whole.{emitted_valid, emitted_means}
 use Rattle.tcl_compile.proofs.compile.compile_script.Goals as goal
 
 pub finished-requires : goal.finished-requires
-finished-requires c = emitted_valid _ _ (chars c.args.text.now) c.new-code.ensures c.in_ok-emit_script.ensures
+finished-requires c = emitted_valid c.args.dialect _ _ (chars c.args.text.now) c.new-code.ensures (rw c.new.ensures at c.in_ok-emit_script.ensures)
 
 pub returns : goal.returns
-returns c = IfOk-weaker c.finished.result _ _ (λ done e dialect. subst (λ code. Means dialect code (chars c.args.text.now)) (sym e) (emitted_means _ _ (chars c.args.text.now) c.new-code.ensures c.in_ok-emit_script.ensures dialect)) c.finished.ensures
+returns c = IfOk-weaker c.finished.result _ _ (λ done e. subst (λ code. Means c.args.dialect code (chars c.args.text.now)) (sym e) (emitted_means c.args.dialect _ _ (chars c.args.text.now) c.new-code.ensures (rw c.new.ensures at c.in_ok-emit_script.ensures))) c.finished.ensures
