@@ -1,10 +1,10 @@
 //! How scripts end: the budget, the status that they ask for, their options, and the input that they read.
 
+use super::setting::{eval_over, evaluated, fresh, holds};
 use std::alloc::Global;
 use tcl_chan::memory::{MemoryInput, MemoryOutput};
 use tcl_chars::Fault;
 use tcl_interp::Outcome;
-use tcl_setting::{eval_over, evaluated, fresh, holds};
 
 /// Does a script end for want of a unit, with this variable?
 fn stops(alloc: Global, script: &str, budget: u64, name: &str, value: &str) -> Result<bool, Fault> {

@@ -1,12 +1,12 @@
 //! An interpreter whose devices fail.
 
+use super::setting::{eval_over, fresh, holds};
 use std::alloc::{AllocError, Global};
 use tcl_chan::device::{Input, Output};
 use tcl_chan::faulty::{FaultyInput, FaultyOutput};
 use tcl_chan::memory::{MemoryInput, MemoryOutput};
 use tcl_chars::Fault;
 use tcl_interp::{HostFault, Interp, Outcome};
-use tcl_setting::{eval_over, fresh, holds};
 
 /// How a script ends over an output whose first write fails, and how often it failed.
 fn broken(alloc: Global, interp: &mut Interp, script: &str) -> Result<(Outcome, u64), AllocError> {

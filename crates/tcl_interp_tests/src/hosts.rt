@@ -1,9 +1,9 @@
 //! What a host reads and writes.
 
+use super::setting::{evaluated, fresh, holds, is_done, lacks};
 use std::alloc::{AllocError, Global};
 use tcl_chars::Fault;
 use tcl_interp::{HostFault, Interp, VarFault};
-use tcl_setting::{evaluated, fresh, holds, is_done, lacks};
 
 #[test]
 fn a_host_reads_what_it_writes(rt: HostRuntime) -> Result<(), Fault> {

@@ -1,9 +1,9 @@
 //! Many variables, elements and commands, and long texts.
 
+use super::setting::{evaluated, fresh, holds, is_done};
 use std::alloc::{AllocError, Global};
 use tcl_chars::Fault;
 use tcl_interp::{HostFault, HostVar, Interp};
-use tcl_setting::{evaluated, fresh, holds, is_done};
 
 /// Sets a variable and an element of an array by a number.
 fn add(alloc: Global, interp: &mut Interp, number: u32) -> Result<bool, AllocError> {

@@ -13,3 +13,5 @@ mod large;
 mod runs;
 #[cfg(test)]
 mod scripts;
+#[cfg(test)]
+mod setting;

@@ -1,11 +1,11 @@
 //! Whole runs.
 
+use super::setting::{holds, is_done};
 use std::alloc::{AllocError, Global};
 use tcl_chan::device::{Input, Output};
 use tcl_chan::faulty::{FaultyInput, FaultyOutput};
 use tcl_chan::memory::{MemoryInput, MemoryOutput};
 use tcl_interp::{Interp, Outcome, Report, run};
-use tcl_setting::{holds, is_done};
 
 /// Runs a script that writes to both outputs, and tells how it ended and what they hold.
 fn ran(alloc: Global, args: &[&str]) -> Result<(Report, MemoryOutput, MemoryOutput), AllocError> {

@@ -1,8 +1,8 @@
 //! What scripts put out and answer, and what they cost.
 
+use super::setting::{evaluated, fresh, is_done};
 use std::alloc::Global;
 use tcl_chars::Fault;
-use tcl_setting::{evaluated, fresh, is_done};
 
 // A script, and how it ends.
 #[derive(Clone, Copy)]

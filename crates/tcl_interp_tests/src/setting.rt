@@ -1,5 +1,4 @@
-//! What the unit tests of an interpreter share: scripts over devices in memory, and how they ended.
-#![tactic(auto)]
+//! What the tests share.
 
 use std::alloc::{AllocError, Global};
 use tcl_chan::device::{Input, Output};
@@ -9,7 +8,7 @@ use tcl_chars::{Dialect, Fault};
 use tcl_interp::{Config, Interp, Outcome};
 
 /// An interpreter without variables.
-pub fn fresh(alloc: Global) -> Result<Interp, Fault> {
+pub(crate) fn fresh(alloc: Global) -> Result<Interp, Fault> {
     Interp::new(
         alloc,
         Config {
@@ -19,7 +18,7 @@ pub fn fresh(alloc: Global) -> Result<Interp, Fault> {
 }
 
 /// Evaluates a script over the devices.
-pub fn eval_over<R: Input, W: Output, E: Output>(
+pub(crate) fn eval_over<R: Input, W: Output, E: Output>(
     alloc: Global,
     interp: &mut Interp,
     input: &mut R,
@@ -34,14 +33,14 @@ pub fn eval_over<R: Input, W: Output, E: Output>(
 
 /// How a script ended, and what it put out.
 #[derive(Drop)]
-pub struct Ending {
-    pub outcome: Outcome,
-    pub out: MemoryOutput,
-    pub err: MemoryOutput,
+pub(crate) struct Ending {
+    pub(crate) outcome: Outcome,
+    pub(crate) out: MemoryOutput,
+    pub(crate) err: MemoryOutput,
 }
 
 /// Evaluates a script over outputs that take `capacity` bytes each.
-pub fn evaluated(
+pub(crate) fn evaluated(
     alloc: Global,
     interp: &mut Interp,
     capacity: usize,
@@ -58,7 +57,7 @@ pub fn evaluated(
 }
 
 /// Did the script end by itself, with this code, this result or message, and this number of units left?
-pub fn is_done(outcome: &Outcome, want_code: i64, want: &str, want_left: u64) -> bool {
+pub(crate) fn is_done(outcome: &Outcome, want_code: i64, want: &str, want_left: u64) -> bool {
     match outcome {
         Outcome::Done {
             code,
@@ -71,7 +70,7 @@ pub fn is_done(outcome: &Outcome, want_code: i64, want: &str, want_left: u64) ->
 }
 
 /// Is this the variable's text, as the host is told it?
-pub fn holds(interp: &mut Interp, name: &str, want: &str) -> bool {
+pub(crate) fn holds(interp: &mut Interp, name: &str, want: &str) -> bool {
     match interp.var(name) {
         Ok(Some(text)) => text.as_str() == want,
         _ => false,
@@ -79,6 +78,6 @@ pub fn holds(interp: &mut Interp, name: &str, want: &str) -> bool {
 }
 
 /// Is the host told of no such variable?
-pub fn lacks(interp: &mut Interp, name: &str) -> bool {
+pub(crate) fn lacks(interp: &mut Interp, name: &str) -> bool {
     matches!(interp.var(name), Ok(None))
 }
