@@ -6,8 +6,10 @@ mod Joining
 mod Lending
 mod Lifting
 mod Operators
+mod Passing
 mod Resuming
 mod Spelling
 mod Stepping
 mod Straight
+mod Taking
 mod Topics

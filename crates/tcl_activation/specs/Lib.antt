@@ -3,6 +3,7 @@ pub mod PileLent
 pub mod Called
 pub mod Saved
 pub mod Loops
+pub mod Passing
 pub mod WordsLent
 pub mod Moves
 pub mod Changing

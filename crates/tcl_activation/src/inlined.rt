@@ -1,5 +1,5 @@
 //! Instructions of inlined commands, and of loops among them.
-ghost use Rattle.std.specs.Prelude.{◌≡◌, ◌≤◌, ◌<◌, ◌+◌, ◌^◌, length, IfSome, OnOk};
+ghost use Rattle.std.specs.Prelude.{◌≡◌, ◌≤◌, ◌<◌, ◌+◌, ◌^◌, drop, length, IfSome, OnOk};
 ghost use Rattle.tcl_activation.specs.Changing.{ChangesBy, changing};
 ghost use Rattle.tcl_activation.specs.Loops.{Closes, opened};
 ghost use Rattle.tcl_activation.specs.Moves.{Goes};
@@ -45,17 +45,19 @@ impl Stack {
         self.results.replace(last);
         self.depth -= 1;
     }
+
     /// A loop's body begins, one deeper. It owns none of what stands there, which comes back when the loop goes on, at `at` or
-    /// one further.
-    pub fn open(&mut self, alloc: Global, at: usize) -> Result<(), AllocError>
+    /// one further. Where `passes` is true, `continue` passes the loop.
+    pub fn open(&mut self, alloc: Global, at: usize, passes: bool) -> Result<(), AllocError>
         requires place { at + 1 < 2 ^ 64 }
         requires depth { self.old.depth < 1000 }
-        ensures { OnOk result (self.new ≡ opened at self.old) }
+        ensures { OnOk result (self.new ≡ opened at passes self.old) }
     {
         let depth = self.depth;
         self.loops.open(
             alloc,
             at,
+            passes,
             depth,
             &mut self.texts,
             &mut self.lists,
@@ -78,5 +80,14 @@ impl Stack {
             .close(&mut self.texts, &mut self.lists, &mut self.results);
         self.depth = depth;
         Some(at)
+    }
+
+    /// Closes the newest `count` loops, or all if there are no more.
+    pub fn close_newest(&mut self, count: usize)
+        ensures { self.new.loops ≡ drop count self.old.loops }
+    {
+        for _ in 0..count {
+            self.close();
+        }
     }
 }

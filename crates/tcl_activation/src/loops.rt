@@ -1,5 +1,6 @@
 //! Loops whose bodies run.
-ghost use Rattle.std.specs.Prelude.{◌≡◌, ◌≤◌, ◌<◌, ◌+◌, ◌^◌, [], ◌∷◌, true, false, length, take, OnOk};
+ghost use Rattle.std.specs.Prelude.{◌≡◌, ◌≤◌, ◌<◌, ◌+◌, ◌^◌, Bool, [], ◌∷◌, true, false, length, reverse, take, OnOk};
+ghost use Rattle.tcl_activation.specs.Passing.{Passes};
 ghost use Rattle.tcl_activation.specs.Saved.{loop_of};
 ghost use Rattle.tcl_meaning.specs.Completions.{nothing};
 
@@ -44,6 +45,19 @@ fn provide(items: &mut Vec<OpenLoop>, alloc: Global, count: usize) -> Result<(),
     Ok(())
 }
 
+// How many of the last in a row `continue` passes, if it doesn't pass all.
+fn passed(open: &[OpenLoop]) -> Option<usize>
+    ensures { Passes result (reverse open.now) }
+{
+    let count = open.len();
+    for behind in 0..count {
+        if !open[count - 1 - behind].passes() {
+            return Some(behind);
+        }
+    }
+    None
+}
+
 impl Loops {
     /// None yet.
     pub fn new(alloc: Global) -> Loops
@@ -63,25 +77,33 @@ impl Loops {
         self.open == 0
     }
 
+    /// How many of the newest in a row `continue` passes, if it doesn't pass all.
+    pub fn passed(&self) -> Option<usize>
+        ensures { Passes result self.now }
+    {
+        passed(&self.items[..self.open])
+    }
+
     /// One more is open, and saves these. In their place comes what its body begins with.
     pub fn open(
         &mut self,
         alloc: Global,
         at: usize,
+        passes: bool,
         depth: u32,
         texts: &mut Pile<Value>,
         lists: &mut Pile<Words>,
         results: &mut Results,
     ) -> Result<(), AllocError>
         requires { at + 1 < 2 ^ 64 }
-        ensures saved { OnOk result (self.new ≡ loop_of at texts.old lists.old results.old depth ∷ self.old) }
+        ensures saved { OnOk result (self.new ≡ loop_of at passes texts.old lists.old results.old depth ∷ self.old) }
         ensures texts { OnOk result (texts.new ≡ []) }
         ensures lists { OnOk result (lists.new ≡ []) }
         ensures results { OnOk result (results.new ≡ nothing ∷ []) }
     {
         let open = self.open;
         provide(&mut self.items, alloc, open)?;
-        self.items[open].save(at, depth, texts, lists, results);
+        self.items[open].save(at, passes, depth, texts, lists, results);
         self.open = open + 1;
         Ok(())
     }
@@ -94,7 +116,7 @@ impl Loops {
         results: &mut Results,
     ) -> (usize, u32)
         requires { 1 ≤ length self.old }
-        ensures saved { self.old ≡ loop_of result.0 texts.new lists.new results.new result.1 ∷ self.new }
+        ensures saved { (passes : Bool) × (self.old ≡ loop_of result.0 passes texts.new lists.new results.new result.1 ∷ self.new) }
         ensures place { result.0 + 1 < 2 ^ 64 }
     {
         let newest = self.open - 1;

@@ -11,10 +11,12 @@ use std::marker::Model;
 use std::mem;
 use tcl_values::Value;
 
-/// A loop whose body runs: where the code goes on after `break`, one further after `continue`, and what stands there then.
+/// A loop whose body runs: where the code goes on after `break`, one further where the body ends; whether `continue`
+/// passes it, or goes on there too; and what stands there then.
 #[derive(Drop)]
 pub struct OpenLoop {
     at: usize,
+    passes: bool,
     texts: Pile<Value>,
     lists: Pile<Words>,
     results: Results,
@@ -28,7 +30,7 @@ impl Model for OpenLoop {
 
     ghost Value = { Loop };
 
-    ghost view = { λ o. loop_of o.at o.texts o.lists o.results o.depth };
+    ghost view = { λ o. loop_of o.at o.passes o.texts o.lists o.results o.depth };
 
     ghost invariant = { λ o. o.at + 1 < 2 ^ 64 };
 }
@@ -38,6 +40,7 @@ impl OpenLoop {
     pub(crate) fn unused(alloc: Global) -> OpenLoop {
         OpenLoop {
             at: 0,
+            passes: false,
             texts: Pile::new(alloc),
             lists: Pile::new(alloc),
             results: Results::new(alloc),
@@ -49,18 +52,20 @@ impl OpenLoop {
     pub(crate) fn save(
         &mut self,
         at: usize,
+        passes: bool,
         depth: u32,
         texts: &mut Pile<Value>,
         lists: &mut Pile<Words>,
         results: &mut Results,
     )
         requires { at + 1 < 2 ^ 64 }
-        ensures saved { self.new ≡ loop_of at texts.old lists.old results.old depth }
+        ensures saved { self.new ≡ loop_of at passes texts.old lists.old results.old depth }
         ensures texts { texts.new ≡ [] }
         ensures lists { lists.new ≡ [] }
         ensures results { results.new ≡ nothing ∷ [] }
     {
         self.at = at;
+        self.passes = passes;
         self.depth = depth;
         self.texts.clear();
         self.lists.clear();
@@ -70,6 +75,13 @@ impl OpenLoop {
         mem::swap(&mut self.results, results);
     }
 
+    /// Does `continue` pass it?
+    pub(crate) fn passes(&self) -> bool
+        ensures { result ≡ self.now.passes }
+    {
+        self.passes
+    }
+
     /// Puts back what it has saved, and answers its place and its depth. What stood there instead is let go, all but its room.
     pub(crate) fn restore(
         &mut self,
@@ -77,7 +89,7 @@ impl OpenLoop {
         lists: &mut Pile<Words>,
         results: &mut Results,
     ) -> (usize, u32)
-        ensures saved { self.old ≡ loop_of result.0 texts.new lists.new results.new result.1 }
+        ensures saved { self.old ≡ loop_of result.0 self.old.passes texts.new lists.new results.new result.1 }
         ensures place { result.0 + 1 < 2 ^ 64 }
     {
         mem::swap(&mut self.texts, texts);

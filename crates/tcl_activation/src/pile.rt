@@ -64,6 +64,15 @@ impl<T: Drop> Pile<T> {
         }
     }
 
+    /// What lies on top.
+    #[inline(always)]
+    pub fn newest(&self) -> &T
+        requires { 1 ≤ length self.now }
+        ensures { self.now ≡ result.now ∷ drop 1 self.now }
+    {
+        &self.items[self.items.len() - 1]
+    }
+
     /// All is let go.
     pub fn clear(&mut self)
         ensures { self.new ≡ [] }

@@ -1,5 +1,5 @@
 //! What stands where a code runs.
-ghost use Rattle.std.specs.Prelude.{◌≡◌, [], ◌∷◌, ◌++◌, ◌≤◌, Some, length, IfOk, OnOk};
+ghost use Rattle.std.specs.Prelude.{◌≡◌, [], ◌∷◌, ◌++◌, ◌≤◌, Some, true, false, length, IfOk, OnOk};
 ghost use Rattle.tcl_code.specs.Machine.{taken};
 
 use crate::loops::Loops;
@@ -7,20 +7,26 @@ use crate::pile::Pile;
 use crate::results::Results;
 use std::alloc::{AllocError, Global};
 use std::marker::Model;
+use std::mem;
+use tcl_chars::message;
 use tcl_values::Value;
 
-/// Words that are gathered for a command.
+/// Words that are gathered for a command, or to be taken one after the other. Contracts see those that weren't taken.
 #[derive(Drop)]
 pub struct Words {
-    pub(crate) items: Vec<Value>,
+    items: Vec<Value>,
+    // How many of them were taken.
+    taken: usize,
 }
 
 impl Model for Words {
-    ghost use Rattle.std.specs.Prelude.{List, ℕ};
+    ghost use Rattle.std.specs.Prelude.{◌≤◌, List, drop, length, ℕ};
 
     ghost Value = { List (List ℕ) };
 
-    ghost view = { λ w. w.items.items };
+    ghost view = { λ w. drop w.taken w.items.items };
+
+    ghost invariant = { λ w. w.taken ≤ length w.items.items };
 }
 
 impl Words {
@@ -30,7 +36,17 @@ impl Words {
     {
         Words {
             items: Vec::new(alloc),
+            taken: 0,
         }
+    }
+
+    /// Is there no word?
+    #[inline(always)]
+    pub fn is_empty(&self) -> bool
+        ensures is { result ≡ true → self.now ≡ [] }
+        ensures other { result ≡ false → 1 ≤ length self.now }
+    {
+        self.taken == self.items.len()
     }
 
     /// One more word.
@@ -48,11 +64,32 @@ impl Words {
         self.items.append(words)
     }
 
+    /// The first word is taken away; where there is none, an empty text stands for it.
+    #[inline(always)]
+    pub fn take_first(&mut self, alloc: Global) -> Result<Value, AllocError>
+        ensures some { IfOk result (λ word. 1 ≤ length self.old → self.old ≡ word ∷ self.new) }
+        ensures none { IfOk result (λ word. self.old ≡ [] → (word ≡ []) × (self.new ≡ [])) }
+    {
+        let taken = self.taken;
+        if taken == self.items.len() {
+            let text = message(alloc, "")?;
+            return Ok(Value::of_text(text));
+        }
+        self.taken = taken + 1;
+        Ok(mem::replace(&mut self.items[taken], Value::of_int(0)))
+    }
+
     /// The words.
     pub fn into_words(self) -> Vec<Value>
         ensures { result.items ≡ self }
     {
-        self.items
+        let mut words = self.items;
+        if self.taken > 0 {
+            let left = words.len() - self.taken;
+            words.rotate_left(self.taken);
+            words.truncate(left);
+        }
+        words
     }
 }
 

@@ -1,7 +1,7 @@
 //! Instructions of ways through a code, and its end.
 ghost use Rattle.std.specs.Prelude.{◌≡◌, ◌≤◌, ℕ, None, length, IfOk};
 ghost use Rattle.tcl_activation.specs.Moves.{here};
-ghost use Rattle.tcl_activation.specs.Turnings.{Leads, Spends};
+ghost use Rattle.tcl_activation.specs.Turnings.{Leads, LeadsPast, Spends};
 ghost use Rattle.tcl_chars.specs.declared.numbers.Dialect.{Dialect};
 ghost use Rattle.tcl_code.specs.Machine.{Ends};
 ghost use Rattle.tcl_meaning.specs.Effects.{Gives};
@@ -56,6 +56,15 @@ impl Stack {
             Err(Fault::Error(message)) => Ok(Way::Over(Completion::failure(alloc, message))),
             Err(Fault::Memory) => Err(AllocError),
         }
+    }
+
+    /// Has the newest list no word? The code goes on past some instructions where it has none.
+    #[inline(always)]
+    pub fn skips(&self) -> bool
+        requires { 1 ≤ length self.now.lists }
+        ensures { LeadsPast result self.now }
+    {
+        self.lists.newest().is_empty()
     }
 
     /// Where the code ends, how its script's last command has ended.

@@ -1,6 +1,6 @@
 -- One run has one end.
 use Rattle.std.proofs.Common.{◌≡◌, ℕ, zero, suc, ◌≤◌, List, [], ◌∷◌, sym, ◌∙◌, arith, ⊎_elim, refl}
-use Rattle.std.specs.Prelude.{slice_get, ◌⊎◌}
+use Rattle.std.specs.Prelude.{Bool, true, false, slice_get, if◌then◌else◌, ◌⊎◌}
 use mathlib.Core.Logic.{inl, inr}
 use Rattle.std.proofs.lemmas.Bool.{cases_lt}
 use Rattle.tcl_chars.specs.declared.numbers.Dialect.{Dialect}
@@ -21,10 +21,14 @@ IsLonger r s = (r ≡ Unfinished) ⊎ (r ≡ s)
 abbrev Extends : Next → Next → Type 0
 Extends f g = (p : Spot) (s : State) → IsLonger (f p s) (g p s)
 
+longer_if : (b : Bool) {r s r' s' : Outcome} → IsLonger r s → IsLonger r' s' → IsLonger (if b then r else r') (if b then s else s')
+longer_if true h k = h
+longer_if false h k = k
+
 thrown_extends : (f g : Next) → Extends f g → (os : List Loop) (k : Code) (c : Completion) (s : State) → IsLonger (thrown_by f os k c s) (thrown_by g os k c s)
 thrown_extends f g h [] k c s = inr refl
 thrown_extends f g h (o ∷ os) code.Break c s = h _ s
-thrown_extends f g h (o ∷ os) code.Continue c s = h _ s
+thrown_extends f g h (o ∷ os) code.Continue c s = longer_if o.passes (thrown_extends f g h os code.Continue c s) (h _ s)
 thrown_extends f g h (o ∷ os) code.Ok c s = inr refl
 thrown_extends f g h (o ∷ os) code.Error c s = inr refl
 thrown_extends f g h (o ∷ os) code.Return c s = inr refl

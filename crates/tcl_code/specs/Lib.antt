@@ -9,4 +9,5 @@ pub mod Parts
 pub mod Running
 pub mod Search
 pub mod Shown
+pub mod Turns
 pub mod Valid

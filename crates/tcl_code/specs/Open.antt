@@ -14,7 +14,7 @@ pub record IsShaped (ts : Texts) (ls : List Texts) (rs : List Completion) (d : �
   pub results : length rs ≡ s.depth + 1
   pub brackets : s.depth ≤ d
 
--- Ways come to where the code goes on after `break` and after `continue`, with the shape of what the loop has saved.
+-- Ways come to where the code goes on after `break` and where the body ends, with the shape of what the loop has saved.
 pub record LoopFits (code : List Instruction) (o : Loop) (s : Shape) : Type 0 where
   pub breaks : Comes code o.at s
   pub continues : Comes code (o.at + 1) s

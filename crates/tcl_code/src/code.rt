@@ -2,6 +2,7 @@
 
 ghost use Rattle.std.specs.Prelude.{◌≡◌, ◌<◌, IfSome, Some, length, option_map, slice_get};
 ghost use Rattle.tcl_code.specs.Shown.{IsKnown, shown, shown_by};
+ghost use Rattle.tcl_code.specs.Turns.{turns_of};
 ghost use Rattle.tcl_code.specs.Valid.{Covers, Valid};
 
 use crate::instr::Instr;
@@ -41,6 +42,16 @@ impl Code {
         ensures { result ≡ length self.now.instrs }
     {
         self.instrs.len()
+    }
+
+    /// How many turns back there are: one for each loop that is inlined.
+    pub fn turns(&self) -> usize
+        ensures { result ≡ turns_of (shown_by self.now) }
+    {
+        self.instrs
+            .iter()
+            .filter(|instr| matches!(instr, Instr::Turn(_)))
+            .count()
     }
 
     /// The most texts, lists of words and brackets that are ever there, so that room can be made for them at once.

@@ -134,7 +134,7 @@ impl Shape {
         ensures { IfOk result (λ s. s ≡ left_by (shown [] instr) self) }
     {
         match instr {
-            Instr::Push(_) | Instr::Read(_) => self.with_texts(0, 1),
+            Instr::Push(_) | Instr::Read(_) | Instr::TakeFirst => self.with_texts(0, 1),
             Instr::ReadElement(_) | Instr::Unary(_) | Instr::Truth | Instr::Final => {
                 self.with_texts(1, 1)
             }
@@ -151,10 +151,15 @@ impl Shape {
             | Instr::Skip(_)
             | Instr::Turn(_)
             | Instr::Guard(_, _)
-            | Instr::Body(_)
+            | Instr::SkipEmpty(_)
+            | Instr::Body(_, _)
             | Instr::Again
             | Instr::Break
             | Instr::Continue => Ok(self),
+            Instr::DropList => Ok(Shape {
+                lists: self.lists.saturating_sub(1),
+                ..self
+            }),
             Instr::Become => Ok(Shape {
                 depth: self.depth.saturating_sub(1),
                 ..self
@@ -202,9 +207,10 @@ impl Shape {
             | Instr::Raise(_)
             | Instr::Skip(_)
             | Instr::Turn(_)
-            | Instr::Body(_)
+            | Instr::Body(_, _)
             | Instr::Break
             | Instr::Continue => true,
+            Instr::TakeFirst | Instr::SkipEmpty(_) | Instr::DropList => self.lists >= 1,
             Instr::Guard(_, _) => self.paid >= 1,
             Instr::Again => self.loops >= 1 && self.has_nothing(),
             Instr::ReadElement(_)
@@ -233,10 +239,10 @@ pub(crate) fn stays_inside(place: usize, count: usize, instr: Instr) -> bool
     ensures { IsTrue result ↔ StaysInside place count (shown [] instr) }
 {
     match instr {
-        Instr::Skip(n) | Instr::SkipWhen(_, n) | Instr::Guard(_, n) => {
+        Instr::Skip(n) | Instr::SkipWhen(_, n) | Instr::SkipEmpty(n) | Instr::Guard(_, n) => {
             count - place - 1 >= n as usize
         }
-        Instr::Body(n) => count - place - 1 > n as usize,
+        Instr::Body(_, n) => count - place - 1 > n as usize,
         Instr::Turn(n) => place >= n as usize,
         _ => true,
     }
@@ -258,11 +264,11 @@ pub(crate) fn leads_to(place: usize, count: usize, instr: Instr) -> Reached
             first: Some(next + n as usize),
             second: None,
         },
-        Instr::SkipWhen(_, n) => Reached {
+        Instr::SkipWhen(_, n) | Instr::SkipEmpty(n) => Reached {
             first: Some(next),
             second: Some(next + n as usize),
         },
-        Instr::Body(n) => Reached {
+        Instr::Body(_, n) => Reached {
             first: Some(next + n as usize),
             second: Some(next + n as usize + 1),
         },
@@ -284,7 +290,7 @@ pub(crate) fn inner_at(place: usize, count: usize, instr: Instr) -> Option<usize
     ensures inside { IfSome result (λ p. p ≤ count) }
 {
     match instr {
-        Instr::Guard(_, _) | Instr::Body(_) => Some(place + 1),
+        Instr::Guard(_, _) | Instr::Body(_, _) => Some(place + 1),
         _ => None,
     }
 }

@@ -55,17 +55,17 @@ module _ (dialect : Dialect) where
   abbrev judging : Answer Bool → Asks → Asks → Asks
   judging a go stay = judged a >>= λ b. ask_if b go stay
 
-  pub test_stops : (d n : ℕ) (go stay : Asks) (c : Completion) (u : State) → (code_now c ≡ ending.Ok → ⊥) → exec (Run dialect) (asking dialect n (if_true dialect c go stay) d) u ≡ Gives c u
+  pub ok_stops : (d n : ℕ) (go : Asks) (k : Code) (c : Completion) (u : State) → (k ≡ ending.Ok → ⊥) → exec (Run dialect) (asking dialect n (if_ok k c go) d) u ≡ Gives c u
   unfolding answered
-  test_stops d n go stay c u h = by_code (code_now c) h
-    where
-      by_code : (k : Code) → (k ≡ ending.Ok → ⊥) → exec (Run dialect) (asking dialect n (if_ok k c (judging (truth_value dialect c.result) go stay)) d) u ≡ Gives c u
-      by_code ending.Ok h = absurd (h refl)
-      by_code ending.Error h = refl
-      by_code ending.Return h = refl
-      by_code ending.Break h = refl
-      by_code ending.Continue h = refl
-      by_code (ending.Other z) h = refl
+  ok_stops d n go ending.Ok c u h = absurd (h refl)
+  ok_stops d n go ending.Error c u h = refl
+  ok_stops d n go ending.Return c u h = refl
+  ok_stops d n go ending.Break c u h = refl
+  ok_stops d n go ending.Continue c u h = refl
+  ok_stops d n go (ending.Other z) c u h = refl
+
+  pub test_stops : (d n : ℕ) (go stay : Asks) (c : Completion) (u : State) → (code_now c ≡ ending.Ok → ⊥) → exec (Run dialect) (asking dialect n (if_true dialect c go stay) d) u ≡ Gives c u
+  test_stops d n go stay c u h = ok_stops d n (judging (truth_value dialect c.result) go stay) (code_now c) c u h
 
   -- the text of a condition is there: on where it is true, past so many where it isn't
   module _ (code : List Instruction) {r : Completion → Spot} (at n m d : ℕ) (stack : Stack) (go stay : Asks) (h : slice_get code at ≡ Some (SkipWhen false n)) where
@@ -114,17 +114,26 @@ module _ (dialect : Dialect) where
   unfolding answered
   evaluated_is n d test owes s = exec_bind (Run dialect) (expression dialect d test) (λ v. asking dialect n (owed dialect owes (completed v)) d) s
 
+  pub condition_is : (n : ℕ) (test : Text) (owes : Owes) (go stay : Asks) → ((c : Completion) → owed dialect owes c ≡ if_true dialect c go stay) → (d : ℕ) (s : State)
+      → exec (Run dialect) (asking dialect (suc n) (ask (Evaluate test owes)) d) s ≡ on_got (exec (Run dialect) (expression dialect d test) s) (λ v u. exec (Run dialect) (asking dialect n (if_true dialect (completed v) go stay) d) u)
+  condition_is n test owes go stay owe d s =
+      evaluated_is n d test owes s
+      ∙ on_got_same (exec (Run dialect) (expression dialect d test) s) (λ v u. exec (Run dialect) (asking dialect n (owed dialect owes (completed v)) d) u) (λ v u. exec (Run dialect) (asking dialect n (if_true dialect (completed v) go stay) d) u) (λ v u. ap (λ pg. exec (Run dialect) (asking dialect n pg d) u) (owe (completed v)))
+
   -- ---- a body, one deeper
 
   pub ran_is : (n d : ℕ) (body : Text) (owes : Owes) (s : State) → exec (Run dialect) (answered dialect (owed dialect) d (suc n) (Runs_script Here body owes)) s ≡ on_got (Run dialect (inside d body) s) (λ c u. exec (Run dialect) (asking dialect n (owed dialect owes c) d) u)
   unfolding answered
   ran_is n d body owes s = refl
 
-  body_is : (n d : ℕ) (body : Text) (s : State) → exec (Run dialect) (asking dialect (suc n) (ask (Runs_script Here body Nothing)) d) s ≡ Run dialect (Script (suc d) nothing body) s
-  unfolding answered owed
-  body_is n d body s =
+  pub ran_deeper : (n d : ℕ) (body : Text) (owes : Owes) (s : State) → exec (Run dialect) (answered dialect (owed dialect) d (suc n) (Runs_script Here body owes)) s ≡ on_got (Run dialect (Script (suc d) nothing body) s) (λ c u. exec (Run dialect) (asking dialect n (owed dialect owes c) d) u)
+  ran_deeper n d body owes s =
       let e : d + 1 ≡ suc d = omega arith in
-      ap (λ m. on_got (Run dialect (Script m nothing body) s) (λ c u. Gives c u)) e ∙ on_got_give (Run dialect (Script (suc d) nothing body) s)
+      ran_is n d body owes s ∙ ap (λ m. on_got (Run dialect (Script m nothing body) s) (λ c u. exec (Run dialect) (asking dialect n (owed dialect owes c) d) u)) e
+
+  pub body_is : (n d : ℕ) (body : Text) (s : State) → exec (Run dialect) (asking dialect (suc n) (ask (Runs_script Here body Nothing)) d) s ≡ Run dialect (Script (suc d) nothing body) s
+  unfolding answered owed
+  body_is n d body s = ran_deeper n d body Nothing s ∙ on_got_give (Run dialect (Script (suc d) nothing body) s)
 
   pub body_makes : (n : ℕ) (body : Text) (b : List Instruction) → Follows dialect b body → Makes dialect (body_code b) (asking dialect (suc n) (ask (Runs_script Here body Nothing)))
   body_makes n body b f = record { from = λ code at last stack d s has. same_done dialect code (sym (body_is n d body s)) (⊎_elim (deep code at last stack d s has) (shallow code at last stack d s has) (cases_lt most_depth (suc d))); keeps = fits }
@@ -159,7 +168,7 @@ module _ (dialect : Dialect) where
         let m : at + length t + 1 + length e + 1 ≡ at + length t + 1 + (length e + 1) = omega arith in
         let whole = length-append t (fork (SkipWhen false (length e + 1)) e g) in
         let inner = length-append e (Skip (length g) ∷ g) in
-        same_done dialect code (sym (asked_is d s))
+        same_done dialect code (sym (condition_is n test owes go stay owe d s))
         (tested code (λ c u. exec (Run dialect) (asking dialect n (if_true dialect c go stay) d) u) (λ c u h. test_stops d n go stay c u h) (exec (Run dialect) (expression dialect d test) s) ((expression_fails d test).fails s)
         (x.from code at (with_result last stack) d s (has_front code at t (fork (SkipWhen false (length e + 1)) e g) has))
         (λ v u k. forks code (at + length t) (length e + 1) n d (with_result last stack) go stay back.0 v u
@@ -171,9 +180,6 @@ module _ (dialect : Dialect) where
         (on_fits (SkipWhen false (length e + 1)) e g (shape (h + 1) l d p o) (shape h l d p o) (shape h l d p o) (shape h l d p o) (y.keeps h l d p o) (z.keeps h l d p o) (omega arith)
         (ap (λ i. (Ahead 0, shape i l d p o) ∷ (Ahead (length e + 1), shape i l d p o) ∷ []) (omega arith)));
   }
-    where
-      asked_is : (d : ℕ) (s : State) → exec (Run dialect) (asking dialect (suc n) (ask (Evaluate test owes)) d) s ≡ on_got (exec (Run dialect) (expression dialect d test) s) (λ v u. exec (Run dialect) (asking dialect n (if_true dialect (completed v) go stay) d) u)
-      asked_is d s = evaluated_is n d test owes s ∙ on_got_same (exec (Run dialect) (expression dialect d test) s) (λ v u. exec (Run dialect) (asking dialect n (owed dialect owes (completed v)) d) u) (λ v u. exec (Run dialect) (asking dialect n (if_true dialect (completed v) go stay) d) u) (λ v u. ap (λ pg. exec (Run dialect) (asking dialect n pg d) u) (owe (completed v)))
 
   pub if_owes : (body : Text) (cs : List (Text × Text)) (o : Option Text) (c : Completion) → owed dialect (IfTest body (record { clauses = cs; otherwise = o })) c ≡ if_true dialect c (ask (Runs_script Here body Nothing)) (next_clause cs o)
   unfolding owed

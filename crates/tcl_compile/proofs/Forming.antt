@@ -89,7 +89,7 @@ piece_short n (var x name) t e h = absurd e
 piece_short n (elem_ x name ps) t e h = absurd e
 piece_short n (bracket x script) t e h = absurd e
 
-pieces_short : (n : ℕ) (ps : List Part) (t : Text) → AreVerbatim ps t → PiecesAreShort n ps → length t ≤ n
+pub pieces_short : (n : ℕ) (ps : List Part) (t : Text) → AreVerbatim ps t → PiecesAreShort n ps → length t ≤ n
 pieces_short n [] t e h = omega (arith, ap length e)
 pieces_short n (p ∷ []) t e h = piece_short n p t e h.0
 pieces_short n (p ∷ q ∷ ps) t e h = absurd e
@@ -111,6 +111,7 @@ are_short n (form.Increment name) ts e h = tt
 are_short n (form.Expr t) ts e h = (subst (TextsAreShort n) e h).0
 are_short n (form.If clauses otherwise) ts e h = let a = shape_short n ts (others (map clause_of clauses.items) (option_map (λ t. chars t.now) otherwise)) h e.0 in (e.1, a.0, a.1)
 are_short n (form.While test body) ts e h = let a = subst (TextsAreShort n) e h in (a.0, a.1.0)
+are_short n (form.For w) ts e h = let a = subst (TextsAreShort n) e h in (a.0, a.1.0, a.1.1.0, a.1.1.1.0)
 
 pub form_short : (n : ℕ) (f : Form) (ws : List Shape) → HasForm f ws → ArgumentsAreShort n ws → FormIsShort n f
 form_short n f ws h k = are_short n f h.0 h.2 (arguments_short n (name_of (command_of f)) ws h.0 h.1 k)

@@ -1,5 +1,5 @@
 -- The commands that are inlined, but for loops.
-use Rattle.std.proofs.Common.{◌≡◌, ℕ, suc, ◌+◌, ◌-◌, Bool, true, false, cond, List, [], ◌∷◌, ◌++◌, length, None, Option, Some, refl, sym, ap, ◌∙◌, subst, arith, length-append}
+use Rattle.std.proofs.Common.{◌≡◌, ℕ, suc, ◌+◌, ◌-◌, false, List, [], ◌∷◌, ◌++◌, length, None, Option, Some, refl, sym, ap, ◌∙◌, subst, arith, length-append}
 use Rattle.tcl_chars.specs.declared.numbers.Dialect.{Dialect}
 use Rattle.tcl_chars.specs.Texts.{literal}
 use Rattle.tcl_pages.specs.Texts.{Text}
@@ -27,8 +27,8 @@ use Rattle.tcl_meaning.proofs.Runs.{exec_bind}
 use Rattle.tcl_meaning.proofs.Plain.{plainly_does}
 use Rattle.tcl_code.specs.declared.inlined.Inlined.{Inlined}
 use Rattle.tcl_code.specs.declared.inlined.Inlined.TheVariants as inlined
-use Rattle.tcl_code.specs.Guards.{name_of, stands}
-use Rattle.tcl_code.specs.Instructions.{Instruction, Push, Call, Guard, Under, Write, Bump, Skip, Break, Continue, Answer as AnswerTop}
+use Rattle.tcl_code.specs.Guards.{name_of}
+use Rattle.tcl_code.specs.Instructions.{Instruction, Push, Call, Guard, Under, Write, Bump, Break, Continue, Answer as AnswerTop}
 use Rattle.tcl_code.specs.Machine as M
 use Rattle.tcl_code.specs.Machine.{Loop, Next, Spot, Stack, spot, with_text, with_result, result_at, on_page, on_code, landed, landed_by, follow}
 use Rattle.tcl_code.specs.Parts.{HasAt, Fits, Lands, Does, Runs}
@@ -39,12 +39,11 @@ use Rattle.tcl_code.proofs.Steps.{same, one_done, final_done, here_done, moved_d
 use Rattle.tcl_compile.specs.Forms.{page_does, ClausesCode}
 use Rattle.tcl_compile.specs.Inlining.{Says, AllSay, Makes, asking}
 use Rattle.tcl_compile.proofs.Commands.{words_one, command_is, calls_end, calls_next, command_does}
-use Rattle.tcl_compile.proofs.Guarded.{fork, past_fits, further, said_next, command_said, invoked_stands, guarded, guarded_runs}
-use Rattle.tcl_compile.proofs.Failing.{finishing, pieces_fail, then_done, landed_stops}
-use Rattle.tcl_compile.specs.Fragments.{Calls, Follows}
+use Rattle.tcl_compile.proofs.Guarded.{fork, said_next, command_said, guarded, guarded_runs, word_runs}
+use Rattle.tcl_compile.proofs.Failing.{finishing, landed_stops}
+use Rattle.tcl_compile.specs.Fragments.{Calls}
 use Rattle.tcl_compile.proofs.Pieces.{push_does}
 use Rattle.tcl_compile.proofs.Conditions.{tested, evaluated_is, expression_fails}
-use Rattle.tcl_compile.proofs.Looping.{loop_code, while_makes}
 
 -- a page is over at once
 abbrev IsOver : Got (Value Step) → Type 0
@@ -197,39 +196,23 @@ module _ (dialect : Dialect) where
 
   pub update_runs : (p : Inlined) (name : Text) (i : Instruction) (w0 w1 w : Shape) (c : List Instruction) → Says w0 (name_of p) → Says w1 name → w.expands ≡ false → Changing p name i → ((h l d q o : ℕ) → Fits (i ∷ []) (shape (h + 1) l d q o) (shape h l d q o)) → Does dialect c (λ d. pieces_text d w.pieces)
       → Runs dialect (update_code p name i c) (λ d. run_command dialect d (w0 ∷ w1 ∷ w ∷ []))
-  update_runs p name i w0 w1 w c x0 x1 one ch fits f = record {
-    from = λ code at last stack d s has.
-        same_done dialect code (sym (update_is p name w0 w1 w d s x0 x1 one))
-        (then_done dialect code (pieces_text d w.pieces) (λ t. page_in dialect d (invoked dialect (name_of p ∷ name ∷ t ∷ []))) (pieces_fail dialect d w.pieces) (f.from code at (with_result last stack) d s (has_front code at c (fork (Guard p 2) (i ∷ []) (general p name)) has))
-        (λ t u. moved_done dialect code (omega (arith, length-append c (fork (Guard p 2) (i ∷ []) (general p name))))
-        (go code (at + length c) t last stack d u (has_back code at c (fork (Guard p 2) (i ∷ []) (general p name)) has) (stands p u.store) refl)));
-    pays = λ h l d q o.
-        fits_joined c (fork (Guard p 2) (i ∷ []) (general p name)) (shape h l d (q + 1) o) (shape (h + 1) l d (q + 1) o) (shape h l d q o) (f.adds h l d (q + 1) o)
-        (past_fits (Guard p 2) (i ∷ []) (general p name) (shape (h + 1) l d (q + 1) o) (shape (h + 1) l d q o) (shape (h + 1) l d (q + 1) o) (shape h l d q o) (fits h l d q o) (called h l d q o) (omega arith)
-        (ap (λ n. (Ahead 2, shape (h + 1) l d (q + 1) o) ∷ (Ahead 0, shape (h + 1) l d n o) ∷ []) (omega arith)));
-  }
+  update_runs p name i w0 w1 w c x0 x1 one ch fits f =
+      word_runs dialect p (λ t. name ∷ t ∷ []) (w0 ∷ w1 ∷ w ∷ []) w c (i ∷ []) (general p name) (λ d s. update_is p name w0 w1 w d s x0 x1 one) f
+      (record { from = λ code at t last stack d s has. ch code at t last stack d s has; fits = λ h l d q o. fits h l d (q + 0) o })
+      (record { from = called; fits = fits_called })
     where
-      called : (h l d q o : ℕ) → Fits (general p name) (shape (h + 1) l d (q + 1) o) (shape h l d q o)
-      called h l d q o =
-          fits_joined (Under (name_of p) ∷ []) (Under name ∷ Call 3 ∷ []) (shape (h + 1) l d (q + 1) o) (shape (h + 2) l d (q + 1) o) (shape h l d q o)
-          (fits_one (Under (name_of p)) (shape (h + 1) l d (q + 1) o) (shape (h + 2) l d (q + 1) o) _ (omega arith) refl (ap (λ n. shape n l d (q + 1) o) (omega arith)))
-          (fits_joined (Under name ∷ []) (Call 3 ∷ []) (shape (h + 2) l d (q + 1) o) (shape (h + 3) l d (q + 1) o) (shape h l d q o)
-          (fits_one (Under name) (shape (h + 2) l d (q + 1) o) (shape (h + 3) l d (q + 1) o) _ (omega arith) refl (ap (λ n. shape n l d (q + 1) o) (omega arith)))
-          (fits_one (Call 3) (shape (h + 3) l d (q + 1) o) (shape h l d q o) _ (omega arith, omega arith) refl (ap (λ n. shape n l d (q + 1 - 1) o) (omega arith) ∙ ap (λ n. shape h l d n o) (omega arith))))
+      called : (code : List Instruction) (at : ℕ) (t : Text) (last : Completion) (stack : Stack) (d : ℕ) (u : State) → HasAt code at (general p name) → Lands dialect code stack.loops (spot at (with_text t (with_result last stack)) d) u (result_at (at + length (general p name)) stack d) (exec (Run dialect) (page_in dialect d (invoked dialect (name_of p ∷ name ∷ t ∷ []))) u)
+      called code at t last stack d u has =
+          one_done dialect code (Under (name_of p)) has.0 refl (one_done dialect code (Under name) has.1.0 refl
+          (moved_done dialect code (omega arith) (final_done dialect code {os = stack.loops} {p = spot (at + 1 + 1) (with_text t (with_text name (with_text (name_of p) (with_result last stack)))) d} {s = u} {r = result_at (at + 1 + 1 + 1) stack d} (Call 3) has.1.1.0 (λ next. refl))))
 
-      go : (code : List Instruction) (at : ℕ) (t : Text) (last : Completion) (stack : Stack) (d : ℕ) (u : State) → HasAt code at (fork (Guard p 2) (i ∷ []) (general p name)) → (b : Bool) → stands p u.store ≡ b
-          → Lands dialect code stack.loops (spot at (with_text t (with_result last stack)) d) u (result_at (at + length (fork (Guard p 2) (i ∷ []) (general p name))) stack d) (exec (Run dialect) (page_in dialect d (invoked dialect (name_of p ∷ name ∷ t ∷ []))) u)
-      go code at t last stack d u has true e =
-          one_done dialect code (Guard p 2) has.0 (ap (λ b. M.To (spot (cond b (at + 1) (at + 1 + 2)) (with_text t (with_result last stack)) d) u) e)
-          (same_done dialect code (sym (invoked_stands dialect p (name ∷ t ∷ []) d u e))
-          (further dialect code (exec (Run dialect) (page_does dialect p (name ∷ t ∷ []) d) u) (ch code (at + 1) t last stack d u (has.1.0, tt))
-          (λ r v fine. one_done dialect code (Skip 3) has.1.1.0 refl (here_done dialect code (omega arith) fine))))
-      go code at t last stack d u has false e =
-          let n : at + 1 + 1 + 1 ≡ at + 1 + 2 = omega arith in
-          let rest = subst (λ m. HasAt code m (general p name)) n has.1.1.1 in
-          one_done dialect code (Guard p 2) has.0 (ap (λ b. M.To (spot (cond b (at + 1) (at + 1 + 2)) (with_text t (with_result last stack)) d) u) e)
-          (one_done dialect code (Under (name_of p)) rest.0 refl (one_done dialect code (Under name) rest.1.0 refl
-          (moved_done dialect code (omega arith) (final_done dialect code {os = stack.loops} {p = spot (at + 1 + 2 + 1 + 1) (with_text t (with_text name (with_text (name_of p) (with_result last stack)))) d} {s = u} {r = result_at (at + 1 + 2 + 1 + 1 + 1) stack d} (Call 3) rest.1.1.0 (λ next. refl)))))
+      fits_called : (h l d q o : ℕ) → Fits (general p name) (shape (h + 1) l d (q + 1) o) (shape h l d (q + 0) o)
+      fits_called h l d q o =
+          fits_joined (Under (name_of p) ∷ []) (Under name ∷ Call 3 ∷ []) (shape (h + 1) l d (q + 1) o) (shape (h + 2) l d (q + 1) o) (shape h l d (q + 0) o)
+          (fits_one (Under (name_of p)) (shape (h + 1) l d (q + 1) o) (shape (h + 2) l d (q + 1) o) _ (omega arith) refl (ap (λ n. shape n l d (q + 1) o) (omega arith)))
+          (fits_joined (Under name ∷ []) (Call 3 ∷ []) (shape (h + 2) l d (q + 1) o) (shape (h + 3) l d (q + 1) o) (shape h l d (q + 0) o)
+          (fits_one (Under name) (shape (h + 2) l d (q + 1) o) (shape (h + 3) l d (q + 1) o) _ (omega arith) refl (ap (λ n. shape n l d (q + 1) o) (omega arith)))
+          (fits_one (Call 3) (shape (h + 3) l d (q + 1) o) (shape h l d (q + 0) o) _ (omega arith, omega arith) refl (ap (λ n. shape n l d (q + 1 - 1) o) (omega arith) ∙ ap (λ n. shape h l d n o) (omega arith))))
 
   pop_fits : (i : Instruction) → ((h l d q o : ℕ) → IsFine i (shape (h + 1) l d q o)) → ((h l d q o : ℕ) → ways_of i (shape (h + 1) l d q o) ≡ (Ahead 0, shape (h + 1 - 1 + 0) l d q o) ∷ []) → (h l d q o : ℕ) → Fits (i ∷ []) (shape (h + 1) l d q o) (shape h l d q o)
   pop_fits i f w h l d q o = fits_one i (shape (h + 1) l d q o) (shape h l d q o) _ (f h l d q o) (w h l d q o) (ap (λ n. shape n l d q o) (omega arith))
@@ -261,8 +244,3 @@ module _ (dialect : Dialect) where
   -- a page for such a command, and the call beside it
   pub literal_runs : (p : Inlined) (ws : List Shape) (us : List Text) (c : List Instruction) → AllSay ws (name_of p ∷ us) → Makes dialect c (page_does dialect p us) → Runs dialect (guarded p c (pushes (name_of p ∷ us) (length ws))) (λ d. run_command dialect d ws)
   literal_runs p ws us c h x = guarded_runs dialect p us (λ d. run_command dialect d ws) c (pushes (name_of p ∷ us) (length ws)) (λ d s. command_said dialect d ws (name_of p ∷ us) s h) x (command_does dialect ws (pushes (name_of p ∷ us) (length ws)) (call_said (length ws) ws (name_of p ∷ us) h))
-
-  -- `while` of two literal words, as a command of a script
-  pub while_runs : (w0 w1 w2 : Shape) (test body : Text) (t b : List Instruction) → AllSay (w0 ∷ w1 ∷ w2 ∷ []) (name_of inlined.While ∷ test ∷ body ∷ []) → Does dialect t (λ d. expression dialect d test) → Follows dialect b body
-      → Runs dialect (guarded inlined.While (loop_code t b) (pushes (name_of inlined.While ∷ test ∷ body ∷ []) 3)) (λ d. run_command dialect d (w0 ∷ w1 ∷ w2 ∷ []))
-  while_runs w0 w1 w2 test body t b h x f = literal_runs inlined.While (w0 ∷ w1 ∷ w2 ∷ []) (test ∷ body ∷ []) (loop_code t b) h (while_makes dialect test body t b x f)

@@ -1,11 +1,17 @@
+pub mod Bodies
 pub mod Changing
 pub mod Clauses
 pub mod Commands
 pub mod Conditions
+pub mod EachEmits
+pub mod EachRuns
+pub mod EachShapes
+pub mod Eaching
 pub mod Emits
 pub mod Expressions
 pub mod Guarded
 pub mod Failing
+pub mod ForLoop
 pub mod Forks
 pub mod Forming
 pub mod Inlined

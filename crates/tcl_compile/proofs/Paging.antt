@@ -15,11 +15,12 @@ use Rattle.tcl_meaning.specs.Tasks.{Run, Nothing, IfTest}
 use Rattle.tcl_code.specs.Instructions.{Push, Enter, Become, Bump, Body, Again, Skip, SkipWhen, Turn, Break, Continue, Answer}
 use Rattle.tcl_code.specs.declared.inlined.Inlined.TheVariants as inlined
 use Rattle.tcl_compile.specs.Emitted.{ScriptCode}
-use Rattle.tcl_compile.specs.Forms.{IsForm, command_of, page_does, clause_of, PageCode, BodyCode, ClausesCode, LoopCode}
+use Rattle.tcl_compile.specs.Forms.{IsForm, command_of, page_does, clause_of, PageCode, BodyCode, ClausesCode, bodied, BodiedCode, TurnCode, LoopCode, ForCode}
 use Rattle.tcl_compile.specs.Fragments.{Grown}
 use Rattle.tcl_compile.specs.Inlining.{Makes}
 use Rattle.tcl_compile.specs.Trees.{ExpressionCode}
 use Rattle.tcl_compile.specs.declared.inlining.Clause.{Clause}
+use Rattle.tcl_compile.specs.declared.inlining.ForTexts.{ForTexts}
 use Rattle.tcl_compile.specs.declared.inlining.Form.{Form}
 use Rattle.tcl_compile.specs.declared.inlining.Form.TheVariants as form
 use Rattle.tcl_compile.proofs.Emits.{Code, ext, join}
@@ -27,7 +28,8 @@ use Rattle.tcl_compile.proofs.Forks.{Behind, behind, more_behind, LedHere, forke
 use Rattle.tcl_compile.proofs.Inlined.{expr_makes, if_makes, incr_makes, break_makes, continue_makes}
 use Rattle.tcl_compile.proofs.Clauses.{rest_is}
 use Rattle.tcl_compile.proofs.Conditions.{if_owes, body_code, body_makes, clause_code, clause_makes, none_makes}
-use Rattle.tcl_compile.proofs.Looping.{loop_code, while_makes}
+use Rattle.tcl_compile.proofs.ForLoop.{turn_makes, while_makes, for_makes}
+use Rattle.tcl_compile.proofs.Looping.{loop_code}
 
 -- ---- the first clause, and those behind it
 
@@ -81,8 +83,8 @@ module _ (dialect : Dialect) where
   pub grown_if : (f : Form) (cs : Vec Clause Global) (o : Option (Bor (List ℕ))) (m0 m1 : Code) → f ≡ form.If cs o → Grown (ClausesCode dialect (map clause_of cs.items) (option_map (λ t. chars t.now) o)) m0 m1 → Grown (PageCode dialect f) m0 m1
   grown_if f cs o m0 m1 e g = (g.0, g.1, λ ts is. of_form f (form.If cs o) ts [] g.0 e is (λ j. if_makes dialect ts (map clause_of cs.items) (option_map (λ t. chars t.now) o) g.0 j.0 g.2))
 
-  pub grown_while : (f : Form) (test body : Bor (List ℕ)) (m0 m1 : Code) → f ≡ form.While test body → Grown (LoopCode dialect (chars test.now) (chars body.now)) m0 m1 → Grown (PageCode dialect f) m0 m1
-  grown_while f test body m0 m1 e g = (g.0, g.1, λ ts is. of_form f (form.While test body) ts [] g.0 e is (λ j. subst (λ us. Makes dialect g.0 (page_does dialect inlined.While us)) (sym j) g.2))
+  pub grown_while : (f : Form) (test body : Bor (List ℕ)) (m0 m1 : Code) → f ≡ form.While test body → Grown (LoopCode dialect None (chars test.now) (chars body.now)) m0 m1 → Grown (PageCode dialect f) m0 m1
+  grown_while f test body m0 m1 e g = (g.0, g.1, λ ts is. of_form f (form.While test body) ts [] g.0 e is (λ j. subst (λ us. Makes dialect g.0 (page_does dialect inlined.While us)) (sym j) (while_makes dialect (chars test.now) (chars body.now) g.0 g.2)))
 
   -- ---- bodies and clauses
 
@@ -111,37 +113,49 @@ module _ (dialect : Dialect) where
 
   -- ---- loops
 
-  pub grown_loop : (m0 m1 m2 m3 m4 m5 m6 m7 m8 m9 m10 m11 m12 : Code) (n : ℕ) (test body : Text) → m1 ≡ m0 ++ Skip 0 ∷ [] → m2 ≡ m1 ++ Body 0 ∷ [] → Grown (ScriptCode dialect body) m2 m3 → m4 ≡ m3 ++ Again ∷ [] → LedHere (length m1) m4 m5
-      → m6 ≡ m5 ++ Skip 0 ∷ [] → LedHere (length m0) m6 m7 → Grown (ExpressionCode dialect test) m7 m8 → m9 ≡ m8 ++ SkipWhen false 1 ∷ [] → m10 ≡ m9 ++ Turn n ∷ [] → n ≡ length m9 - length m1 → LedHere (length m5) m10 m11 → m12 ≡ m11 ++ Push [] ∷ Answer ∷ []
-      → Grown (LoopCode dialect test body) m0 m12
-  grown_loop m0 m1 m2 m3 m4 m5 m6 m7 m8 m9 m10 m11 m12 n test body e1 e2 x e4 l5 e6 l7 y e9 e10 en l11 e12 =
+  pub grown_looped : (m0 m1 m2 m3 m4 : Code) (passes : Bool) (t : Text) → m1 ≡ m0 ++ Body passes 0 ∷ [] → Grown (ScriptCode dialect t) m1 m2 → m3 ≡ m2 ++ Again ∷ [] → LedHere (length m0) m3 m4 → Grown (BodiedCode dialect passes t) m0 m4
+  grown_looped m0 m1 m2 m3 m4 passes t e x h l =
       let b = x.0 in
-      let t = y.0 in
-      let inner : Behind (Body 0) m1 (b ++ Again ∷ []) m4 = more_behind (Again ∷ []) (behind b {i = Body 0} {m0 = m1} e2 x.1) e4 in
+      let whole : Behind (Body passes 0) m0 (b ++ Again ∷ []) m3 = more_behind (Again ∷ []) (behind b {i = Body passes 0} {m0 = m0} e x.1) h in
       let long : length (b ++ Again ∷ []) ≡ length b + 1 = omega (arith, length-append b (Again ∷ [])) in
-      let c = Body (length b + 1) ∷ (b ++ Again ∷ []) in
-      let m5_is : m5 ≡ m1 ++ c = l5 m1 (b ++ Again ∷ []) (Body 0) inner.is refl ∙ ap (λ k. m1 ++ Body k ∷ (b ++ Again ∷ [])) long in
-      let first : Behind (Skip 0) m0 c m5 = behind c {i = Skip 0} {m0 = m0} e1 m5_is in
-      let second : Behind (Skip 0) m0 (c ++ Skip 0 ∷ []) m6 = more_behind (Skip 0 ∷ []) first e6 in
-      let count : length (c ++ Skip 0 ∷ []) ≡ length b + 3 = omega (arith, long, length-append c (Skip 0 ∷ [])) in
-      let m7_is : m7 ≡ m0 ++ Skip (length b + 3) ∷ (c ++ Skip 0 ∷ []) = l7 m0 (c ++ Skip 0 ∷ []) (Skip 0) second.is refl ∙ ap (λ k. m0 ++ Skip k ∷ (c ++ Skip 0 ∷ [])) count in
-      let front = m0 ++ Skip (length b + 3) ∷ c in
-      let m7_front : m7 ≡ front ++ Skip 0 ∷ [] = m7_is ∙ sym (append_assoc m0 (Skip (length b + 3) ∷ c) (Skip 0 ∷ [])) in
+      (bodied passes b, l m0 (b ++ Again ∷ []) (Body passes 0) whole.is refl ∙ ap (λ k. m0 ++ Body passes k ∷ (b ++ Again ∷ [])) long, (b, refl, x.2))
+
+  pub grown_turns : (m0 m1 m2 m3 m4 : Code) (next : Option (Bor (List ℕ))) (t : Bor (List ℕ)) (body : Text) → next ≡ Some t → Grown (BodiedCode dialect false body) m0 m1 → m2 ≡ m1 ++ Skip 0 ∷ [] → Grown (BodiedCode dialect true (chars t.now)) m2 m3 → LedHere (length m1) m3 m4
+      → Grown (TurnCode dialect (option_map (λ t. chars t.now) next) body) m0 m4
+  grown_turns m0 m1 m2 m3 m4 next t body e g h x l =
+      let b = g.0 in
+      let n = x.0 in
+      let past : Behind (Skip 0) m1 n m3 = behind n {i = Skip 0} {m0 = m1} h x.1 in
+      let last : m4 ≡ m1 ++ Skip (length n) ∷ n = l m1 n (Skip 0) past.is refl in (
+        b ++ Skip (length n) ∷ n,
+        last ∙ ap (λ k. k ++ Skip (length n) ∷ n) g.1 ∙ append_assoc m0 b (Skip (length n) ∷ n),
+        subst (λ (o : Option (Bor (List ℕ))). TurnCode dialect (option_map (λ t. chars t.now) o) body (b ++ Skip (length n) ∷ n)) (sym e) (b, n, refl, g.2, x.2),
+      )
+
+  pub grown_loop : (m0 m1 m2 m3 m4 m5 m6 m7 m8 m9 : Code) (n : ℕ) (next : Option Text) (test body : Text) → m1 ≡ m0 ++ Skip 0 ∷ [] → Grown (TurnCode dialect next body) m1 m2 → m3 ≡ m2 ++ Skip 0 ∷ [] → LedHere (length m0) m3 m4 → Grown (ExpressionCode dialect test) m4 m5 → m6 ≡ m5 ++ SkipWhen false 1 ∷ []
+      → m7 ≡ m6 ++ Turn n ∷ [] → n ≡ length m6 - length m1 → LedHere (length m2) m7 m8 → m9 ≡ m8 ++ Push [] ∷ Answer ∷ [] → Grown (LoopCode dialect next test body) m0 m9
+  grown_loop m0 m1 m2 m3 m4 m5 m6 m7 m8 m9 n next test body e1 x e3 l4 y e6 e7 en l8 e9 =
+      let c = x.0 in
+      let t = y.0 in
+      let first : Behind (Skip 0) m0 (c ++ Skip 0 ∷ []) m3 = more_behind (Skip 0 ∷ []) (behind c {i = Skip 0} {m0 = m0} e1 x.1) e3 in
+      let count : length (c ++ Skip 0 ∷ []) ≡ length c + 1 = omega (arith, length-append c (Skip 0 ∷ [])) in
+      let m4_is : m4 ≡ m0 ++ Skip (length c + 1) ∷ (c ++ Skip 0 ∷ []) = l4 m0 (c ++ Skip 0 ∷ []) (Skip 0) first.is refl ∙ ap (λ k. m0 ++ Skip k ∷ (c ++ Skip 0 ∷ [])) count in
+      let front = m0 ++ Skip (length c + 1) ∷ c in
+      let m4_front : m4 ≡ front ++ Skip 0 ∷ [] = m4_is ∙ sym (append_assoc m0 (Skip (length c + 1) ∷ c) (Skip 0 ∷ [])) in
       let tail = SkipWhen false 1 ∷ Turn n ∷ [] in
-      let ends : m10 ≡ m8 ++ tail = (join (ext {m0 = m8} {c = SkipWhen false 1 ∷ []} e9) (ext {m0 = m9} {c = Turn n ∷ []} e10)).is in
-      let third : Behind (Skip 0) front (t ++ tail) m10 = more_behind tail (behind t {i = Skip 0} {m0 = front} m7_front y.1) ends in
+      let ends : m7 ≡ m5 ++ tail = (join (ext {m0 = m5} {c = SkipWhen false 1 ∷ []} e6) (ext {m0 = m6} {c = Turn n ∷ []} e7)).is in
+      let second : Behind (Skip 0) front (t ++ tail) m7 = more_behind tail (behind t {i = Skip 0} {m0 = front} m4_front y.1) ends in
       let past : length (t ++ tail) ≡ length t + 2 = omega (arith, length-append t tail) in
-      let size0 : length front ≡ length m0 + (length b + 3) = omega (arith, long, length-append m0 (Skip (length b + 3) ∷ c)) in
+      let size0 : length front ≡ length m0 + (length c + 1) = omega (arith, length-append m0 (Skip (length c + 1) ∷ c)) in
       let size1 : length m1 ≡ length m0 + 1 = omega (arith, ap length e1, length-append m0 (Skip 0 ∷ [])) in
-      let size5 : length m5 ≡ length front = omega (arith, ap length first.is, length-append m0 (Skip 0 ∷ c), length-append m0 (Skip (length b + 3) ∷ c)) in
-      let size9 : length m9 ≡ length front + 1 + length t + 1 = omega (arith, ap length e9, length-append m8 (SkipWhen false 1 ∷ []), ap length y.1, length-append m7 t, ap length m7_front, length-append front (Skip 0 ∷ [])) in
-      let turn : n ≡ length b + length t + 4 = omega (arith, en, size9, size0, size1) in
-      let m11_is : m11 ≡ front ++ Skip (length t + 2) ∷ (t ++ tail) = l11 front (t ++ tail) (Skip 0) third.is size5 ∙ ap (λ k. front ++ Skip k ∷ (t ++ tail)) past in
-      let whole : Behind (Skip (length t + 2)) front ((t ++ tail) ++ Push [] ∷ Answer ∷ []) m12 = more_behind (Push [] ∷ Answer ∷ []) (record { is = m11_is }) e12 in
+      let size2 : length m2 ≡ length front = omega (arith, size0, size1, ap length x.1, length-append m1 c) in
+      let size6 : length m6 ≡ length front + 1 + length t + 1 = omega (arith, ap length e6, length-append m5 (SkipWhen false 1 ∷ []), ap length y.1, length-append m4 t, ap length m4_front, length-append front (Skip 0 ∷ [])) in
+      let turn : n ≡ length c + length t + 2 = omega (arith, en, size6, size0, size1) in
+      let m8_is : m8 ≡ front ++ Skip (length t + 2) ∷ (t ++ tail) = l8 front (t ++ tail) (Skip 0) second.is size2 ∙ ap (λ k. front ++ Skip k ∷ (t ++ tail)) past in
+      let whole : Behind (Skip (length t + 2)) front ((t ++ tail) ++ Push [] ∷ Answer ∷ []) m9 = more_behind (Push [] ∷ Answer ∷ []) (record { is = m8_is }) e9 in
       let rest : ℕ → Code = λ k. Skip (length t + 2) ∷ (t ++ SkipWhen false 1 ∷ Turn k ∷ Push [] ∷ Answer ∷ []) in
-      let code : m12 ≡ m0 ++ loop_code t b =
-      whole.is ∙ ap (λ z. front ++ Skip (length t + 2) ∷ z) (append_assoc t tail (Push [] ∷ Answer ∷ []))
-      ∙ append_assoc m0 (Skip (length b + 3) ∷ c) (rest n)
-      ∙ ap (λ z. m0 ++ Skip (length b + 3) ∷ Body (length b + 1) ∷ z) (append_assoc b (Again ∷ []) (rest n))
-      ∙ ap (λ k. m0 ++ Skip (length b + 3) ∷ Body (length b + 1) ∷ (b ++ Again ∷ rest k)) turn in
-      (loop_code t b, code, while_makes dialect test body t b y.2 x.2)
+      let code : m9 ≡ m0 ++ loop_code c t = whole.is ∙ ap (λ z. front ++ Skip (length t + 2) ∷ z) (append_assoc t tail (Push [] ∷ Answer ∷ [])) ∙ append_assoc m0 (Skip (length c + 1) ∷ c) (rest n) ∙ ap (λ k. m0 ++ Skip (length c + 1) ∷ (c ++ rest k)) turn in
+      (loop_code c t, code, turn_makes dialect next test body t c y.2 x.2)
+
+  pub grown_whole_for : (m0 m1 m2 : Code) (w : ForTexts) → Grown (BodyCode dialect (chars w.start.now)) m0 m1 → Grown (LoopCode dialect (Some (chars w.next.now)) (chars w.test.now) (chars w.body.now)) m1 m2 → Grown (ForCode dialect w) m0 m2
+  grown_whole_for m0 m1 m2 w g h = (g.0 ++ h.0, (join (ext {m0 = m0} {c = g.0} g.1) (ext {m0 = m1} {c = h.0} h.1)).is, for_makes dialect (chars w.start.now) (chars w.test.now) (chars w.next.now) (chars w.body.now) g.0 h.0 (g.2 0) h.2)

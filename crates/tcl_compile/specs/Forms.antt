@@ -1,12 +1,12 @@
 -- The commands of literal words that are inlined.
-use Rattle.std.specs.Prelude.{◌≡◌, ◌≤◌, ℕ, suc, true, false, List, [], ◌∷◌, length, map, Option, Some, None, option_map}
+use Rattle.std.specs.Prelude.{◌≡◌, ◌≤◌, ◌+◌, ℕ, suc, Bool, true, false, List, [], ◌∷◌, ◌++◌, length, map, Option, Some, None, option_map}
 use Rattle.std.specs.Str.{chars}
 use Rattle.tcl_chars.specs.declared.numbers.Dialect.{Dialect}
 use Rattle.tcl_chars.specs.Texts.{literal}
 use Rattle.tcl_words.specs.Parts.{Part, text, Shape}
 use Rattle.tcl_pages.specs.Texts.{Text}
-use Rattle.tcl_meaning.specs.Asking.{ask}
-use Rattle.tcl_meaning.specs.Control.{next_clause}
+use Rattle.tcl_meaning.specs.Asking.{Asks, ask}
+use Rattle.tcl_meaning.specs.Control.{next_clause, while_next, for_next}
 use Rattle.tcl_meaning.specs.Effects.{Here, Prog}
 use Rattle.tcl_meaning.specs.Shapes.{if_shape, is_word}
 use Rattle.tcl_meaning.specs.Completions.{Completion}
@@ -14,13 +14,15 @@ use Rattle.tcl_meaning.specs.Pages.{page_asks}
 use Rattle.tcl_meaning.specs.Script.{page_in}
 use Rattle.tcl_meaning.specs.Tasks.{Task, Run, Nothing}
 use Rattle.tcl_code.specs.Guards.{name_of, page_of}
-use Rattle.tcl_code.specs.Instructions.{Instruction}
+use Rattle.tcl_code.specs.Instructions.{Instruction, Skip, Body, Again}
 use Rattle.tcl_code.specs.declared.inlined.Inlined.{Inlined}
 use Rattle.tcl_code.specs.declared.inlined.Inlined.TheVariants as inlined
+use Rattle.tcl_compile.specs.Emitted.{ScriptCode}
 use Rattle.tcl_compile.specs.Inlining.{Makes, asking}
 use Rattle.tcl_compile.specs.declared.inlining.Clause.{Clause}
 use Rattle.tcl_compile.specs.declared.inlining.Joint.{Joint}
 use Rattle.tcl_compile.specs.declared.inlining.Joint.TheVariants as joint
+use Rattle.tcl_compile.specs.declared.inlining.ForTexts.{ForTexts}
 use Rattle.tcl_compile.specs.declared.inlining.Form.{Form}
 use Rattle.tcl_compile.specs.declared.inlining.Form.TheVariants as form
 
@@ -74,6 +76,7 @@ command_of (form.Increment name) = inlined.Incr
 command_of (form.Expr t) = inlined.Expr
 command_of (form.If clauses otherwise) = inlined.If
 command_of (form.While test body) = inlined.While
+command_of (form.For w) = inlined.For
 
 -- the texts behind the command's name are those of a form
 abbrev pub IsForm : Form → List Text → Type 0
@@ -83,6 +86,7 @@ IsForm (form.Increment name) ts = ts ≡ chars name.now ∷ []
 IsForm (form.Expr t) ts = ts ≡ chars t.now ∷ []
 IsForm (form.If clauses otherwise) ts = (if_shape ts ≡ Some (record { clauses = map clause_of clauses.items; otherwise = option_map (λ t. chars t.now) otherwise })) × (length clauses.items ≤ most_clauses)
 IsForm (form.While test body) ts = ts ≡ chars test.now ∷ chars body.now ∷ []
+IsForm (form.For w) ts = ts ≡ chars w.start.now ∷ chars w.test.now ∷ chars w.next.now ∷ chars w.body.now ∷ []
 
 -- of this command
 abbrev pub IsFormOf : Inlined → Form → List Text → Type 0
@@ -112,6 +116,7 @@ abbrev pub FormIsShort : ℕ → Form → Type 0
 FormIsShort n (form.Expr t) = length (chars t.now) ≤ n
 FormIsShort n (form.If clauses otherwise) = (length clauses.items ≤ most_clauses) × ClausesAreShort n (map clause_of clauses.items) × OtherwiseIsShort n (option_map (λ t. chars t.now) otherwise)
 FormIsShort n (form.While test body) = (length (chars test.now) ≤ n) × (length (chars body.now) ≤ n)
+FormIsShort n (form.For w) = (length (chars w.start.now) ≤ n) × (length (chars w.test.now) ≤ n) × (length (chars w.next.now) ≤ n) × (length (chars w.body.now) ≤ n)
 FormIsShort n _ = Unit {0}
 
 -- ---- code
@@ -132,6 +137,29 @@ BodyCode dialect body c = (n : ℕ) → Makes dialect c (asking dialect (suc n) 
 abbrev pub ClausesCode : Dialect → List (Text × Text) → Option Text → List Instruction → Type 0
 ClausesCode dialect clauses otherwise c = Makes dialect c (asking dialect (suc (length clauses)) (next_clause clauses otherwise))
 
--- of a `while`
-abbrev pub LoopCode : Dialect → Text → Text → List Instruction → Type 0
-LoopCode dialect test body c = Makes dialect c (page_does dialect inlined.While (test ∷ body ∷ []))
+-- ---- loops with a condition: a `while`, or a `for` with what it runs between turns
+
+-- a body in a loop of the code, whose `continue` may be for the loop around it
+abbrev pub bodied : Bool → List Instruction → List Instruction
+bodied passes b = Body passes (length b + 1) ∷ (b ++ Again ∷ [])
+
+abbrev pub BodiedCode : Dialect → Bool → Text → List Instruction → Type 0
+BodiedCode dialect passes body c = (b : List Instruction) × (c ≡ bodied passes b) × ScriptCode dialect body b
+
+-- of a turn, where `break` in its body leads past what is run between turns
+abbrev pub TurnCode : Dialect → Option Text → Text → List Instruction → Type 0
+TurnCode dialect None body c = BodiedCode dialect false body c
+TurnCode dialect (Some next) body c = (b : List Instruction) × (n : List Instruction) × (c ≡ b ++ Skip (length n) ∷ n) × BodiedCode dialect false body b × BodiedCode dialect true next n
+
+-- what such a loop asks for before each turn
+abbrev pub next_test : Dialect → Option Text → Text → Text → Asks
+next_test dialect None test body = while_next dialect test body
+next_test dialect (Some next) test body = for_next dialect test next body
+
+-- of such a loop, from its first condition on
+abbrev pub LoopCode : Dialect → Option Text → Text → Text → List Instruction → Type 0
+LoopCode dialect next test body c = Makes dialect c (asking dialect 1 (next_test dialect next test body))
+
+-- of a `for`
+abbrev pub ForCode : Dialect → ForTexts → List Instruction → Type 0
+ForCode dialect w c = Makes dialect c (page_does dialect inlined.For (chars w.start.now ∷ chars w.test.now ∷ chars w.next.now ∷ chars w.body.now ∷ []))

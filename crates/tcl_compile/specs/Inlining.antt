@@ -13,8 +13,9 @@ use Rattle.tcl_meaning.specs.Substitution.{pieces_text}
 use Rattle.tcl_meaning.specs.Tasks.{Task}
 use Rattle.tcl_meaning.specs.Value.{Has}
 use Rattle.tcl_code.specs.Instructions.{Instruction}
-use Rattle.tcl_code.specs.Machine.{Stack, with_result, result_at, spot}
-use Rattle.tcl_code.specs.Parts.{Keeps, HasAt, Lands}
+use Rattle.tcl_code.specs.Machine.{Stack, with_text, with_result, result_at, spot}
+use Rattle.tcl_code.specs.Parts.{Fits, Keeps, HasAt, Lands}
+use Rattle.tcl_code.specs.Valid.{shape}
 
 -- a word that is one, and has the same text in every state
 pub record Says (w : Shape) (t : Text) : Type 0 where
@@ -35,3 +36,9 @@ module _ (dialect : Dialect) where
   pub record Makes (c : List Instruction) (f : ℕ → Prog Task Completion) : Type 0 where
     pub from : (code : List Instruction) (at : ℕ) (last : Completion) (stack : Stack) (d : ℕ) (s : State) → HasAt code at c → Lands dialect code stack.loops (spot at (with_result last stack) d) s (result_at (at + length c) stack d) (exec (Run dialect) (f d) s)
     pub keeps : Keeps c
+
+  -- these do what a program does with the text on top, in place of the script's last completion; of the commands that are paid for, q
+  -- are there before, and r behind them
+  pub record Uses (q r : ℕ) (c : List Instruction) (f : ℕ → Text → Prog Task Completion) : Type 0 where
+    pub from : (code : List Instruction) (at : ℕ) (t : Text) (last : Completion) (stack : Stack) (d : ℕ) (s : State) → HasAt code at c → Lands dialect code stack.loops (spot at (with_text t (with_result last stack)) d) s (result_at (at + length c) stack d) (exec (Run dialect) (f d t) s)
+    pub fits : (h l d p o : ℕ) → Fits c (shape (h + 1) l d (p + q) o) (shape h l d (p + r) o)

@@ -1,4 +1,5 @@
 pub mod Changes
+pub mod Eaches
 pub mod Emitted
 pub mod Forms
 pub mod Fragments

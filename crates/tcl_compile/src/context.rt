@@ -36,6 +36,11 @@ impl Context {
         self.levels > 0
     }
 
+    // Are these the text's own commands?
+    pub(crate) fn is_outermost(self) -> bool {
+        self.levels == MOST_LEVELS
+    }
+
     // For a script inside.
     pub(crate) fn within(self) -> Context
         ensures { result.dialect ≡ self.dialect }

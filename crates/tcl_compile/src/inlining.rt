@@ -21,6 +21,15 @@ pub(crate) struct Clause<'a> {
     pub(crate) body: &'a str,
 }
 
+/// What a `for` runs first, its condition, what it runs between turns, and its body.
+#[derive(Clone, Copy)]
+pub(crate) struct ForTexts<'a> {
+    pub(crate) start: &'a str,
+    pub(crate) test: &'a str,
+    pub(crate) next: &'a str,
+    pub(crate) body: &'a str,
+}
+
 /// A command that is inlined, with the texts of its words.
 #[derive(Drop)]
 pub(crate) enum Form<'a> {
@@ -33,6 +42,7 @@ pub(crate) enum Form<'a> {
     If(Vec<Clause<'a>>, Option<&'a str>),
     /// The condition, and the body.
     While(&'a str, &'a str),
+    For(ForTexts<'a>),
 }
 
 // An `if` of more clauses is called.
@@ -57,6 +67,7 @@ pub(crate) fn command_of(form: &Form<'_>) -> Inlined
         Form::Expr(_) => Inlined::Expr,
         Form::If(_, _) => Inlined::If,
         Form::While(_, _) => Inlined::While,
+        Form::For(_) => Inlined::For,
     }
 }
 
@@ -73,12 +84,18 @@ fn are_short(clauses: &[Clause<'_>]) -> bool {
     true
 }
 
+// Is a loop with this condition inlined? Each one among a text's own commands is.
+fn inlines_loop(context: Context, test: &str) -> bool {
+    context.is_outermost() || context.inlines() && test.len() <= LONGEST_EXPRESSION
+}
+
 // Is a form inlined?
 pub(crate) fn is_inlined(context: Context, form: &Form<'_>) -> bool {
     match form {
         Form::Expr(text) => context.inlines() && text.len() <= LONGEST_EXPRESSION,
         Form::If(clauses, _) => context.inlines() && are_short(clauses),
-        Form::While(test, _) => context.inlines() && test.len() <= LONGEST_EXPRESSION,
+        Form::While(test, _) => inlines_loop(context, *test),
+        Form::For(texts) => inlines_loop(context, texts.test),
         _ => true,
     }
 }
@@ -133,6 +150,8 @@ fn command_named(name: &str) -> Option<Inlined>
         Some(Inlined::If)
     } else if name == "while" {
         Some(Inlined::While)
+    } else if name == "for" {
+        Some(Inlined::For)
     } else if name == "break" {
         Some(Inlined::Break)
     } else if name == "continue" {
@@ -198,6 +217,12 @@ fn form_by<'a>(
         (Inlined::Incr, [name]) => Ok(Some(Form::Increment(*name))),
         (Inlined::Expr, [text]) => Ok(Some(Form::Expr(*text))),
         (Inlined::While, [test, body]) => Ok(Some(Form::While(*test, *body))),
+        (Inlined::For, [start, test, next, body]) => Ok(Some(Form::For(ForTexts {
+            start: *start,
+            test: *test,
+            next: *next,
+            body: *body,
+        }))),
         (Inlined::If, _) => if_by(alloc, texts),
         _ => Ok(None),
     }

@@ -9,6 +9,7 @@ mod change;
 mod codes;
 mod compile;
 mod context;
+mod each;
 mod inlining;
 mod kept;
 mod pages;

@@ -3,11 +3,11 @@
 ghost use Rattle.std.specs.Prelude.{◌≡◌, ◌-◌, ◌<◌, ◌≤◌, ◌++◌, ◌∷◌, [], OnOk, length, map, option_map};
 ghost use Rattle.std.specs.Str.{chars};
 ghost use Rattle.tcl_code.specs.Instructions.{Answer, Push, Turn};
-ghost use Rattle.tcl_compile.specs.Forms.{BodyCode, ClausesAreShort, ClausesCode, FormIsShort, LoopCode, OtherwiseIsShort, PageCode, clause_of, most_clauses};
+ghost use Rattle.tcl_compile.specs.Forms.{BodiedCode, BodyCode, ClausesAreShort, ClausesCode, ForCode, FormIsShort, LoopCode, OtherwiseIsShort, PageCode, TurnCode, clause_of, most_clauses};
 ghost use Rattle.tcl_compile.specs.Fragments.{Grown};
 
 use crate::context::Context;
-use crate::inlining::{Clause, Form};
+use crate::inlining::{Clause, ForTexts, Form};
 use crate::script::emit_script;
 use crate::skips::lead_here;
 use crate::tree::emit_expression;
@@ -38,12 +38,13 @@ pub(crate) fn emit_page(
             code.emit(Instr::Answer)
         }
         Form::If(clauses, otherwise) => emit_clauses(code, context, whole, clauses, otherwise),
-        Form::While(test, body) => emit_loop(code, context, whole, *test, *body),
+        Form::While(test, body) => emit_loop(code, context, whole, *test, None, *body),
+        Form::For(texts) => emit_for(code, context, whole, texts),
     }
 }
 
 // An empty result.
-fn emit_nothing(code: &mut CodeBuilder) -> Result<(), AllocError>
+pub(crate) fn emit_nothing(code: &mut CodeBuilder) -> Result<(), AllocError>
     ensures { OnOk result (code.new ≡ code.old ++ Push [] ∷ Answer ∷ []) }
 {
     code.push("")?;
@@ -94,34 +95,77 @@ fn emit_clauses(
 }
 
 // Emits a turn back over `count` instructions.
-fn emit_turn(code: &mut CodeBuilder, count: usize) -> Result<(), AllocError>
+pub(crate) fn emit_turn(code: &mut CodeBuilder, count: usize) -> Result<(), AllocError>
     ensures { OnOk result (code.new ≡ code.old ++ Turn count ∷ []) }
 {
     let count = u32::try_from(count).map_err(|_| AllocError)?;
     code.emit(Instr::Turn(count))
 }
 
-// A `while`: to the condition; the body, and behind it the way out of a `break`; the condition, and back to the body.
+// A body in a loop of the code.
+#[cycle(emitting)]
+pub(crate) fn emit_looped(
+    code: &mut CodeBuilder,
+    context: Context,
+    passes: bool,
+    text: &str,
+) -> Result<(), AllocError>
+    ensures { OnOk result (Grown (BodiedCode context.dialect passes (chars text.now)) code.old code.new) }
+{
+    let begin = code.len();
+    code.emit(Instr::Body(passes, 0))?;
+    emit_script(code, context.within(), text)?;
+    code.emit(Instr::Again)?;
+    lead_here(code, begin)
+}
+
+// A turn: the body, and what a `for` runs behind it, past which a `break` in the body leads.
+#[cycle(emitting)]
+fn emit_bodies(
+    code: &mut CodeBuilder,
+    context: Context,
+    whole: &str,
+    next: Option<&str>,
+    body: &str,
+) -> Result<(), AllocError>
+    requires some { 0 < length (chars whole.now) }
+    requires next { OtherwiseIsShort (length (chars whole.now) - 1) (option_map (λ t. chars t.now) next) }
+    requires body { length (chars body.now) ≤ length (chars whole.now) - 1 }
+    ensures { OnOk result (Grown (TurnCode context.dialect (option_map (λ t. chars t.now) next.entry) (chars body.now)) code.old code.new) }
+{
+    emit_looped(code, context, false, body)?;
+    match next {
+        None => Ok(()),
+        Some(next) => {
+            let past = code.len();
+            code.emit(Instr::Skip(0))?;
+            emit_looped(code, context, true, next)?;
+            lead_here(code, past)
+        }
+    }
+}
+
+// A `while`, or a `for` from its first condition on: to the condition; a turn, and behind it the way out of a `break`; the condition, and
+// back to the turn.
 #[cycle(emitting)]
 fn emit_loop(
     code: &mut CodeBuilder,
     context: Context,
     whole: &str,
     test: &str,
+    next: Option<&str>,
     body: &str,
 ) -> Result<(), AllocError>
     requires some { 0 < length (chars whole.now) }
     requires test { length (chars test.now) ≤ length (chars whole.now) - 1 }
+    requires next { OtherwiseIsShort (length (chars whole.now) - 1) (option_map (λ t. chars t.now) next) }
     requires body { length (chars body.now) ≤ length (chars whole.now) - 1 }
-    ensures { OnOk result (Grown (LoopCode context.dialect (chars test.now) (chars body.now)) code.old code.new) }
+    ensures { OnOk result (Grown (LoopCode context.dialect (option_map (λ t. chars t.now) next.entry) (chars test.now) (chars body.now)) code.old code.new) }
 {
     let to_test = code.len();
     code.emit(Instr::Skip(0))?;
     let begin = code.len();
-    code.emit(Instr::Body(0))?;
-    emit_script(code, context.within(), body)?;
-    code.emit(Instr::Again)?;
-    lead_here(code, begin)?;
+    emit_bodies(code, context, whole, next, body)?;
     let out = code.len();
     code.emit(Instr::Skip(0))?;
     lead_here(code, to_test)?;
@@ -131,4 +175,30 @@ fn emit_loop(
     emit_turn(code, turn)?;
     lead_here(code, out)?;
     emit_nothing(code)
+}
+
+// A `for`.
+#[cycle(emitting)]
+fn emit_for(
+    code: &mut CodeBuilder,
+    context: Context,
+    whole: &str,
+    texts: &ForTexts<'_>,
+) -> Result<(), AllocError>
+    requires some { 0 < length (chars whole.now) }
+    requires start { length (chars texts.now.start.now) ≤ length (chars whole.now) - 1 }
+    requires test { length (chars texts.now.test.now) ≤ length (chars whole.now) - 1 }
+    requires next { length (chars texts.now.next.now) ≤ length (chars whole.now) - 1 }
+    requires body { length (chars texts.now.body.now) ≤ length (chars whole.now) - 1 }
+    ensures { OnOk result (Grown (ForCode context.dialect texts.now) code.old code.new) }
+{
+    emit_body(code, context, texts.start)?;
+    emit_loop(
+        code,
+        context,
+        whole,
+        texts.test,
+        Some(texts.next),
+        texts.body,
+    )
 }

@@ -14,6 +14,7 @@ ghost use Rattle.tcl_compile.specs.Within.{ArgumentsAreShort, PartWithin, PartsW
 
 use crate::change::{change_of, emit_change};
 use crate::context::Context;
+use crate::each::{each_of, emit_each};
 use crate::inlining::{Form, command_of, form_of, is_inlined};
 use crate::pages::emit_page;
 use crate::skips::lead_here;
@@ -85,6 +86,9 @@ fn emit_command(
     }
     if let Some((change, name)) = change_of(words) {
         return emit_changed(code, context, whole, change, name, words);
+    }
+    if let Some(each) = each_of(context, words)? {
+        return emit_each(code, context, whole, &each, words);
     }
     match form_of(context.alloc, words)? {
         Some(form) if is_inlined(context, &form) => {

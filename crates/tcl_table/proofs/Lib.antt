@@ -1,3 +1,4 @@
 pub mod Moved
+pub mod Noting
 pub mod Standing
 pub mod Numbering

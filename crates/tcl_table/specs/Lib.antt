@@ -5,3 +5,4 @@ pub mod Coding
 pub mod Rename
 pub mod BuiltIns
 pub mod Places
+pub mod Frequent

@@ -1,5 +1,5 @@
 //! Commands: built-in ones, and procedures.
-ghost use Rattle.std.specs.Prelude.{◌≡◌, IfOk};
+ghost use Rattle.std.specs.Prelude.{◌≡◌, Some, IfOk};
 ghost use Rattle.tcl_meaning.specs.State as state;
 
 use std::alloc::AllocError;
@@ -60,6 +60,7 @@ pub enum Meaning<'a> {
 impl Command {
     ghost use Rattle.tcl_table.specs.Procedures.{procedure_of};
     ghost use Rattle.tcl_table.specs.CommandShape.{meaning_of};
+    ghost use Rattle.tcl_table.specs.Frequent.{built_in_of};
 
     /// The built-in command.
     pub fn built_in(built_in: BuiltIn) -> Command
@@ -86,6 +87,16 @@ impl Command {
         match &self.held {
             Held::BuiltIn(built_in) => Meaning::BuiltIn(*built_in),
             Held::Procedure(procedure) => Meaning::Procedure(procedure),
+        }
+    }
+
+    /// The built-in command, if it is one.
+    pub fn as_built_in(&self) -> Option<BuiltIn>
+        ensures { result ≡ built_in_of (Some self.now) }
+    {
+        match &self.held {
+            Held::BuiltIn(built_in) => Some(*built_in),
+            Held::Procedure(_) => None,
         }
     }
 

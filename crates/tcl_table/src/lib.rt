@@ -3,9 +3,11 @@
 
 mod built_ins;
 mod command;
+mod frequent;
 mod places;
 mod table;
 
 pub use command::{Command, Formal, Meaning, Procedure};
+pub use frequent::Frequent;
 pub use places::CommandName;
 pub use table::{Table, TableFault};

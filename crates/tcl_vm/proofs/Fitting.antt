@@ -30,7 +30,7 @@ use Rattle.tcl_meaning.proofs.Plain.{plain_free}
 use Rattle.tcl_pages.specs.declared.pages.UpdatePage.TheVariants as update
 use Rattle.tcl_code.specs.Caught.{caught}
 use Rattle.tcl_code.specs.Guards.{stands}
-use Rattle.tcl_code.specs.Instructions.{Instruction, Push, Read, ReadElement, Join, Spend, Enter, Leave, Call, Gather, Add, AddAll, CallGathered, Raise, Guard, Under, Write, Bump, Become, Body, Again, Break, Continue, Skip, SkipWhen, Turn, Unary, Binary, Power, Apply, Truth, Final, Answer as AnswerTop}
+use Rattle.tcl_code.specs.Instructions.{Instruction, Push, Read, ReadElement, Join, Spend, Enter, Leave, Call, Gather, Add, AddAll, CallGathered, TakeFirst, SkipEmpty, DropList, Raise, Guard, Under, Write, Bump, Become, Body, Again, Break, Continue, Skip, SkipWhen, Turn, Unary, Binary, Power, Apply, Truth, Final, Answer as AnswerTop}
 use Rattle.tcl_code.specs.Machine.{Loop, Texts, Taken, taken, on_taken, on_read, on_answer, on_operator, on_step, on_page, spend, Spot, spot, stack_of, behind_loop, Move, To, Fails, Ends, Calls, Wrong, move}
 use Rattle.tcl_code.specs.Open.{IsShaped, LoopFits, LoopsFit}
 use Rattle.tcl_code.specs.Running.{running}
@@ -39,9 +39,9 @@ use Rattle.tcl_code.specs.Valid.{bare, bare_in, with_texts, Target, Ahead, Back,
 use Rattle.tcl_vm.specs.Standing.{Running, here}
 use Rattle.tcl_vm.specs.Fitting.{FitsHere, FitsThen}
 use Rattle.tcl_vm.specs.Turns.{left, weight, loops_left}
-use Rattle.tcl_vm.proofs.Landing.{caught_elim, coded_elim, loop_fits}
+use Rattle.tcl_vm.proofs.Landing.{OpenFits, caught_elim, coded_elim, loop_fits}
 use Rattle.tcl_vm.proofs.Quiet.{IsDone, IsOver, IsQuiet, GivesQuietly, quiet_does, set_page_quiet, incr_page_quiet}
-use Rattle.tcl_vm.proofs.Weights.{left_ahead, left_inside, left_behind}
+use Rattle.tcl_vm.proofs.Weights.{left_ahead, left_inside}
 
 -- ---- one way on
 
@@ -130,12 +130,12 @@ module _ (dialect : Dialect) (code : List Instruction) (shape : Shape) (at d p :
       → IsShaped ts ls rs d' t → d' ≤ most_depth → LoopsFit code os t.loops outer → t.paid + outer ≤ p → GoesOn i (To (spot (at + 1) (stack_of ts ls rs os) d') s)
   next_fits i e t w ts ls rs d' h dp lf pf = ahead_fits i e 0 t w (at + 1) (omega arith) ts ls rs d' h dp lf pf s refl
 
-  -- where the innermost loop goes on
-  loop_goes : (i : Instruction) (u : State) → u.units ≡ s.units → (n : ℕ) (o : Loop) (rest : List Loop) → n ≤ 1 → os ≡ o ∷ rest → MoveFits (Some i) code here_left p s (To (behind_loop n o rest) u)
-  loop_goes i u free n o rest le e =
-      let l = ap (loops_left (length code)) e in
-      let b = left_behind (length code) at o.at n rest in
-      (p, loop_fits code n o rest shape.loops outer p le valid (subst (λ x. LoopsFit code x shape.loops outer) e loops) (omega arith), inl (refl, omega arith, free))
+  open_fits : OpenFits code p (loops_left (length code) os) os
+  open_fits = record { loops = shape.loops; outer = outer; fits = loops; paid_for = omega arith; less = omega arith }
+
+  -- where an open loop goes on
+  loop_goes : (i : Instruction) (u : State) → u.units ≡ s.units → (n : ℕ) (o : Loop) (inner rest : List Loop) → n ≤ 1 → os ≡ inner ++ o ∷ rest → MoveFits (Some i) code here_left p s (To (behind_loop n o rest) u)
+  loop_goes i u free n o inner rest le e = let x = loop_fits code os at p (loops_left (length code) os) valid open_fits n o inner rest le e in (p, x.0, inl (refl, x.1, free))
 
   fails_fits : (i : Instruction) (c : Completion) (u : State) → u.units ≡ s.units → GoesOn i (Fails c u)
   fails_fits i c u free = caught_elim (MoveFits (Some i) code here_left p s) os c u (loop_goes i u free) tt (code_now c)
@@ -228,6 +228,14 @@ module _ (dialect : Dialect) (code : List Instruction) (shape : Shape) (at d p :
   move_fits CallGathered ts [] rs e f h = absurd (let q = h.lists in omega arith)
   move_fits CallGathered ts (l ∷ ls) [] e f h = absurd (let q = h.results in omega arith)
   move_fits CallGathered ts (l ∷ ls) (r ∷ rs) e f h = call_fits CallGathered e (record shape { lists = shape.lists - 1; paid = shape.paid - 1 }) (inl (refl, refl)) l ts ls rs (λ c. record { texts = h.texts; lists = let q = h.lists in omega arith; results = h.results; brackets = h.brackets }) loops (let q = f.1 in omega arith)
+  move_fits TakeFirst ts [] rs e f h = absurd (let q = h.lists in omega arith)
+  move_fits TakeFirst ts ([] ∷ ls) rs e f h = texts_fit TakeFirst e 0 1 (inl (refl, refl)) ts ([] ∷ ts) ([] ∷ ls) rs h (let q = h.texts in omega arith)
+  move_fits TakeFirst ts ((w ∷ ws) ∷ ls) rs e f h = next_fits TakeFirst e (with_texts 0 1 shape) (inl (refl, refl)) (w ∷ ts) (ws ∷ ls) rs d (record { texts = let q = h.texts in omega arith; lists = h.lists; results = h.results; brackets = h.brackets }) deep loops paid_for
+  move_fits (SkipEmpty n) ts [] rs e f h = absurd (let q = h.lists in omega arith)
+  move_fits (SkipEmpty n) ts ([] ∷ ls) rs e f h = ahead_fits (SkipEmpty n) e n shape (inr (inl (refl, refl))) (at + 1 + n) refl ts ([] ∷ ls) rs d h deep loops paid_for s refl
+  move_fits (SkipEmpty n) ts ((w ∷ ws) ∷ ls) rs e f h = next_fits (SkipEmpty n) e shape (inl (refl, refl)) ts ((w ∷ ws) ∷ ls) rs d h deep loops paid_for
+  move_fits DropList ts [] rs e f h = absurd (let q = h.lists in omega arith)
+  move_fits DropList ts (l ∷ ls) rs e f h = next_fits DropList e (record shape { lists = shape.lists - 1 }) (inl (refl, refl)) ts ls rs d (record { texts = h.texts; lists = let q = h.lists in omega arith; results = h.results; brackets = h.brackets }) deep loops paid_for
   move_fits (Raise message) ts ls rs e f h = fails_fits (Raise message) (failure message) s refl
   move_fits (Guard g n) ts ls rs e f h = guard_fits (stands g s.store)
     where
@@ -249,13 +257,13 @@ module _ (dialect : Dialect) (code : List Instruction) (shape : Shape) (at d p :
       become_fits : (d' : ℕ) → shape.depth ≤ d' → d' ≤ most_depth → GoesOn Become (move dialect (Some Become) at ts ls (r ∷ below ∷ rs) os d' s)
       become_fits zero b dp = absurd (omega arith)
       become_fits (suc d') b dp = next_fits Become e (record shape { depth = shape.depth - 1 }) (inl (refl, refl)) ts ls (r ∷ rs) d' (record { texts = h.texts; lists = h.lists; results = let q = h.results in omega arith; brackets = omega arith }) (omega arith) loops paid_for
-  move_fits (Body n) ts ls rs e f h = deep_fits (Body n) _
-      (λ dp. (p, way_fits (Body n) e (Ahead 0) (bare_in (shape.loops + 1)) (inr (inr (inl (refl, refl)))) (at + 1) [] [] (nothing ∷ []) (opened ∷ os) (suc d) (shape.paid + outer) p (omega arith) (record { texts = refl; lists = refl; results = refl; brackets = omega arith }) dp (shape, fits, refl, (outer, omega arith, loops)) (omega arith), inl (refl, left_inside (length code) at (at + 1) (at + 1 + n) os (slice_get_within code at (Body n) e) (omega arith) (omega arith), refl)))
+  move_fits (Body b n) ts ls rs e f h = deep_fits (Body b n) _
+      (λ dp. (p, way_fits (Body b n) e (Ahead 0) (bare_in (shape.loops + 1)) (inr (inr (inl (refl, refl)))) (at + 1) [] [] (nothing ∷ []) (opened ∷ os) (suc d) (shape.paid + outer) p (omega arith) (record { texts = refl; lists = refl; results = refl; brackets = omega arith }) dp (shape, fits, refl, (outer, omega arith, loops)) (omega arith), inl (refl, left_inside (length code) at (at + 1) (at + 1 + n) os (slice_get_within code at (Body b n) e) (omega arith) (omega arith), refl)))
     where
       opened : Loop
-      opened = record { at = at + 1 + n; texts = ts; lists = ls; results = rs; depth = d }
+      opened = record { at = at + 1 + n; passes = b; texts = ts; lists = ls; results = rs; depth = d }
 
-      way : (k : Target) (at' : ℕ) → HasWay (ways_of (Body n) shape) k shape → at' ≡ target at k → ComesTo code at' shape
+      way : (k : Target) (at' : ℕ) → HasWay (ways_of (Body b n) shape) k shape → at' ≡ target at k → ComesTo code at' shape
       way k at' w q = record { steps = suc comes.steps; comes = (at, shape, k, comes.comes, subst (λ o. HasWay (ways_at o shape) k shape) (sym e) w, q) }
 
       fits : LoopFits code opened shape
@@ -273,7 +281,7 @@ module _ (dialect : Dialect) (code : List Instruction) (shape : Shape) (at d p :
       again_fits qs [] [] [] o a b c h = absurd (let q = h.results in omega arith)
       again_fits qs [] [] (r ∷ r' ∷ rs) o a b c h = absurd (let q = h.results in omega arith)
       again_fits [] [] [] (r ∷ []) o a b c h = absurd (let q = subst (λ x. LoopsFit code x shape.loops outer) o loops in let g = f.1 in omega arith)
-      again_fits (q ∷ qs) [] [] (r ∷ []) o a b c h = loop_goes Again s refl 1 q qs (omega arith) o
+      again_fits (q ∷ qs) [] [] (r ∷ []) o a b c h = loop_goes Again s refl 1 q [] qs (omega arith) o
   move_fits Break ts ls rs e f h = fails_fits Break (ended how.Break []) s refl
   move_fits Continue ts ls rs e f h = fails_fits Continue (ended how.Continue []) s refl
   move_fits (Skip n) ts ls rs e f h = ahead_fits (Skip n) e n shape (inl (refl, refl)) (at + 1 + n) refl ts ls rs d h deep loops paid_for s refl

@@ -1,6 +1,7 @@
 -- From one instruction to the next.
 use Rattle.std.proofs.Common.{◌≡◌, ℕ, zero, suc, cond, Bool, true, false, List, [], ◌∷◌, Option, Some, None, Result, Ok, Err, refl, sym, ap, ◌∙◌, subst}
 use Rattle.std.specs.Prelude.{slice_get, nat_lt}
+use Rattle.std.proofs.lemmas.Bool.{cond_both}
 use Rattle.tcl_chars.specs.declared.numbers.Dialect.{Dialect}
 use Rattle.tcl_chars.specs.Messages.{truth_value}
 use Rattle.tcl_pages.specs.Answers.{Answer}
@@ -25,7 +26,7 @@ use Rattle.tcl_meaning.specs.Variables.{get}
 use Rattle.tcl_pages.specs.declared.pages.UpdatePage.TheVariants as update
 use Rattle.tcl_meaning.proofs.Onward.{onward_same, outputs_trans}
 use Rattle.tcl_meaning.proofs.Runs.{IsOnward, exec_goes, outcome_goes}
-use Rattle.tcl_code.specs.Instructions.{Instruction, Push, Read, ReadElement, Join, Spend, Enter, Leave, Call, Gather, Add, AddAll, CallGathered, Raise, Guard, Under, Write, Bump, Become, Body, Again, Break, Continue, Skip, SkipWhen, Turn, Unary, Binary, Power, Apply, Truth, Final, Answer as AnswerTop}
+use Rattle.tcl_code.specs.Instructions.{Instruction, Push, Read, ReadElement, Join, Spend, Enter, Leave, Call, Gather, Add, AddAll, CallGathered, TakeFirst, SkipEmpty, DropList, Raise, Guard, Under, Write, Bump, Become, Body, Again, Break, Continue, Skip, SkipWhen, Turn, Unary, Binary, Power, Apply, Truth, Final, Answer as AnswerTop}
 use Rattle.tcl_code.specs.Caught.{caught}
 use Rattle.tcl_code.specs.Machine.{Loop, Texts, Taken, taken, on_taken, on_read, on_answer, on_operator, on_code, on_step, on_page, spend, Spot, result_at, Move, To, Fails, Ends, Calls, Wrong, move, Ended, Unfinished, Stuck, thrown_by, landed_by, landed, follow, exec_code}
 use Rattle.tcl_code.specs.Running.{running}
@@ -142,6 +143,14 @@ module _ (dialect : Dialect) (s : State) (os : List Loop) where
   keeps (Some CallGathered) at ts [] rs d = tt
   keeps (Some CallGathered) at ts (l ∷ ls) [] d = tt
   keeps (Some CallGathered) at ts (l ∷ ls) (r ∷ rs) d = (refl, refl)
+  keeps (Some TakeFirst) at ts [] rs d = tt
+  keeps (Some TakeFirst) at ts ([] ∷ ls) rs d = refl
+  keeps (Some TakeFirst) at ts ((w ∷ ws) ∷ ls) rs d = refl
+  keeps (Some (SkipEmpty n)) at ts [] rs d = tt
+  keeps (Some (SkipEmpty n)) at ts ([] ∷ ls) rs d = refl
+  keeps (Some (SkipEmpty n)) at ts ((w ∷ ws) ∷ ls) rs d = refl
+  keeps (Some DropList) at ts [] rs d = tt
+  keeps (Some DropList) at ts (l ∷ ls) rs d = refl
   keeps (Some (Raise message)) at ts ls rs d = refl
   keeps (Some (Guard p n)) at ts ls rs d = refl
   keeps (Some (Under t)) at [] ls rs d = tt
@@ -156,7 +165,7 @@ module _ (dialect : Dialect) (s : State) (os : List Loop) where
   keeps (Some Become) at ts ls (r ∷ []) d = tt
   keeps (Some Become) at ts ls (r ∷ below ∷ rs) zero = tt
   keeps (Some Become) at ts ls (r ∷ below ∷ rs) (suc d) = refl
-  keeps (Some (Body n)) at ts ls rs d = keeps_cond (nat_lt most_depth (suc d)) _ _ refl refl
+  keeps (Some (Body b n)) at ts ls rs d = keeps_cond (nat_lt most_depth (suc d)) _ _ refl refl
   keeps (Some Again) at ts ls rs d = keeps_again os ts ls rs
     where
       keeps_again : (qs : List Loop) (ts : Texts) (ls : List Texts) (rs : List Completion) → Keeps s os (move dialect (Some Again) at ts ls rs qs d s)
@@ -205,7 +214,7 @@ IsCaught os Wrong = Unit {0}
 
 is_caught : (s : State) (os : List Loop) (m : Move) → Keeps s os m → IsCaught os (caught os m)
 is_caught s os (To p t) h = tt
-is_caught s os (Fails c t) h = caught_elim (IsCaught os) os c t (λ n o rest le e. tt {0}) tt (code_now c)
+is_caught s os (Fails c t) h = caught_elim (IsCaught os) os c t (λ n o inner rest le e. tt {0}) tt (code_now c)
 is_caught s os (Ends g) h = tt
 is_caught s os (Calls words p t) h = h.1
 is_caught s os Wrong h = tt
@@ -262,7 +271,7 @@ module _ (dialect : Dialect) (code : List Instruction) (k : ℕ) (got : Got Comp
   begins_thrown (o ∷ os) how.Error c s e = subst (Grows s.channels) (ended_same _ _ e) (outputs_same s.channels)
   begins_thrown (o ∷ os) how.Return c s e = subst (Grows s.channels) (ended_same _ _ e) (outputs_same s.channels)
   begins_thrown (o ∷ os) how.Break c s e = rest _ s e
-  begins_thrown (o ∷ os) how.Continue c s e = rest _ s e
+  begins_thrown (o ∷ os) how.Continue c s e = cond_both o.passes _ _ (λ x. x ≡ Ended got → Grows s.channels got) (λ _. begins_thrown os how.Continue c s) (λ _. rest _ s) e
   begins_thrown (o ∷ os) (how.Other z) c s e = subst (Grows s.channels) (ended_same _ _ e) (outputs_same s.channels)
 
   begins_by : (os : List Loop) (end : Code) (to : Completion → Spot) (c : Completion) (s : State) → landed_by (exec_code dialect code k) os to end c s ≡ Ended got → Grows s.channels got

@@ -1,5 +1,5 @@
 -- With more units the same is done.
-use Rattle.std.proofs.Common.{◌≡◌, ℕ, zero, suc, ◌+◌, cond, Bool, true, false, List, [], ◌∷◌, Option, Some, None, Result, Ok, Err, refl, sym, ap, subst, arith, ⊎_elim, inl, inr}
+use Rattle.std.proofs.Common.{◌≡◌, ℕ, zero, suc, ◌+◌, true, List, [], ◌∷◌, Option, Some, None, Result, Ok, Err, refl, sym, ap, subst, arith, ⊎_elim, inl, inr}
 use Rattle.std.specs.Prelude.{nat_lt}
 use Rattle.tcl_chars.specs.declared.numbers.Dialect.{Dialect}
 use Rattle.tcl_chars.specs.Messages.{truth_value}
@@ -27,14 +27,14 @@ use Rattle.tcl_meaning.specs.VariablePages.{set_page, update_page}
 use Rattle.tcl_meaning.specs.Variables.{get}
 use Rattle.tcl_pages.specs.declared.pages.UpdatePage.TheVariants as update
 use Rattle.tcl_code.specs.Caught.{caught, caught_by}
-use Rattle.tcl_code.specs.Instructions.{Instruction, Push, Read, ReadElement, Join, Spend, Enter, Leave, Call as CallWords, Gather, Add, AddAll, CallGathered, Raise, Guard, Under, Write as WriteName, Bump, Become, Body, Again, Break, Continue, Skip, SkipWhen, Turn, Unary, Binary, Power, Apply, Truth, Final, Answer as AnswerTop}
+use Rattle.tcl_code.specs.Instructions.{Instruction, Push, Read, ReadElement, Join, Spend, Enter, Leave, Call as CallWords, Gather, Add, AddAll, CallGathered, TakeFirst, SkipEmpty, DropList, Raise, Guard, Under, Write as WriteName, Bump, Become, Body, Again, Break, Continue, Skip, SkipWhen, Turn, Unary, Binary, Power, Apply, Truth, Final, Answer as AnswerTop}
 use Rattle.tcl_code.specs.Machine.{Loop, Texts, Taken, taken, on_taken, on_read, on_answer, on_operator, on_code, on_step, on_page, spend, Spot, Move, To, Fails, Ends, Calls, Wrong, move}
 use Rattle.std.specs.Prelude.{slice_get}
 use Rattle.tcl_vm.specs.Engines.{Views, Answers, Position, IsFree, PaysHere, MovesOn, CallsOn, LeadsOn, WalksIn, Walks, Spent}
 use Rattle.tcl_vm.specs.Standing.{Running, here, Undone, Nothing, Back, Gone, undone_of, undo}
 use Rattle.tcl_vm.specs.Turns.{Onward}
 use Rattle.tcl_vm.proofs.Forward.{raw}
-use Rattle.tcl_vm.proofs.Landing.{both_caught}
+use Rattle.tcl_vm.proofs.Landing.{both_cond, both_caught}
 use Rattle.tcl_steps.specs.declared.step.Step.{Step as Asked}
 
 -- the same position with b more units
@@ -88,10 +88,6 @@ module _ (b : ℕ) where
   MovesSo Wrong n = n ≡ Wrong
 
   module _ (dialect : Dialect) (s : State) where
-    so_cond : (x : Bool) (m n p q : Move) → MovesSo m p → MovesSo n q → MovesSo (cond x m n) (cond x p q)
-    so_cond true m n p q h k = h
-    so_cond false m n p q h k = k
-
     so_read : (name : Text) (r : Result Text Refusal) (to : Text → Spot) → MovesSo (on_read name r to s) (on_read name r to (more b s))
     so_read name (Ok t) to = refl
     so_read name (Err refusal) to = refl
@@ -164,7 +160,7 @@ module _ (b : ℕ) where
     so os (Some (ReadElement name)) at (i ∷ ts) ls rs d = so_read (spelled_element name i) (get s.store (spelled_element name i)) _
     so os (Some (Join n)) at ts ls rs d = so_taken (taken n [] ts) _ _ (λ us below. refl)
     so os (Some Spend) at ts ls rs d = so_spend s.units (s.units + b) _ refl
-    so os (Some Enter) at ts ls rs d = so_cond (nat_lt most_depth (suc d)) _ _ _ _ refl refl
+    so os (Some Enter) at ts ls rs d = both_cond MovesSo (nat_lt most_depth (suc d)) _ _ _ _ refl refl
     so os (Some Leave) at ts ls [] d = refl
     so os (Some Leave) at ts ls (r ∷ rs) zero = refl
     so os (Some Leave) at ts ls (r ∷ rs) (suc d) = refl
@@ -180,6 +176,14 @@ module _ (b : ℕ) where
     so os (Some CallGathered) at ts [] rs d = refl
     so os (Some CallGathered) at ts (l ∷ ls) [] d = refl
     so os (Some CallGathered) at ts (l ∷ ls) (r ∷ rs) d = refl
+    so os (Some TakeFirst) at ts [] rs d = refl
+    so os (Some TakeFirst) at ts ([] ∷ ls) rs d = refl
+    so os (Some TakeFirst) at ts ((w ∷ ws) ∷ ls) rs d = refl
+    so os (Some (SkipEmpty n)) at ts [] rs d = refl
+    so os (Some (SkipEmpty n)) at ts ([] ∷ ls) rs d = refl
+    so os (Some (SkipEmpty n)) at ts ((w ∷ ws) ∷ ls) rs d = refl
+    so os (Some DropList) at ts [] rs d = refl
+    so os (Some DropList) at ts (l ∷ ls) rs d = refl
     so os (Some (Raise message)) at ts ls rs d = refl
     so os (Some (Guard p n)) at ts ls rs d = refl
     so os (Some (Under t)) at [] ls rs d = refl
@@ -194,7 +198,7 @@ module _ (b : ℕ) where
     so os (Some Become) at ts ls (r ∷ []) d = refl
     so os (Some Become) at ts ls (r ∷ below ∷ rs) zero = refl
     so os (Some Become) at ts ls (r ∷ below ∷ rs) (suc d) = refl
-    so os (Some (Body n)) at ts ls rs d = so_cond (nat_lt most_depth (suc d)) _ _ _ _ refl refl
+    so os (Some (Body x n)) at ts ls rs d = both_cond MovesSo (nat_lt most_depth (suc d)) _ _ _ _ refl refl
     so os (Some Again) at ts ls rs d = so_again os ts ls rs at d
     so os (Some Break) at ts ls rs d = refl
     so os (Some Continue) at ts ls rs d = refl
@@ -222,7 +226,7 @@ module _ (b : ℕ) where
   -- and where completions are caught
   so_caught : (os : List Loop) (m n : Move) → MovesSo m n → MovesSo (caught os m) (caught os n)
   so_caught os (To p s) n e = ap (caught os) e
-  so_caught os (Fails c s) n e = subst (λ x. MovesSo (caught_by (code_now c) os c s) (caught os x)) (sym e) (both_caught MovesSo os (code_now c) c s (more b s) (λ k o rest le is. refl) refl)
+  so_caught os (Fails c s) n e = subst (λ x. MovesSo (caught_by (code_now c) os c s) (caught os x)) (sym e) (both_caught MovesSo os (code_now c) c s (more b s) (λ k o inner rest le is. refl) refl)
   so_caught os (Ends (Gives c s)) n e = ap (caught os) e
   so_caught os (Ends (Broke r)) n e = tt
   so_caught os (Ends (Exits k r)) n e = tt

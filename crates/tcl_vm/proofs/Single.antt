@@ -20,7 +20,7 @@ use Rattle.tcl_vm.specs.Standing.{Running, here, Waiting, Machine, Comes, After,
 use Rattle.tcl_vm.specs.Turns.{Turn, Next, Asking, Ending, Config, StandsBy, FitsBy, Fits, left}
 use Rattle.tcl_vm.proofs.Fitting.{Pays, MoveFits, here_fits}
 use Rattle.tcl_vm.proofs.Forward.{onward, ended_same, raw, IsCaught, here_caught, steps_on}
-use Rattle.tcl_vm.proofs.Landing.{coded_elim, lands_fit}
+use Rattle.tcl_vm.proofs.Landing.{both_cond, coded_elim, lands_fit}
 use Rattle.tcl_vm.proofs.Returning.{landed_follows}
 
 unfinished : (got : Got Completion) → Unfinished ≡ Ended got → ⊥
@@ -45,7 +45,7 @@ module _ (dialect : Dialect) (code : List Instruction) where
     one_thrown (o ∷ os) how.Error c s e f = same_ended (Gives c s) x y e f
     one_thrown (o ∷ os) how.Return c s e f = same_ended (Gives c s) x y e f
     one_thrown (o ∷ os) how.Break c s e f = rest _ s x y e f
-    one_thrown (o ∷ os) how.Continue c s e f = rest _ s x y e f
+    one_thrown (o ∷ os) how.Continue c s e f = both_cond (λ m n. m ≡ Ended x → n ≡ Ended y → x ≡ y) o.passes _ _ _ _ (one_thrown os how.Continue c s) (rest _ s x y) e f
     one_thrown (o ∷ os) (how.Other z) c s e f = same_ended (Gives c s) x y e f
 
     one_by : (os : List Loop) (now : Code) (to : Completion → Spot) (c : Completion) (s : State) → landed_by (exec_code dialect code k) os to now c s ≡ Ended x → landed_by (exec_code dialect code j) os to now c s ≡ Ended y → x ≡ y
@@ -121,7 +121,7 @@ module _ (dialect : Dialect) where
 
     after_given : (c : Completion) (s : State) → Lasts c s → EndsAfter (Gives c s)
     after_given c s rest =
-        coded_elim (λ m. lands a c s ≡ m → EndsAfter (Gives c s)) a.spot.stack.loops c s (λ n o os le is e. later (behind_loop n o os) e) (λ e. at_once (Gives c s) (landed_follows dialect a 0 c s (Ends (Gives c s)) e))
+        coded_elim (λ m. lands a c s ≡ m → EndsAfter (Gives c s)) a.spot.stack.loops c s (λ n o inner os le is e. later (behind_loop n o os) e) (λ e. at_once (Gives c s) (landed_follows dialect a 0 c s (Ends (Gives c s)) e))
         (result_at a.spot.at a.spot.stack a.spot.depth) (λ e. later (result_at a.spot.at a.spot.stack a.spot.depth c) e) (code_now c) refl
       where
         later : (q : Spot) → lands a c s ≡ To q s → EndsAfter (Gives c s)

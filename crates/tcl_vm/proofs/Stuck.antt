@@ -33,7 +33,7 @@ GoesOn dialect k = (a : Running) (p : ℕ) (s : State) → FitsHere a p → exec
 module _ (dialect : Dialect) (k : ℕ) (rest : GoesOn dialect k) (code : List Instruction) where
   given_goes : (q : Spot) (n : ℕ) → FitsThen (running code q) n → (c : Completion) (s : State) → landed (exec_code dialect code k) q.stack.loops (result_at q.at q.stack q.depth) (Gives c s) ≡ Stuck → ⊥
   given_goes q n f c s e =
-      coded_elim (λ m. lands (running code q) c s ≡ m → ⊥) q.stack.loops c s (λ i o os le e is. goes (behind_loop i o os) is) (λ is. ended_stuck _ (sym (landed_follows dialect (running code q) k c s (Ends (Gives c s)) is) ∙ e))
+      coded_elim (λ m. lands (running code q) c s ≡ m → ⊥) q.stack.loops c s (λ i o inner os le e is. goes (behind_loop i o os) is) (λ is. ended_stuck _ (sym (landed_follows dialect (running code q) k c s (Ends (Gives c s)) is) ∙ e))
       (result_at q.at q.stack q.depth) (λ is. goes (result_at q.at q.stack q.depth c) is) (code_now c) refl
     where
       goes : (r : Spot) → lands (running code q) c s ≡ To r s → ⊥

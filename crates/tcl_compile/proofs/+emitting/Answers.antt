@@ -2,6 +2,7 @@ use Rattle.std.proofs.Common.{rules, [], get_or, subst, ◌≤◌, ◌≡◌, �
 use Rattle.std.proofs.lemmas.Result.{on_ok_weaker}
 use Rattle.std.proofs.lemmas.List.{length-map}
 use Rattle.std.specs.Str.{chars}
+use Rattle.tcl_list.specs.Texts.{text_of}
 use Rattle.tcl_words.specs.Parts.{shape_of, part_of, parts_of, stretch_of}
 use Rattle.tcl_meaning.specs.Nesting.{PartNests, PartsNest, WordsNest}
 use Rattle.tcl_words.specs.First.{most_levels}
@@ -10,7 +11,8 @@ use Rattle.tcl_compile.specs.Emitted.{GatheredLeft}
 use Rattle.tcl_compile.specs.Within.{PartWithin, PartsWithin, WordsWithin}
 use Rattle.tcl_compile.proofs.Within.{first_shorter, parts_within_at, words_within_at}
 use Rattle.tcl_compile.proofs.Emits.{grown_one, grown_text, grown_escape, grown_var, grown_elem, grown_bracket, grown_deeper, grown_word, grown_command, grown_gathered, piece_leads, word_leads, gather_leads, leads_start, plain_at, script_leads, script_ends, script_fails}
-use Rattle.tcl_compile.proofs.Paging.{are_none, are_some, behind_first, behind_less, first_split, grown_break, grown_continue, grown_increment, grown_expr, grown_if, grown_while, grown_body, grown_none, grown_last, grown_clause, grown_loop}
+use Rattle.tcl_compile.proofs.Paging.{are_none, are_some, behind_first, behind_less, first_split, grown_break, grown_continue, grown_increment, grown_expr, grown_if, grown_while, grown_body, grown_none, grown_last, grown_clause, grown_looped, grown_turns, grown_loop, grown_whole_for}
+use Rattle.tcl_compile.proofs.EachEmits.{each_short, grown_each, grown_each_turns}
 use Rattle.tcl_compile.proofs.Forming.{grown_changed, change_long, form_plain, form_short, grown_guarded}
 use Rattle.tcl_compile.proofs.Parsing.{parsed_end, parsed_bad, parsed_command, map_at, part-text, part-escape, part-var, part-elem, part-bracket}
 use Rattle.tcl_expr.specs.View.{fault_view, leaf_of, step_of, view}
@@ -401,7 +403,7 @@ pages::emit_page-emit_clauses-requires t c =
 pub pages::emit_page-emit_loop-requires : goal.pages::emit_page-emit_loop-requires
 pages::emit_page-emit_loop-requires t c =
     let short = subst (FormIsShort (length (chars c.args.whole.now) - 1)) c.in-While.is c.requires.1.1.1 in
-    (search rules, (c.requires.1.1.0, (short.0, short.1)))
+    (search rules, (c.requires.1.1.0, (short.0, (tt, short.1))))
 
 pub pages::emit_body-returns : goal.pages::emit_body-returns
 pages::emit_body-returns t c = on_ok_weaker c.emit-2.result (λ h. grown_body c.args.context.dialect _ _ _ _ (chars c.args.text.now) c.in_ok-emit.ensures.done (rw c.within.ensures at c.in_ok-emit_script.ensures) h) c.emit-2.ensures.done
@@ -471,11 +473,36 @@ pages::emit_clauses-returns t c =
     c.in_ok-emit_expression.ensures c.in_ok-emit.ensures.done c.in_ok-emit_body.ensures c.in_ok-emit-2.ensures.done (λ front back i e p. c.in_ok-lead_here.ensures front back i e (c.len-unless.ensures ∙ p)) c.in_ok-emit_clauses.ensures
     (λ front back i e p. h front back i e (c.len-past.ensures ∙ p)))) c.lead_here-2.ensures
 
-pub pages::emit_loop-emit_script-requires : goal.pages::emit_loop-emit_script-requires
-pages::emit_loop-emit_script-requires t c =
+pub pages::emit_looped-returns : goal.pages::emit_looped-returns
+pages::emit_looped-returns t c =
+    on_ok_weaker c.lead_here.result
+    (λ h. grown_looped c.args.context.dialect _ _ _ _ _ c.args.passes (chars c.args.text.now) c.in_ok-emit.ensures.done (rw c.within.ensures at c.in_ok-emit_script.ensures) c.in_ok-emit-2.ensures.done (λ front back i e p. h front back i e (c.len-begin.ensures ∙ p))) c.lead_here.ensures
+
+pub pages::emit_bodies-emit_looped-requires : goal.pages::emit_bodies-emit_looped-requires
+pages::emit_bodies-emit_looped-requires t c =
     let some = c.requires.1.1.0 in
     let within = c.requires.1.1.1.1 in
-    let falls : reach (length (chars c.args.body.now)) + 900 < reach (length (chars c.args.whole.now)) + 404 = omega (arith, reach_more (length (chars c.args.body.now)) (length (chars c.args.whole.now)) (omega (arith, some, within))) in
+    let falls : reach (length (chars c.args.body.now)) + 901 < reach (length (chars c.args.whole.now)) + 403 = omega (arith, reach_more (length (chars c.args.body.now)) (length (chars c.args.whole.now)) (omega (arith, some, within))) in
+    search rules
+
+pub pages::emit_bodies-emit_looped-requires-in-Some : goal.pages::emit_bodies-emit_looped-requires-in-Some
+pages::emit_bodies-emit_looped-requires-in-Some t c =
+    let some = c.requires.1.1.0 in
+    let within : length (chars c.in-Some.next.now) ≤ length (chars c.args.whole.now) - 1 = subst (λ (o : Option (Bor (List ℕ))). OtherwiseIsShort (length (chars c.args.whole.now) - 1) (option_map (λ t. chars t.now) o)) c.in-Some.is c.requires.1.1.1.0 in
+    let falls : reach (length (chars c.in-Some.next.now)) + 901 < reach (length (chars c.args.whole.now)) + 403 = omega (arith, reach_more (length (chars c.in-Some.next.now)) (length (chars c.args.whole.now)) (omega (arith, some, within))) in
+    search rules
+
+pub pages::emit_bodies-returns-in_ok-emit_looped-in-Some : goal.pages::emit_bodies-returns-in_ok-emit_looped-in-Some
+pages::emit_bodies-returns-in_ok-emit_looped-in-Some t c =
+    on_ok_weaker c.lead_here.result
+    (λ h. grown_turns c.args.context.dialect _ _ _ _ _ c.args.next c.in-Some.next (chars c.args.body.now) c.in-Some.is c.in_ok-emit_looped.ensures c.in_ok-emit-in-Some.ensures.done c.in_ok-emit_looped-in-Some.ensures (λ front back i e p. h front back i e (c.len-past.ensures ∙ p))) c.lead_here.ensures
+
+pub pages::emit_for-emit_body-requires : goal.pages::emit_for-emit_body-requires
+pages::emit_for-emit_body-requires t c =
+    let some = c.requires.1.1.0 in
+    let start = chars c.args.texts.now.start.now in
+    let within = c.requires.1.1.1.0 in
+    let falls : reach (length start) + 901 < reach (length (chars c.args.whole.now)) + 405 = omega (arith, reach_more (length start) (length (chars c.args.whole.now)) (omega (arith, some, within))) in
     search rules
 
 pub pages::emit_loop-emit_expression-requires : goal.pages::emit_loop-emit_expression-requires
@@ -488,7 +515,34 @@ pages::emit_loop-emit_expression-requires t c =
 pub pages::emit_loop-returns : goal.pages::emit_loop-returns
 pages::emit_loop-returns t c =
     on_ok_weaker c.emit_nothing.result
-    (λ h. grown_loop c.args.context.dialect _ _ _ _ _ _ _ _ _ _ _ _ _ _ (chars c.args.test.now) (chars c.args.body.now) c.in_ok-emit.ensures.done c.in_ok-emit-2.ensures.done (rw c.within.ensures at c.in_ok-emit_script.ensures) c.in_ok-emit-3.ensures.done
-    (λ front back i e p. c.in_ok-lead_here.ensures front back i e (c.len-begin.ensures ∙ p)) c.in_ok-emit-4.ensures.done (λ front back i e p. c.in_ok-lead_here-2.ensures front back i e (c.len-to_test.ensures ∙ p))
-    c.in_ok-emit_expression.ensures c.in_ok-emit-5.ensures.done c.in_ok-emit_turn.ensures (ap (λ n. n - c.len-begin.result) c.len.ensures ∙ ap (λ n. length c.emit-5.new.self - n) c.len-begin.ensures)
-    (λ front back i e p. c.in_ok-lead_here-3.ensures front back i e (c.len-out.ensures ∙ p)) h) c.emit_nothing.ensures
+    (λ h. grown_loop c.args.context.dialect _ _ _ _ _ _ _ _ _ _ _ (option_map (λ t. chars t.now) c.args.next) (chars c.args.test.now) (chars c.args.body.now) c.in_ok-emit.ensures.done c.in_ok-emit_bodies.ensures c.in_ok-emit-2.ensures.done
+    (λ front back i e p. c.in_ok-lead_here.ensures front back i e (c.len-to_test.ensures ∙ p)) c.in_ok-emit_expression.ensures c.in_ok-emit-3.ensures.done c.in_ok-emit_turn.ensures (ap (λ n. n - c.len-begin.result) c.len.ensures ∙ ap (λ n. length c.emit-3.new.self - n) c.len-begin.ensures)
+    (λ front back i e p. c.in_ok-lead_here-2.ensures front back i e (c.len-out.ensures ∙ p)) h) c.emit_nothing.ensures
+
+pub pages::emit_for-returns : goal.pages::emit_for-returns
+pages::emit_for-returns t c = on_ok_weaker c.emit_loop.result (λ h. grown_whole_for c.args.context.dialect _ _ _ c.args.texts.now c.in_ok-emit_body.ensures h) c.emit_loop.ensures
+
+pub each::emit_each-emit_turns-requires : goal.each::emit_each-emit_turns-requires
+each::emit_each-emit_turns-requires t c =
+    let whole = chars c.args.whole.now in
+    let body = chars c.args.each.now.body.now in
+    let is = c.requires.1.1.0 in
+    let some = c.requires.1.1.1.0 in
+    let short = each_short (length whole - 1) (chars c.args.each.now.list.now) body (map shape_of c.args.words.now) is.0 c.requires.1.1.1.1.1.1 in
+    let falls : reach (length body) + 902 < reach (length whole) + 404 = omega (arith, reach_more (length body) (length whole) (omega (arith, some, short))) in
+    (search rules, is.1)
+
+pub each::emit_each-returns : goal.each::emit_each-returns
+each::emit_each-returns t c =
+    let at = map_at shape_of c.args.words.now 2 c.index-words-2.result c.index-words-2.is in
+    on_ok_weaker c.lead_here-2.result
+    (λ h. grown_each c.args.context.dialect c.args.each.now (map shape_of c.args.words.now) (shape_of c.index-words-2.result) _ _ _ _ _ _ _ _ c.requires.1.1.0 at c.in_ok-emit_word.ensures c.in_ok-emit.ensures.done c.in_ok-emit_turns.ensures c.in_ok-emit-2.ensures.done
+    (λ front back i e p. c.in_ok-lead_here.ensures front back i e (c.len-guard.ensures ∙ p)) c.in_ok-emit_calling.ensures (λ front back i e p. h front back i e (c.len-past.ensures ∙ p))) c.lead_here-2.ensures
+
+pub each::emit_turns-returns : goal.each::emit_turns-returns
+each::emit_turns-returns t c =
+    let each = c.args.each.now in
+    on_ok_weaker c.emit_nothing.result
+    (λ h. grown_each_turns c.args.context.dialect _ _ _ _ _ _ _ _ _ _ _ _ _ (chars each.list.now) (map text_of each.names.items) (chars each.body.now) c.requires c.in_ok-emit.ensures.done c.in_ok-emit-2.ensures.done c.in_ok-emit-3.ensures.done (rw c.as_slice.ensures.value at c.in_ok-emit_names.ensures)
+    c.in_ok-emit_looped.ensures c.in_ok-emit-4.ensures.done (λ front back i e p. c.in_ok-lead_here.ensures front back i e (c.len-to_more.ensures ∙ p)) c.in_ok-emit-5.ensures.done c.in_ok-emit_turn.ensures
+    (ap (λ n. n - c.len-begin.result) c.len.ensures ∙ ap (λ n. length c.emit-5.new.self - n) c.len-begin.ensures) c.in_ok-emit-6.ensures.done h) c.emit_nothing.ensures

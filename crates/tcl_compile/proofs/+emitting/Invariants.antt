@@ -51,6 +51,21 @@ decreases-pages::emit_clauses l = reach (length (chars l.whole.now)) + (405 + le
 abbrev pub decreases-pages::emit_loop : goal.decreases-pages::emit_loop
 decreases-pages::emit_loop l = reach (length (chars l.whole.now)) + 404
 
+abbrev pub decreases-pages::emit_looped : goal.decreases-pages::emit_looped
+decreases-pages::emit_looped l = reach (length (chars l.text.now)) + 901
+
+abbrev pub decreases-pages::emit_bodies : goal.decreases-pages::emit_bodies
+decreases-pages::emit_bodies l = reach (length (chars l.whole.now)) + 403
+
+abbrev pub decreases-pages::emit_for : goal.decreases-pages::emit_for
+decreases-pages::emit_for l = reach (length (chars l.whole.now)) + 405
+
+abbrev pub decreases-each::emit_each : goal.decreases-each::emit_each
+decreases-each::emit_each l = reach (length (chars l.whole.now)) + 404
+
+abbrev pub decreases-each::emit_turns : goal.decreases-each::emit_turns
+decreases-each::emit_turns l = reach (length (chars l.each.now.body.now)) + 902
+
 abbrev pub decreases-script::emit_inlined : goal.decreases-script::emit_inlined
 decreases-script::emit_inlined l = reach (length (chars l.whole.now)) + 501
 

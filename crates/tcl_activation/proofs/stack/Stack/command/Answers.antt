@@ -2,7 +2,7 @@ use Rattle.std.proofs.Common.{Ok}
 use Rattle.tcl_code.specs.declared.instr.Instr.TheVariants as instr
 use Rattle.tcl_activation.proofs.Topics.{acts_as, goes_as}
 use Rattle.tcl_activation.proofs.stack.Stack.command.Goals as goal
-use Rattle.tcl_activation.proofs.stack.Stack.command.Goals.{in-Leave+in_ok-leave-in-Leave, in-Gather+in_ok-gather-in-Gather, in-Add+in_ok-add-in-Add, in-Answer, in-Become}
+use Rattle.tcl_activation.proofs.stack.Stack.command.Goals.{in-Leave+in_ok-leave-in-Leave, in-Gather+in_ok-gather-in-Gather, in-Add+in_ok-add-in-Add, in-TakeFirst+in_ok-take_first-in-TakeFirst, in-DropList, in-Answer, in-Become}
 
 pub returns-in-Call : goal.returns-in-Call
 returns-in-Call c ts = acts_as c.args.dialect ts c.args.instr (instr.Call c.in-Call.count) c.args.self.now c.call.new.self (Ok c.call.result) c.in-Call.is (c.call.ensures c.args.dialect)
@@ -18,6 +18,8 @@ returns c ts at s = elim c.match-instr.branch [
   | in-Leave+in_ok-leave-in-Leave w ↦ goes_as c.args.dialect ts c.args.instr instr.Leave c.args.self.now w.leave.new.self c.match-instr.self w.in-Leave.is w.self-is w.in_ok-leave-in-Leave.ensures at s
   | in-Gather+in_ok-gather-in-Gather w ↦ goes_as c.args.dialect ts c.args.instr instr.Gather c.args.self.now w.gather.new.self c.match-instr.self w.in-Gather.is w.self-is w.in_ok-gather-in-Gather.ensures at s
   | in-Add+in_ok-add-in-Add w ↦ goes_as c.args.dialect ts c.args.instr instr.Add c.args.self.now w.add.new.self c.match-instr.self w.in-Add.is w.self-is w.in_ok-add-in-Add.ensures at s
+  | in-TakeFirst+in_ok-take_first-in-TakeFirst w ↦ goes_as c.args.dialect ts c.args.instr instr.TakeFirst c.args.self.now w.take_first.new.self c.match-instr.self w.in-TakeFirst.is w.self-is w.in_ok-take_first-in-TakeFirst.ensures at s
+  | in-DropList w ↦ goes_as c.args.dialect ts c.args.instr instr.DropList c.args.self.now w.drop_list.new.self c.match-instr.self w.in-DropList.is w.self-is w.drop_list.ensures at s
   | in-Answer w ↦ goes_as c.args.dialect ts c.args.instr instr.Answer c.args.self.now w.set_result.new.self c.match-instr.self w.in-Answer.is w.self-is w.set_result.ensures at s
   | in-Become w ↦ goes_as c.args.dialect ts c.args.instr instr.Become c.args.self.now w.end_script.new.self c.match-instr.self w.in-Become.is w.self-is w.end_script.ensures at s
 ]
