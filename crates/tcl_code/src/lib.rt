@@ -11,6 +11,7 @@ mod code;
 mod inlined;
 mod instr;
 pub mod laws;
+mod recent;
 mod search;
 mod shape;
 

@@ -100,6 +100,23 @@ fn is_invalid(built: &Built) -> bool {
     matches!(built, Err(CodeFault::Invalid))
 }
 
+/// The numbers of the texts of two commands in a row that have this name.
+fn numbers(alloc: Global, name: &str) -> Result<Option<(u32, u32)>, AllocError> {
+    let mut builder = CodeBuilder::new(alloc);
+    for _ in 0..2 {
+        builder.emit(Instr::Spend)?;
+        builder.push(name)?;
+        builder.emit(Instr::Call(1))?;
+    }
+    let Ok(code) = builder.finish() else {
+        return Ok(None);
+    };
+    match (code.instr(1), code.instr(4)) {
+        (Some(Instr::Push(first)), Some(Instr::Push(second))) => Ok(Some((first, second))),
+        _ => Ok(None),
+    }
+}
+
 #[test]
 fn codes_are_built(rt: HostRuntime) -> Result<(), Fail> {
     let alloc = rt.alloc();
@@ -133,4 +150,12 @@ fn a_shared_code_is_read(rt: HostRuntime) -> Result<(), Fail> {
         assert!(rt; shared.instr(5).is_none());
     }
     Ok(())
+}
+
+#[test]
+fn a_text_that_comes_again_is_kept_once(rt: HostRuntime) {
+    for name in ["exit", "17", "a b c", ""] {
+        let found = numbers(rt.alloc(), name);
+        assert!(rt; matches!(found, Ok(Some((0, 0)))), "{name}");
+    }
 }

@@ -7,13 +7,9 @@ use tcl_names::Layout;
 
 /// How many commands of a code are inlined.
 fn guards(code: &Code) -> usize {
-    let mut found = 0;
-    for place in 0..code.len() {
-        if matches!(code.instr(place), Some(Instr::Guard(_, _))) {
-            found += 1;
-        }
-    }
-    found
+    (0..code.len())
+        .filter(|place| matches!(code.instr(*place), Some(Instr::Guard(_, _))))
+        .count()
 }
 
 /// How many turns back, and how many commands that are inlined, the code of a script has.
@@ -36,7 +32,10 @@ fn loops_turn_in_place(rt: HostRuntime) {
         ("puts [while 1 {}]", 1, 1),
     ] {
         let found = counted(rt.alloc(), script);
-        assert!(rt; matches!(found, Ok((t, i)) if t == turns && i == inlined), "{script}");
+        assert!(rt;
+            matches!(found, Ok((t, i)) if t == turns && i == inlined),
+            "{script}"
+        );
     }
 }
 
