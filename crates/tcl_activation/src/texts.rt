@@ -1,6 +1,8 @@
 //! Instructions that put texts onto the stack.
 ghost use Rattle.std.specs.Prelude.{◌≡◌, ◌≤◌, length, IfOk, OnOk};
 ghost use Rattle.std.specs.List.{concat};
+ghost use Rattle.std.specs.Str.{chars};
+ghost use Rattle.std.specs.String.{string_bytes};
 ghost use Rattle.tcl_activation.specs.Moves.{Goes};
 ghost use Rattle.tcl_activation.specs.Reads.{Reads};
 ghost use Rattle.tcl_code.specs.Instructions.{Push, Read, ReadElement, Join};
@@ -10,7 +12,6 @@ use crate::progress::Progress;
 use crate::stack::{Stack, lifted};
 use crate::variables::{Unread, Variables};
 use std::alloc::{AllocError, Global};
-use std::rc::RcStr;
 use tcl_chars::push_text;
 use tcl_steps::Completion;
 use tcl_values::Value;
@@ -27,15 +28,15 @@ fn joined(alloc: Global, words: &[Value]) -> Result<Value, AllocError>
 }
 
 // The name of an array's element, as a script writes it.
-fn spelled_element(alloc: Global, name: &Value, index: &Value) -> Result<Value, AllocError>
-    ensures { IfOk result (λ v. v ≡ spelled_element name.now index.now) }
+fn spelled_element(alloc: Global, name: &Value, index: &Value) -> Result<String, AllocError>
+    ensures { IfOk result (λ s. chars (string_bytes s) ≡ spelled_element name.now index.now) }
 {
     let mut whole = String::new(alloc);
     name.write_to(alloc, &mut whole)?;
     push_text(&mut whole, "(")?;
     index.write_to(alloc, &mut whole)?;
     push_text(&mut whole, ")")?;
-    Ok(Value::of_text(RcStr::from_string(whole)?))
+    Ok(whole)
 }
 
 impl Stack {
@@ -46,28 +47,42 @@ impl Stack {
         self.texts.push(text)
     }
 
-    /// The text of a variable.
-    pub fn read<F: Variables>(
+    /// The text of the variable of a name.
+    #[inline(always)]
+    fn read_named<F: Variables>(
         &mut self,
         alloc: Global,
         frames: &F,
-        mut name: Value,
+        name: &str,
     ) -> Result<Progress, AllocError>
-        ensures { Reads (F.store frames.now) (Read name) self.old self.new result }
+        ensures { Reads (F.store frames.now) (Read (chars name.now)) self.old self.new result }
     {
-        let name = name.text(alloc)?;
-        match frames.read(alloc, name.as_str()) {
+        match frames.read(alloc, name) {
             Ok(text) => {
                 self.texts.push(text)?;
                 Ok(Progress::Moved)
             }
             Err(Unread::Refused(refusal)) => Ok(Progress::Over(Completion::cant_read(
-                alloc,
-                name.as_str(),
-                refusal,
+                alloc, name, refusal,
             )?)),
             Err(Unread::Memory) => Err(AllocError),
         }
+    }
+
+    /// The text of a variable.
+    pub fn read<F: Variables>(
+        &mut self,
+        alloc: Global,
+        frames: &F,
+        name: &Value,
+    ) -> Result<Progress, AllocError>
+        ensures { Reads (F.store frames.now) (Read name.now) self.old self.new result }
+    {
+        if let Some(shown) = name.shown() {
+            return self.read_named(alloc, frames, shown);
+        }
+        let text = name.copy()?.text(alloc)?;
+        self.read_named(alloc, frames, text.as_str())
     }
 
     /// The text of an array's element, whose index is on top.
@@ -75,14 +90,14 @@ impl Stack {
         &mut self,
         alloc: Global,
         frames: &F,
-        name: Value,
+        name: &Value,
     ) -> Result<Progress, AllocError>
         requires { 1 ≤ length self.old.texts }
-        ensures { Reads (F.store frames.now) (ReadElement name) self.old self.new result }
+        ensures { Reads (F.store frames.now) (ReadElement name.now) self.old self.new result }
     {
         let index = self.texts.pop();
-        let full = spelled_element(alloc, &name, &index)?;
-        self.read(alloc, frames, full)
+        let full = spelled_element(alloc, name, &index)?;
+        self.read_named(alloc, frames, full.as_str())
     }
 
     /// Joins the top `count` texts into one. One text alone stays as it is kept.

@@ -9,13 +9,13 @@ pub returns-in_ok-push-in-Push : goal.returns-in_ok-push-in-Push
 returns-in_ok-push-in-Push g c = reads_as (g.F.Variables.store c.args.frames.now) c.args.code.now.texts c.args.instr (instr.Push c.in-Push.number) (Push c.in_ok-copy-in-Push.field-0) c.args.self.now c.push.new.self (Ok progress.Moved)
     c.in-Push.is (ap Push (copied c.args.code.now.texts c.in-Push.number c.text.result.now c.in_ok-copy-in-Push.field-0 c.text.ensures c.in_ok-copy-in-Push.ensures)) (λ dialect at s same. c.in_ok-push-in-Push.ensures dialect at s)
 
-pub returns-in_ok-copy-in-Read : goal.returns-in_ok-copy-in-Read
-returns-in_ok-copy-in-Read g c = reads_as (g.F.Variables.store c.args.frames.now) c.args.code.now.texts c.args.instr (instr.Read c.in-Read.number) (Read c.in_ok-copy-in-Read.field-0) c.args.self.now c.read.new.self c.read.result
-    c.in-Read.is (ap Read (copied c.args.code.now.texts c.in-Read.number c.text-in-Read.result.now c.in_ok-copy-in-Read.field-0 c.text-in-Read.ensures c.in_ok-copy-in-Read.ensures)) c.read.ensures
+pub returns-in-Read : goal.returns-in-Read
+returns-in-Read g c = reads_as (g.F.Variables.store c.args.frames.now) c.args.code.now.texts c.args.instr (instr.Read c.in-Read.number) (Read c.text-in-Read.result.now) c.args.self.now c.read.new.self c.read.result
+    c.in-Read.is (ap Read (copied c.args.code.now.texts c.in-Read.number c.text-in-Read.result.now c.text-in-Read.result.now c.text-in-Read.ensures refl)) c.read.ensures
 
-pub returns-in_ok-copy-in-ReadElement : goal.returns-in_ok-copy-in-ReadElement
-returns-in_ok-copy-in-ReadElement g c = reads_as (g.F.Variables.store c.args.frames.now) c.args.code.now.texts c.args.instr (instr.ReadElement c.in-ReadElement.number) (ReadElement c.in_ok-copy-in-ReadElement.field-0) c.args.self.now c.read_element.new.self c.read_element.result
-    c.in-ReadElement.is (ap ReadElement (copied c.args.code.now.texts c.in-ReadElement.number c.text-in-ReadElement.result.now c.in_ok-copy-in-ReadElement.field-0 c.text-in-ReadElement.ensures c.in_ok-copy-in-ReadElement.ensures)) c.read_element.ensures
+pub returns-in-ReadElement : goal.returns-in-ReadElement
+returns-in-ReadElement g c = reads_as (g.F.Variables.store c.args.frames.now) c.args.code.now.texts c.args.instr (instr.ReadElement c.in-ReadElement.number) (ReadElement c.text-in-ReadElement.result.now) c.args.self.now c.read_element.new.self c.read_element.result
+    c.in-ReadElement.is (ap ReadElement (copied c.args.code.now.texts c.in-ReadElement.number c.text-in-ReadElement.result.now c.text-in-ReadElement.result.now c.text-in-ReadElement.ensures refl)) c.read_element.ensures
 
 pub returns-in_ok-join-in-Join : goal.returns-in_ok-join-in-Join
 returns-in_ok-join-in-Join g c = reads_as (g.F.Variables.store c.args.frames.now) c.args.code.now.texts c.args.instr (instr.Join c.in-Join.count) (Join c.in-Join.count) c.args.self.now c.join.new.self (Ok progress.Moved)
