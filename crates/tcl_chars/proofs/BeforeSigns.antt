@@ -23,7 +23,7 @@ pub data IsSign : ℕ → Type 0 where
   is_plus : IsSign 43
   is_minus : IsSign 45
 
-abbrev sign_test : ℕ → Bool
+abbrev pub sign_test : ℕ → Bool
 sign_test c = (c == 43) || (c == 45)
 
 pub sign_is : (c : ℕ) → sign_test c ≡ true → IsSign c
@@ -36,7 +36,7 @@ sign_not_digit : (s radix : ℕ) → IsSign s → radix ≤ 16 → nat_lt (digit
 sign_not_digit _ radix is_plus l = le-ltb 36 radix (omega arith)
 sign_not_digit _ radix is_minus l = le-ltb 36 radix (omega arith)
 
-digit_not_sign : (c radix : ℕ) → radix ≤ 16 → nat_lt (digit_value c) radix ≡ true → sign_test c ≡ false
+pub digit_not_sign : (c radix : ℕ) → radix ≤ 16 → nat_lt (digit_value c) radix ≡ true → sign_test c ≡ false
 digit_not_sign c radix l h = grind (arith, nat_tests)
 
 -- a sign stands behind a text without one
@@ -48,13 +48,13 @@ to_sign_past (c ∷ t) s o i h = elim (cases_Bool (sign_test c)) [
   | inr other ↦ let k : to_sign t ≡ [] = rw other at h in rw other (to_sign_past t s o i k)
 ]
 
-signless_tail : (c : ℕ) (t : List ℕ) → to_sign (c ∷ t) ≡ [] → to_sign t ≡ []
-signless_tail c t h = elim (cases_Bool (sign_test c)) [
+pub signless_parts : (c : ℕ) (t : List ℕ) → to_sign (c ∷ t) ≡ [] → (sign_test c ≡ false) × (to_sign t ≡ [])
+signless_parts c t h = elim (cases_Bool (sign_test c)) [
   | inl here ↦ absurd (let k : c ∷ t ≡ [] = rw here at h in cc)
-  | inr other ↦ rw other at h
+  | inr other ↦ (other, rw other at h)
 ]
 
-signless_more : (c : ℕ) (t : List ℕ) → sign_test c ≡ false → to_sign t ≡ [] → to_sign (c ∷ t) ≡ []
+pub signless_more : (c : ℕ) (t : List ℕ) → sign_test c ≡ false → to_sign t ≡ [] → to_sign (c ∷ t) ≡ []
 signless_more c t e h = rw e h
 
 -- ---- digits
@@ -99,7 +99,7 @@ zero_radix_le : (dialect : Dialect) → zero_radix dialect ≤ 16
 zero_radix_le Tcl86 = omega arith
 zero_radix_le Tcl9 = omega arith
 
-radix_le : (dialect : Dialect) (cs : List ℕ) → (radix_of dialect cs).0 ≤ 16
+pub radix_le : (dialect : Dialect) (cs : List ℕ) → (radix_of dialect cs).0 ≤ 16
 radix_le dialect [] = omega arith
 radix_le dialect (c ∷ []) = omega arith
 radix_le dialect (c ∷ d ∷ cs) =
@@ -131,7 +131,7 @@ radix_before dialect c (d ∷ t) s o i = cond_behind (c == 48) (radix_behind_zer
 letter_not_sign : (a b d : ℕ) → 45 < a → 45 < b → (d == a || d == b) ≡ true → sign_test d ≡ false
 letter_not_sign a b d l m h = grind (arith, nat_tests)
 
-radix_signless : (dialect : Dialect) (cs : List ℕ) → to_sign (radix_of dialect cs).1 ≡ [] → to_sign cs ≡ []
+pub radix_signless : (dialect : Dialect) (cs : List ℕ) → to_sign (radix_of dialect cs).1 ≡ [] → to_sign cs ≡ []
 radix_signless dialect [] h = refl
 radix_signless dialect (c ∷ []) h = h
 radix_signless dialect (c ∷ d ∷ cs) h =
@@ -141,7 +141,7 @@ radix_signless dialect (c ∷ d ∷ cs) h =
     cond_both (d == 120 || d == 88) _ _ P (λ e k. signless_more d cs (letter_not_sign 120 88 d (omega arith) (omega arith) e) k)
     (λ e. cond_both (d == 111 || d == 79) _ _ P (λ e k. signless_more d cs (letter_not_sign 111 79 d (omega arith) (omega arith) e) k)
     (λ e. cond_both (d == 98 || d == 66) _ _ P (λ e k. signless_more d cs (letter_not_sign 98 66 d (omega arith) (omega arith) e) k)
-    (λ e. cond_both (is_ascii_digit d) _ _ P (λ e k. k) (λ e k. signless_tail 48 (d ∷ cs) k)))) in
+    (λ e. cond_both (is_ascii_digit d) _ _ P (λ e k. k) (λ e k. (signless_parts 48 (d ∷ cs) k).1)))) in
     cond_both (c == 48) (radix_behind_zero dialect d cs) (10, c ∷ d ∷ cs) Q
     (λ e k. signless_more c (d ∷ cs) (ap sign_test (eqb-true c 48 e)) (behind k)) (λ e k. k) h
 
@@ -233,7 +233,7 @@ unsigned dialect c t z p h =
         | inr none ↦
             let e : sign_of (c ∷ t) ≡ (false, c ∷ t) = cond-false _ _ _ other ∙ cond-false _ _ _ none in
             let (n, k) = number_says dialect c t (c ∷ t) false z both.0 e h in
-            record { negative = false; digits = c ∷ t; size = n; sign = e; more = λ r. cond-false _ _ _ other ∙ cond-false _ _ _ none; plain = p; says = k; signless = signless_tail c t (magnitude_signless dialect (c ∷ t) n p k) }
+            record { negative = false; digits = c ∷ t; size = n; sign = e; more = λ r. cond-false _ _ _ other ∙ cond-false _ _ _ none; plain = p; says = k; signless = (signless_parts c t (magnitude_signless dialect (c ∷ t) n p k)).1 }
       ]
     ]
 

@@ -24,7 +24,7 @@ use Rattle.tcl_chars.proofs.IndicesLemmas.{sum_ends}
 
 -- ---- what is read is so spelled
 
-first_sign : (cs : List ℕ) (s : ℕ) (o : List ℕ) → to_sign cs ≡ s ∷ o → IsSign s
+pub first_sign : (cs : List ℕ) (s : ℕ) (o : List ℕ) → to_sign cs ≡ s ∷ o → IsSign s
 first_sign [] s o h = absurd cc
 first_sign (c ∷ cs) s o h = elim (cases_Bool ((c == 43) || (c == 45))) [
   | inl here ↦ let e : c ∷ cs ≡ s ∷ o = rw here at h in let f : c ≡ s = cc in subst IsSign f (sign_is c here)
@@ -118,11 +118,11 @@ number_read : (dialect : Dialect) (cs : List ℕ) (z : ℤ) → whole_of dialect
 unfolding index_of
 number_read dialect cs z h = ap (number_or_sum dialect cs) h
 
-end_is_no_number : (dialect : Dialect) → whole_of dialect (literal "end") ≡ whole.Not
+pub end_is_no_number : (dialect : Dialect) → whole_of dialect (literal "end") ≡ whole.Not
 unfolding whole_of magnitude chars
 end_is_no_number dialect = refl
 
-end_read : (dialect : Dialect) → index_of dialect (literal "end") ≡ index.At (End (pos 0))
+pub end_read : (dialect : Dialect) → index_of dialect (literal "end") ≡ index.At (End (pos 0))
 unfolding index_of whole_of magnitude chars
 end_read dialect = refl
 
@@ -149,7 +149,7 @@ end_no_number : (dialect : Dialect) (s : ℕ) (o : List ℕ) → whole_of dialec
 unfolding whole_of magnitude chars
 end_no_number dialect s o = refl
 
-end_base : (dialect : Dialect) → base_of dialect (literal "end") ≡ index.At (End (pos 0))
+pub end_base : (dialect : Dialect) → base_of dialect (literal "end") ≡ index.At (End (pos 0))
 unfolding chars
 end_base dialect = refl
 

@@ -3,7 +3,6 @@ pub mod ChoiceLemmas
 pub mod ExitLemmas
 pub mod HandlerLemmas
 pub mod OptionJoins
-pub mod OptionSizes
 pub mod PageLemmas
 pub mod ReturnWords
 pub mod SwitchChoices

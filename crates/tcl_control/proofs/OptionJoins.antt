@@ -7,7 +7,7 @@ use Rattle.tcl_meaning.specs.Codes.{options_joined, size_of, else_message, no_op
 use Rattle.tcl_pages.specs.Answers.{Answer, ◌>>=◌}
 use Rattle.tcl_pages.specs.Dictionaries.{Pairs, put_key, pairs_of}
 use Rattle.tcl_pages.specs.Texts.{Text, same_text}
-use Rattle.tcl_control.proofs.OptionSizes.{pairs_of_size}
+use Rattle.tcl_meaning.proofs.OptionSizes.{size_append, pairs_of_size}
 
 -- ---- answers, one behind another
 
@@ -50,10 +50,6 @@ enough (suc n) zero found (p ∷ ps) h k = absurd (omega (arith, k))
 enough (suc n) (suc m) found (p ∷ ps) h k = enough_by (same_text p.0 (literal "-options")) n m found p ps (enough n m) (omega (arith, h)) (omega (arith, k))
 
 -- ---- options behind others
-
-pub size_append : (ps qs : Pairs) → size_of (ps ++ qs) ≡ size_of ps + size_of qs
-size_append [] qs = omega arith
-size_append (p ∷ ps) qs = omega (arith, size_append ps qs)
 
 abbrev Divided : ℕ → Pairs → Pairs → Type 0
 Divided n ps qs = (found : Pairs) → options_joined n found (ps ++ qs) ≡ (options_joined n found ps >>= λ all. options_joined n all qs)

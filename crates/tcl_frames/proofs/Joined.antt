@@ -4,9 +4,9 @@ use Rattle.std.specs.Prelude.{slice_set, IfOk, IfErr, IfSome, ◌==◌, if◌the
 use Rattle.std.specs.FinMap as map
 use Rattle.tcl_pages.specs.Texts.{Text}
 use Rattle.tcl_meaning.specs.declared.refusal.Refusal.{Refusal}
-use Rattle.tcl_meaning.specs.Frames.{Variable, Variables, whole, Spot, Frame, frame_at, set_frame, Level, up, at, chain_of, chain, nth, of_level, frame_of_level}
+use Rattle.tcl_meaning.specs.Frames.{Variable, Variables, Part, whole, Spot, Frame, frame_at, set_frame, Level, up, at, chain_of, chain, nth, of_level, frame_of_level}
 use Rattle.tcl_meaning.specs.Arrays.{whole_array, array_of, spot_named}
-use Rattle.tcl_meaning.specs.SeenPages.{is_there, is_there_at, exists_here, names_of, frame_names}
+use Rattle.tcl_meaning.specs.SeenPages.{is_there, is_there_at, names_of, frame_names}
 use Rattle.tcl_meaning.specs.Links.{links_of, destination, spot_in, home}
 use Rattle.tcl_meaning.specs.Names.{Name, divided_name}
 use Rattle.tcl_meaning.specs.State.{Commands, Store, Change, with_call, active_frame}
@@ -109,14 +109,17 @@ module _ (f : Standing) (vs : List Variables) (now : Standing) (view : joined f 
   unfolding remove_change
   remove_joined miss e = at_place (λ q v. removed q (remove_part (missing (divided_name name).part) v q.part)) ∙ ap (λ x. removed p (remove_part x (variable_in vs p) p.part)) (sym e)
 
--- a name of the active frame, which is not divided
-pub here_joined : (f : Standing) (vs : List Variables) (now : Standing) → joined f vs ≡ now → length f.frames ≡ length vs → (cs : Commands) (name : Text) (p : Spot)
-    → p ≡ destination f.frames (record { frame = f.active; name = name; part = whole }) → exists_here (store_of cs now) name ≡ is_there (variable_in vs p) p.part
-here_joined f vs now view even cs name p leads =
+-- what is told of a name of the active frame, which is not divided
+abbrev told_here : {A : Type 0} → (Option Variable → Part → A) → Store → Text → A
+told_here tell s name = let p = destination s.frames (record { frame = s.active; name = name; part = whole }) in tell (variable_at s p) p.part
+
+pub here_joined : {A : Type 0} (tell : Option Variable → Part → A) (f : Standing) (vs : List Variables) (now : Standing) → joined f vs ≡ now → length f.frames ≡ length vs → (cs : Commands) (name : Text) (p : Spot)
+    → p ≡ destination f.frames (record { frame = f.active; name = name; part = whole }) → told_here tell (store_of cs now) name ≡ tell (variable_in vs p) p.part
+here_joined tell f vs now view even cs name p leads =
     let q : Spot = record { frame = f.active; name = name; part = whole } in
-    ap (λ (n : Standing). exists_here (store_of cs n) name) (sym view)
-    ∙ ap (λ (k : Spot). is_there_at (store_of cs (joined f vs)) k) (destination_joined f.frames vs q ∙ sym leads)
-    ∙ ap (λ v. is_there (map.get v p.name) p.part) (variables_joined f.frames vs p.frame even)
+    ap (λ (n : Standing). told_here tell (store_of cs n) name) (sym view)
+    ∙ ap (λ (k : Spot). tell (variable_at (store_of cs (joined f vs)) k) k.part) (destination_joined f.frames vs q ∙ sym leads)
+    ∙ ap (λ v. tell (map.get v p.name) p.part) (variables_joined f.frames vs p.frame even)
 
 -- the names of the active frame's variables and links
 pub names_joined : (f : Standing) (vs : List Variables) (now : Standing) → joined f vs ≡ now → length f.frames ≡ length vs → (cs : Commands)

@@ -1,5 +1,5 @@
 -- What spells an index is read as a position where its numbers all fit, and else as too large; what spells none is read as none.
-use Rattle.std.proofs.Common.{◌≡◌, ℕ, ◌==◌, ◌||◌, ◌&&◌, Bool, true, false, cond, List, [], ◌∷◌, ◌++◌, Option, Some, None, ℤ, pos, sym, ◌∙◌, ap, subst, refl, inl, inr, ◌⊎◌}
+use Rattle.std.proofs.Common.{◌≡◌, ℕ, ◌==◌, ◌&&◌, Bool, true, false, cond, List, [], ◌∷◌, ◌++◌, Option, Some, None, ℤ, pos, sym, ◌∙◌, ap, subst, refl, inl, inr, ◌⊎◌}
 use Rattle.std.specs.Prelude.{neg_ℤ}
 use Rattle.std.specs.Str.{chars}
 use Rattle.std.proofs.lemmas.Bool.{cases_Bool, cond-true, cond-false, false_from_ne_true}
@@ -16,10 +16,10 @@ use Rattle.tcl_chars.specs.declared.indices.Position.{Position}
 use Rattle.tcl_chars.specs.declared.indices.Position.TheVariants.{Start, End}
 use Rattle.tcl_chars.specs.declared.numbers.Dialect.{Dialect}
 use Rattle.tcl_chars.specs.declared.numbers.Whole.TheVariants as whole
-use Rattle.tcl_chars.proofs.BeforeSigns.{IsSign, is_plus, is_minus, sign_is}
+use Rattle.tcl_chars.proofs.BeforeSigns.{IsSign, is_plus, is_minus}
 use Rattle.tcl_chars.proofs.IndicesLemmas.{sum_ends}
 use Rattle.tcl_chars.proofs.Same.{text_is}
-use Rattle.tcl_chars.proofs.SpelledIndices.{before_front, cut_at, index_is_spelled}
+use Rattle.tcl_chars.proofs.SpelledIndices.{first_sign, before_front, cut_at, end_is_no_number, end_read, end_base, index_is_spelled}
 use Rattle.tcl_laws.specs.Indices.{Writes, SpellsBase, WritesPlain, SpellsIndex, all_fit, SpellsTooLarge, LargeIsSpelled, OtherIsNoIndex, PositionsFit}
 use Rattle.tcl_laws.specs.Indices.SpellsBase.{last, number}
 use Rattle.tcl_laws.specs.Indices.SpellsIndex.{alone, base, more, less}
@@ -33,18 +33,6 @@ sized_index fit p = cond fit (index.At p) index.TooLarge
 
 abbrev ReadAs : Index → List ℤ → Type 0
 ReadAs i numbers = (p : Position) × (i ≡ sized_index (all_fit numbers) p)
-
-end_is_no_number : (dialect : Dialect) → whole_of dialect (literal "end") ≡ whole.Not
-unfolding whole_of magnitude chars
-end_is_no_number dialect = refl
-
-end_base : (dialect : Dialect) → base_of dialect (literal "end") ≡ index.At (End (pos 0))
-unfolding chars
-end_base dialect = refl
-
-end_read : (dialect : Dialect) → index_of dialect (literal "end") ≡ index.At (End (pos 0))
-unfolding index_of whole_of magnitude chars
-end_read dialect = refl
 
 end_sign : (dialect : Dialect) (s : ℕ) (o : List ℕ) → IsSign s → SignBehind dialect (literal "end") s o
 unfolding whole_of magnitude chars
@@ -157,13 +145,6 @@ sum_or_none : (dialect : Dialect) (b r : List ℕ) → ((s : ℕ) (o : List ℕ)
 sum_or_none dialect b r sign = elim (base_or_none dialect b) [
   | inl none ↦ inl (ap (λ i. shifted i (offset_of dialect r)) none)
   | inr h ↦ behind_base dialect b r h.0 sign h.1
-]
-
-first_sign : (cs : List ℕ) (s : ℕ) (o : List ℕ) → to_sign cs ≡ s ∷ o → IsSign s
-first_sign [] s o h = absurd cc
-first_sign (c ∷ cs) s o h = elim (cases_Bool ((c == 43) || (c == 45))) [
-  | inl here ↦ let e : c ∷ cs ≡ s ∷ o = rw here at h in let f : c ≡ s = cc in subst IsSign f (sign_is c here)
-  | inr other ↦ let e : to_sign cs ≡ s ∷ o = rw other at h in first_sign cs s o e
 ]
 
 spelled_or_none : (dialect : Dialect) (cs : List ℕ) → (index_of dialect cs ≡ index.Not) ⊎ SpellsSome dialect cs

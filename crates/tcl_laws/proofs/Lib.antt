@@ -5,5 +5,4 @@ pub mod ListCalls
 pub mod ListWords
 pub mod NumberTexts
 pub mod OneCommand
-pub mod OptionSizes
 pub mod ReturnOptions

@@ -1,75 +1,26 @@
 -- What a text writes as a number of any size, and where a sign can stand in it.
-use Rattle.std.proofs.Common.{◌≡◌, ℕ, zero, suc, ◌+◌, ◌<◌, ◌≤◌, Bool, true, false, not, ◌||◌, ◌==◌, cond, List, [], ◌∷◌, ◌++◌, length, drop, Option, Some, None, ℤ, pos, sym, ◌∙◌, ap, subst, refl, arith, inl, inr, ◌⊎◌, true≢false}
+use Rattle.std.proofs.Common.{◌≡◌, ℕ, zero, suc, ◌+◌, ◌≤◌, Bool, true, false, not, ◌||◌, ◌==◌, cond, List, [], ◌∷◌, ◌++◌, length, drop, Option, Some, None, ℤ, pos, sym, ◌∙◌, ap, subst, refl, arith, inl, inr, ◌⊎◌, true≢false}
 use Rattle.std.specs.Prelude.{nat_lt, neg_ℤ}
-use Rattle.std.specs.Char.{digit_value, is_ascii_digit}
-use Rattle.std.specs.Str.Parse.{digits_value}
-use Rattle.std.proofs.lemmas.Bool.{cases_Bool, cases_lt, cond-true, cond-false, cond_both, not-false, or_parts, eqb-true, lt-ltb}
+use Rattle.std.specs.Char.{digit_value}
+use Rattle.std.proofs.lemmas.Bool.{cases_Bool, cond-true, cond-false, cond_both, not-false, or_parts, eqb-true}
 use Rattle.std.proofs.lemmas.Bool.Decides.{nat_tests}
 use Rattle.tcl_chars.specs.Arith.{fits}
 use Rattle.tcl_chars.specs.Classes.{is_list_space}
 use Rattle.tcl_chars.specs.Index.{has_space, to_sign}
 use Rattle.tcl_chars.specs.Place.{tail}
-use Rattle.tcl_chars.specs.Whole.{skip_space, is_only_space, sign_of, zero_radix, radix_behind_zero, radix_of, digits_len, numeral, signed, magnitude, whole_of}
+use Rattle.tcl_chars.specs.Whole.{skip_space, is_only_space, sign_of, radix_of, digits_len, numeral, signed, magnitude, whole_of}
 use Rattle.tcl_chars.specs.declared.numbers.Dialect.{Dialect}
 use Rattle.tcl_chars.specs.declared.numbers.Whole.{Whole}
 use Rattle.tcl_chars.specs.declared.numbers.Whole.TheVariants.{Number, TooLarge, Not}
-use Rattle.tcl_chars.proofs.BeforeSigns.{IsSign, is_minus, to_sign_past, sign_found}
-use Rattle.tcl_chars.proofs.Ends.{if_cond}
-use Rattle.tcl_chars.proofs.Figures.{no_digits, number_is, whole_is}
+use Rattle.tcl_chars.proofs.BeforeSigns.{IsSign, sign_test, digit_not_sign, to_sign_past, signless_parts, signless_more, radix_le, radix_signless}
+use Rattle.tcl_chars.proofs.Figures.{no_digits, whole_is}
 use Rattle.tcl_laws.specs.Indices.{AllSpace, Writes}
 use Rattle.tcl_laws.specs.Indices.Writes.{plain, plus, minus}
 
--- ---- a sign is no digit
-
-plus_as_digit : (dialect : Dialect) → 36 < zero_radix dialect → whole_of dialect (48 ∷ 48 ∷ 43 ∷ []) ≡ Number (pos 36)
-plus_as_digit dialect high =
-    let r = zero_radix dialect in
-    let some : 0 < r = omega arith in
-    let two : 2 ≡ digits_len r (48 ∷ 43 ∷ []) = sym (cond-true _ _ _ (lt-ltb 0 r some) ∙ ap (λ n. 1 + n) (cond-true _ _ _ (lt-ltb 36 r high))) in
-    let value : digits_value r (48 ∷ 43 ∷ []) ≡ 36 = omega arith in
-    whole_is dialect (48 ∷ 48 ∷ 43 ∷ []) (48 ∷ 48 ∷ 43 ∷ []) (48 ∷ 48 ∷ 43 ∷ []) false refl refl refl
-    ∙ ap (signed false) (number_is dialect (48 ∷ 48 ∷ 43 ∷ []) (48 ∷ 43 ∷ []) [] [] r 2 refl refl two (λ e. omega arith) refl refl refl)
-    ∙ ap (λ n. signed false (Some n)) value
-
--- If a plus were a digit, the sum `00+-` would not be cut at its minus.
-zero_radix_low : (dialect : Dialect) → zero_radix dialect ≤ 36
-zero_radix_low dialect = elim (cases_lt 36 (zero_radix dialect)) [
-  | inl high ↦ absurd (let e : 43 ∷ 45 ∷ [] ≡ 45 ∷ [] = sign_found dialect (48 ∷ 48 ∷ 43 ∷ []) (pos 36) 45 [] is_minus refl (plus_as_digit dialect high) in omega (arith, ap length e))
-  | inr low ↦ low
-]
-
-radix_low : (dialect : Dialect) (cs : List ℕ) → (radix_of dialect cs).0 ≤ 36
-radix_low dialect [] = omega arith
-radix_low dialect (c ∷ []) = omega arith
-radix_low dialect (c ∷ d ∷ cs) =
-    let P : ℕ × List ℕ → Type 0 = λ p. p.0 ≤ 36 in
-    if_cond P (c == 48) (radix_behind_zero dialect d cs) (10, c ∷ d ∷ cs)
-    (if_cond P (d == 120 || d == 88) _ _ (omega arith) (if_cond P (d == 111 || d == 79) _ _ (omega arith) (if_cond P (d == 98 || d == 66) _ _ (omega arith)
-    (if_cond P (is_ascii_digit d) _ _ (zero_radix_low dialect) (omega arith)))))
-    (omega arith)
-
 -- ---- no sign stands in what is written without a sign
 
-abbrev is_sign : ℕ → Bool
-is_sign c = (c == 43) || (c == 45)
-
-digit_no_sign : (c radix : ℕ) → radix ≤ 36 → nat_lt (digit_value c) radix ≡ true → is_sign c ≡ false
-digit_no_sign c radix l h = grind (arith, nat_tests)
-
-space_no_sign : (c : ℕ) → is_list_space c ≡ true → is_sign c ≡ false
+space_no_sign : (c : ℕ) → is_list_space c ≡ true → sign_test c ≡ false
 space_no_sign c h = grind (arith, nat_tests)
-
-letter_no_sign : (a b d : ℕ) → 45 < a → 45 < b → (d == a || d == b) ≡ true → is_sign d ≡ false
-letter_no_sign a b d l m h = grind (arith, nat_tests)
-
-signless_more : (c : ℕ) (t : List ℕ) → is_sign c ≡ false → to_sign t ≡ [] → to_sign (c ∷ t) ≡ []
-signless_more c t e h = rw e h
-
-signless_parts : (c : ℕ) (t : List ℕ) → to_sign (c ∷ t) ≡ [] → (is_sign c ≡ false) × (to_sign t ≡ [])
-signless_parts c t h = elim (cases_Bool (is_sign c)) [
-  | inl here ↦ absurd (let k : c ∷ t ≡ [] = rw here at h in cc)
-  | inr other ↦ (other, rw other at h)
-]
 
 only_space_signless : (cs : List ℕ) → is_only_space cs ≡ true → to_sign cs ≡ []
 only_space_signless [] h = refl
@@ -78,17 +29,17 @@ only_space_signless (c ∷ cs) h = elim (cases_Bool (is_list_space c)) [
   | inr n ↦ absurd (omega (arith, eqb-true (length (skip_space (c ∷ cs))) 0 h, ap length (cond-false (is_list_space c) (skip_space cs) (c ∷ cs) n)))
 ]
 
-digits_signless : (radix : ℕ) (cs : List ℕ) → radix ≤ 36 → is_only_space (drop (digits_len radix cs) cs) ≡ true → to_sign cs ≡ []
+digits_signless : (radix : ℕ) (cs : List ℕ) → radix ≤ 16 → is_only_space (drop (digits_len radix cs) cs) ≡ true → to_sign cs ≡ []
 digits_signless radix [] l h = refl
 digits_signless radix (c ∷ cs) l h = elim (cases_Bool (nat_lt (digit_value c) radix)) [
   | inl d ↦
       let k : digits_len radix (c ∷ cs) ≡ 1 + digits_len radix cs = cond-true _ _ _ d in
       let e : digits_len radix (c ∷ cs) ≡ suc (digits_len radix cs) = omega (arith, k) in
-      signless_more c cs (digit_no_sign c radix l d) (digits_signless radix cs l (subst (λ n. is_only_space (drop n (c ∷ cs)) ≡ true) e h))
+      signless_more c cs (digit_not_sign c radix l d) (digits_signless radix cs l (subst (λ n. is_only_space (drop n (c ∷ cs)) ≡ true) e h))
   | inr n ↦ only_space_signless (c ∷ cs) (subst (λ n. is_only_space (drop n (c ∷ cs)) ≡ true) (cond-false _ _ _ n) h)
 ]
 
-numeral_signless : (radix : ℕ) (cs : List ℕ) (n : ℕ) → radix ≤ 36 → numeral radix cs ≡ Some n → to_sign cs ≡ []
+numeral_signless : (radix : ℕ) (cs : List ℕ) (n : ℕ) → radix ≤ 16 → numeral radix cs ≡ Some n → to_sign cs ≡ []
 numeral_signless radix cs n l h =
     let k = digits_len radix cs in
     elim (cases_Bool (k == 0 || not (is_only_space (drop k cs)))) [
@@ -96,23 +47,9 @@ numeral_signless radix cs n l h =
       | inr good ↦ digits_signless radix cs l (not-false _ (or_parts (k == 0) (not (is_only_space (drop k cs))) good).1)
     ]
 
-radix_signless : (dialect : Dialect) (cs : List ℕ) → to_sign (radix_of dialect cs).1 ≡ [] → to_sign cs ≡ []
-radix_signless dialect [] h = refl
-radix_signless dialect (c ∷ []) h = h
-radix_signless dialect (c ∷ d ∷ cs) h =
-    let P : ℕ × List ℕ → Type 0 = λ p. to_sign p.1 ≡ [] → to_sign (d ∷ cs) ≡ [] in
-    let Q : ℕ × List ℕ → Type 0 = λ p. to_sign p.1 ≡ [] → to_sign (c ∷ d ∷ cs) ≡ [] in
-    let behind : P (radix_behind_zero dialect d cs) =
-    cond_both (d == 120 || d == 88) _ _ P (λ e k. signless_more d cs (letter_no_sign 120 88 d (omega arith) (omega arith) e) k)
-    (λ e. cond_both (d == 111 || d == 79) _ _ P (λ e k. signless_more d cs (letter_no_sign 111 79 d (omega arith) (omega arith) e) k)
-    (λ e. cond_both (d == 98 || d == 66) _ _ P (λ e k. signless_more d cs (letter_no_sign 98 66 d (omega arith) (omega arith) e) k)
-    (λ e. cond_both (is_ascii_digit d) _ _ P (λ e k. k) (λ e k. (signless_parts 48 (d ∷ cs) k).1)))) in
-    cond_both (c == 48) (radix_behind_zero dialect d cs) (10, c ∷ d ∷ cs) Q
-    (λ e k. signless_more c (d ∷ cs) (ap is_sign (eqb-true c 48 e)) (behind k)) (λ e k. k) h
-
 magnitude_signless : (dialect : Dialect) (cs : List ℕ) (n : ℕ) → magnitude dialect cs ≡ Some n → to_sign cs ≡ []
 unfolding magnitude
-magnitude_signless dialect cs n h = radix_signless dialect cs (numeral_signless (radix_of dialect cs).0 (radix_of dialect cs).1 n (radix_low dialect cs) h)
+magnitude_signless dialect cs n h = radix_signless dialect cs (numeral_signless (radix_of dialect cs).0 (radix_of dialect cs).1 n (radix_le dialect cs) h)
 
 none_with_sign : (dialect : Dialect) (cs : List ℕ) (s : ℕ) (o : List ℕ) (m : Option ℕ) → IsSign s → to_sign cs ≡ [] → magnitude dialect (cs ++ s ∷ o) ≡ m → m ≡ None
 none_with_sign dialect cs s o None i h e = refl
@@ -149,7 +86,7 @@ first_no_space dialect c t n h = elim (cases_Bool (c == 48)) [
 abbrev pub sized : ℤ → Whole
 sized z = cond (fits z) (Number z) TooLarge
 
-unsigned_front : (c : ℕ) (t : List ℕ) → is_sign c ≡ false → sign_of (c ∷ t) ≡ (false, c ∷ t)
+unsigned_front : (c : ℕ) (t : List ℕ) → sign_test c ≡ false → sign_of (c ∷ t) ≡ (false, c ∷ t)
 unsigned_front c t h = let k = or_parts (c == 43) (c == 45) h in cond-false _ _ _ k.1 ∙ cond-false _ _ _ k.0
 
 past_spaces : (spaces rest : List ℕ) → AllSpace spaces → skip_space (spaces ++ rest) ≡ skip_space rest

@@ -10,7 +10,7 @@ use Rattle.tcl_pages.specs.Dictionaries.{Pairs, put_key, pairs_of}
 use Rattle.tcl_pages.specs.Texts.{Text, same_text}
 use Rattle.tcl_laws.specs.ReturnOptions.{Joins, OptionsAreJoined, BoundNeverShows}
 use Rattle.tcl_laws.specs.ReturnOptions.Joins.{none, other, among, refused}
-use Rattle.tcl_laws.proofs.OptionSizes.{pairs_of_size}
+use Rattle.tcl_meaning.proofs.OptionSizes.{size_append, pairs_of_size}
 
 -- ---- options and more behind them
 
@@ -38,10 +38,6 @@ divided _ _ (p ∷ more) ps _ (among found rest inner key value a k r j) e =
 divided _ _ (p ∷ more) ps _ (refused found rest key value m k r) e =
     let same : (key, value) ≡ p = cc in
     (Err (no_options value), subst (λ q. Joins found (q ∷ more) (Err (no_options value))) same (refused found more key value m k r), refl)
-
-size_append : (ps qs : Pairs) → size_of (ps ++ qs) ≡ size_of ps + size_of qs
-size_append [] qs = omega arith
-size_append (p ∷ ps) qs = omega (arith, size_append ps qs)
 
 -- ---- what the options make is what is computed
 

@@ -1,5 +1,5 @@
 -- The options that stand in a text are no larger than the text.
-use Rattle.std.proofs.Common.{◌≡◌, ℕ, suc, ◌+◌, ◌≤◌, false, true≢false, List, [], ◌∷◌, length, length-append, Ok, Err, sym, ap, ◌∙◌, subst, refl, arith}
+use Rattle.std.proofs.Common.{◌≡◌, ℕ, suc, ◌+◌, ◌≤◌, false, true≢false, List, [], ◌∷◌, ◌++◌, length, length-append, Ok, Err, sym, ap, ◌∙◌, subst, refl, arith}
 use Rattle.std.proofs.lemmas.Bool.{cond_both}
 use Rattle.tcl_chars.specs.Characters.{quote, close_brace}
 use Rattle.tcl_list.specs.Elements.{ends, elements_of}
@@ -67,6 +67,12 @@ pairs_size [] ps e =
     subst (λ qs. size_of qs ≤ 0) none (omega arith)
 pairs_size (k ∷ []) ps e = absurd cc
 pairs_size (k ∷ v ∷ es) ps e = first_pair k v (in_pairs es) ps (from_key es) (sym (pair_ahead _ k v es) ∙ e) (λ more h. pairs_size es more h)
+
+-- ---- pairs behind others
+
+pub size_append : (ps qs : Pairs) → size_of (ps ++ qs) ≡ size_of ps + size_of qs
+size_append [] qs = omega arith
+size_append (p ∷ ps) qs = omega (arith, size_append ps qs)
 
 -- ---- a key that comes again
 
