@@ -1,6 +1,5 @@
 -- The instructions of an inlined `foreach`, emitted one after another.
 use Rattle.std.proofs.Common.{◌≡◌, ℕ, ◌+◌, ◌-◌, ◌<◌, ◌≤◌, false, List, [], ◌∷◌, ◌++◌, length, get_or, drop, refl, sym, ap, ◌∙◌, subst, arith, append_assoc, append-nil, length-append}
-use Rattle.std.specs.Str.{chars}
 use Rattle.tcl_chars.specs.declared.numbers.Dialect.{Dialect}
 use Rattle.tcl_words.specs.Parts.{Shape}
 use Rattle.tcl_pages.specs.Texts.{Text}
@@ -14,14 +13,15 @@ use Rattle.tcl_compile.specs.Eaches.{AreEachWords, AreNames, IsEach, EachCode, c
 use Rattle.tcl_compile.specs.Forms.{bodied, BodiedCode}
 use Rattle.tcl_compile.specs.Emitted.{WordCode, CommandCode}
 use Rattle.tcl_compile.specs.Fragments.{Grown}
+use Rattle.tcl_compile.specs.Literals.{spelled, text_of}
 use Rattle.tcl_compile.specs.Within.{ArgumentsAreShort}
 use Rattle.tcl_compile.specs.declared.each.EachForm.{EachForm}
 use Rattle.tcl_compile.proofs.Eaching.{each_code}
 use Rattle.tcl_compile.proofs.EachRuns.{each_uses, each_runs}
 use Rattle.tcl_compile.proofs.Emits.{Code, ext, join, drop_end}
 use Rattle.tcl_compile.proofs.Forks.{Behind, behind, more_behind, LedHere, forked}
-use Rattle.tcl_compile.proofs.Forming.{says, pieces_short}
 use Rattle.tcl_compile.proofs.Guarded.{fork}
+use Rattle.tcl_compile.proofs.LiteralWords.{of_some, says}
 
 -- ---- words
 
@@ -37,7 +37,7 @@ each_short n list body [] h k = absurd h
 each_short n list body (w0 ∷ []) h k = absurd h
 each_short n list body (w0 ∷ w1 ∷ []) h k = absurd h
 each_short n list body (w0 ∷ w1 ∷ w ∷ []) h k = absurd h
-each_short n list body (w0 ∷ w1 ∷ w ∷ w3 ∷ []) h k = pieces_short n w3.pieces body h.3.1 k.1.1.0
+each_short n list body (w0 ∷ w1 ∷ w ∷ w3 ∷ []) h k = of_some (λ (u : Text). length u ≤ n) (spelled w3.pieces) body h.3.1 k.1.1.0
 each_short n list body (w0 ∷ w1 ∷ w ∷ w3 ∷ w4 ∷ ws) h k = absurd h
 
 -- ---- names
@@ -87,16 +87,16 @@ module _ (dialect : Dialect) where
 
   -- ---- the command
 
-  pub grown_each : (f : EachForm) (ws : List Shape) (w : Shape) (m0 m1 m2 m3 m4 m5 m6 m7 : Code) → IsEach f ws → w ≡ get_or ws 2 w → Grown (WordCode dialect w.pieces) m0 m1 → m2 ≡ m1 ++ Guard inlined.Foreach 0 ∷ [] → Grown (EachCode dialect (chars f.list.now) (chars f.body.now)) m2 m3
-      → m4 ≡ m3 ++ Skip 0 ∷ [] → LedHere (length m1) m4 m5 → m6 ≡ m5 ++ calling (chars f.list.now) (chars f.body.now) → LedHere (length m3) m6 m7 → Grown (CommandCode dialect ws) m0 m7
+  pub grown_each : (f : EachForm) (ws : List Shape) (w : Shape) (m0 m1 m2 m3 m4 m5 m6 m7 : Code) → IsEach f ws → w ≡ get_or ws 2 w → Grown (WordCode dialect w.pieces) m0 m1 → m2 ≡ m1 ++ Guard inlined.Foreach 0 ∷ [] → Grown (EachCode dialect (text_of f.list) (text_of f.body)) m2 m3
+      → m4 ≡ m3 ++ Skip 0 ∷ [] → LedHere (length m1) m4 m5 → m6 ≡ m5 ++ calling (text_of f.list) (text_of f.body) → LedHere (length m3) m6 m7 → Grown (CommandCode dialect ws) m0 m7
   grown_each f [] w m0 m1 m2 m3 m4 m5 m6 m7 h e g e2 x e4 l5 e6 l7 = absurd h.0
   grown_each f (w0 ∷ []) w m0 m1 m2 m3 m4 m5 m6 m7 h e g e2 x e4 l5 e6 l7 = absurd h.0
   grown_each f (w0 ∷ w1 ∷ []) w m0 m1 m2 m3 m4 m5 m6 m7 h e g e2 x e4 l5 e6 l7 = absurd h.0
   grown_each f (w0 ∷ w1 ∷ w2 ∷ []) w m0 m1 m2 m3 m4 m5 m6 m7 h e g e2 x e4 l5 e6 l7 = absurd h.0
   grown_each f (w0 ∷ w1 ∷ w2 ∷ w3 ∷ w4 ∷ ws) w m0 m1 m2 m3 m4 m5 m6 m7 h e g e2 x e4 l5 e6 l7 = absurd h.0
   grown_each f (w0 ∷ w1 ∷ w2 ∷ w3 ∷ []) w m0 m1 m2 m3 m4 m5 m6 m7 h e g e2 x e4 l5 e6 l7 =
-      let list = chars f.list.now in
-      let body = chars f.body.now in
+      let list = text_of f.list in
+      let body = text_of f.body in
       let whole = fork (Guard inlined.Foreach (length x.0 + 1)) x.0 (calling list body) in
       let past : m7 ≡ m1 ++ whole = forked (Guard inlined.Foreach 0) x.0 (calling list body) m1 m2 m3 m4 m5 m6 m7 e2 x.1 e4 l5 e6 l7 in (
         g.0 ++ whole,

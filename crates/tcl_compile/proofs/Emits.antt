@@ -2,15 +2,12 @@
 use Rattle.std.proofs.Common.{◌≡◌, ℕ, zero, suc, ◌+◌, ◌<◌, ◌≤◌, false, List, [], ◌∷◌, ◌++◌, length, get_or, drop, refl, sym, ap, ◌∙◌, subst, arith, append_assoc, append-nil}
 use Rattle.tcl_chars.specs.declared.numbers.Dialect.{Dialect}
 use Rattle.tcl_words.specs.Parts.{Part, text, escape, var, elem_, bracket, parts_of, Stretch, Shape}
-use Rattle.tcl_words.specs.First.{none, malformed, command, first_command, most_levels}
-use Rattle.tcl_words.specs.Syntax.{syntax_text}
-use Rattle.tcl_words.specs.declared.fault.Syntax.{Syntax}
 use Rattle.tcl_pages.specs.Texts.{Text}
-use Rattle.tcl_code.specs.Instructions.{Instruction, Push, Read, ReadElement, Join, Spend, Enter, Leave, Call, Gather, CallGathered, Raise}
+use Rattle.tcl_code.specs.Instructions.{Instruction, Push, Read, ReadElement, Join, Enter, Leave, Call, Gather, CallGathered}
 use Rattle.tcl_compile.specs.Emitted.{PieceCode, WordCode, BracketCode, CommandCode, ScriptCode, PiecesLeft, WordsLeft, GatheredLeft}
 use Rattle.tcl_compile.specs.Fragments.{adding, Plain, Grown, Leads}
 use Rattle.tcl_compile.proofs.Pieces.{push_does, read_does, element_does, index_does, bracket_does, joins_end, joins_next, word_does, piece_does}
-use Rattle.tcl_compile.proofs.Commands.{calls_end, calls_next, command_does, gathers_end, gathers_next, gathered_does, follows_end, follows_bad, follows_command}
+use Rattle.tcl_compile.proofs.Commands.{calls_end, calls_next, command_does, gathers_end, gathers_next, gathered_does}
 use Rattle.tcl_meaning.proofs.ScriptRules.{drop_here}
 
 abbrev pub Code : Type 0
@@ -136,21 +133,3 @@ module _ (dialect : Dialect) where
       let last : GatheredLeft dialect (drop i ws) (CallGathered ∷ []) = subst (λ qs. GatheredLeft dialect qs (CallGathered ∷ [])) (sym (drop_end ws i le)) (gathers_end dialect) in
       let g = leads_end (GatheredLeft dialect (drop i ws)) (GatheredLeft dialect ws) c1 mid new l (CallGathered ∷ [], h, last) in
       (Gather ∷ g.0, (join (ext {m0 = old} {c = Gather ∷ []} e) (ext {m0 = c1} {c = g.0} g.1)).is, gathered_does dialect ws g.0 g.2)
-
-  -- ---- a script
-
-  pub script_leads : (t now rest : Text) (ws : List Shape) (old c0 c1 c2 : Code) → first_command most_levels now ≡ command ws rest → Leads (ScriptCode dialect now) (ScriptCode dialect t) old c0 → c1 ≡ c0 ++ Spend ∷ [] → Grown (CommandCode dialect ws) c1 c2 → Leads (ScriptCode dialect rest) (ScriptCode dialect t) old c2
-  script_leads t now rest ws old c0 c1 c2 e l e1 g =
-      leads_on (ScriptCode dialect now) (ScriptCode dialect rest) Paid (ScriptCode dialect t) old c0 c2
-      (λ c more h k. subst (λ x. ScriptCode dialect now (x ++ more)) (sym h.1) (follows_command dialect now ws rest h.0 more e h.2 k)) l
-      (Spend ∷ g.0, (join (ext {m0 = c0} {c = Spend ∷ []} e1) (ext {m0 = c1} {c = g.0} g.1)).is, (g.0, refl, g.2))
-    where
-      Paid : Code → Type 0
-      Paid c = (b : Code) × (c ≡ Spend ∷ b) × CommandCode dialect ws b
-
-  pub script_ends : (t now rest : Text) (old new : Code) → first_command most_levels now ≡ none rest → Leads (ScriptCode dialect now) (ScriptCode dialect t) old new → Grown (ScriptCode dialect t) old new
-  script_ends t now rest old new e l = leads_end (ScriptCode dialect now) (ScriptCode dialect t) old new new l ([], sym (append-nil new), follows_end dialect now rest e)
-
-  pub script_fails : (t now : Text) (m : Syntax) (x : Text) (old c0 c1 : Code) → first_command most_levels now ≡ malformed m → x ≡ syntax_text m → Leads (ScriptCode dialect now) (ScriptCode dialect t) old c0 → c1 ≡ c0 ++ Raise x ∷ [] → Grown (ScriptCode dialect t) old c1
-  script_fails t now m x old c0 c1 e f l e1 =
-      leads_end (ScriptCode dialect now) (ScriptCode dialect t) old c0 c1 l (Raise x ∷ [], e1, subst (λ y. ScriptCode dialect now (Raise y ∷ [])) (sym f) (follows_bad dialect now m e))

@@ -1,104 +1,45 @@
--- Commands of literal words, read and emitted.
-use Rattle.std.proofs.Common.{◌≡◌, ℕ, ◌+◌, ◌<◌, ◌≤◌, List, [], ◌∷◌, ◌++◌, length, get_or, drop, map, sym, ap, ◌∙◌, subst, append_assoc, append-nil, arith}
+-- Commands of literal words, emitted.
+use Rattle.std.proofs.Common.{◌≡◌, ℕ, ◌+◌, ◌<◌, ◌≤◌, List, [], ◌∷◌, ◌++◌, length, get_or, map, subst, arith}
 use Rattle.std.specs.Prelude.{option_map}
 use Rattle.std.specs.Str.{chars}
 use Rattle.tcl_chars.specs.declared.numbers.Dialect.{Dialect}
-use Rattle.tcl_words.specs.Parts.{Part, text, escape, var, elem_, bracket, Shape}
+use Rattle.tcl_words.specs.Parts.{Shape}
 use Rattle.tcl_pages.specs.Texts.{Text}
-use Rattle.tcl_meaning.specs.Effects.{Gives, exec}
-use Rattle.tcl_meaning.specs.Script.{Run}
-use Rattle.tcl_meaning.specs.State.{State}
 use Rattle.tcl_meaning.specs.Substitution.{pieces_text}
-use Rattle.tcl_meaning.specs.Value.{Has}
-use Rattle.tcl_meaning.proofs.ScriptRules.{drop_here}
 use Rattle.tcl_code.specs.Guards.{inlined_of, name_of}
 use Rattle.tcl_code.specs.Instructions.{Call, Guard, Under, Write, Bump, Skip}
 use Rattle.tcl_code.specs.Parts.{Does}
+use Rattle.tcl_code.specs.Turns.{turns_of}
 use Rattle.tcl_code.specs.declared.inlined.Change.{Change}
 use Rattle.tcl_code.specs.declared.inlined.Change.TheVariants as change
+use Rattle.tcl_code.specs.declared.inlined.Inlined.{Inlined}
 use Rattle.tcl_code.specs.declared.inlined.Inlined.TheVariants as inlined
 use Rattle.tcl_compile.specs.Changes.{IsChange, changing}
 use Rattle.tcl_compile.specs.Emitted.{CommandCode, WordCode}
-use Rattle.tcl_compile.specs.Forms.{IsVerbatim, AreVerbatim, IsLiteral, AllLiteral, clause_of, command_of, IsForm, HasForm, PageCode, FormIsShort}
+use Rattle.tcl_compile.specs.Forms.{clause_of, command_of, IsForm, HasForm, PageCode, InlinedCode, FormIsShort}
 use Rattle.tcl_compile.specs.Fragments.{Grown, Plain}
-use Rattle.tcl_compile.specs.Inlining.{Says, AllSay}
-use Rattle.tcl_compile.specs.Within.{PieceIsShort, PiecesAreShort, WordsAreShort, ArgumentsAreShort}
+use Rattle.tcl_compile.specs.Literals.{spelled, AllLiteral}
+use Rattle.tcl_compile.specs.Within.{WordsAreShort, ArgumentsAreShort}
 use Rattle.tcl_compile.specs.declared.inlining.Form.{Form}
 use Rattle.tcl_compile.specs.declared.inlining.Form.TheVariants as form
 use Rattle.tcl_compile.proofs.Clauses.{TextsAreShort, others, shape_short}
-use Rattle.tcl_compile.proofs.Emits.{Code, ext, join, drop_end}
+use Rattle.tcl_compile.proofs.Emits.{Code, ext, join}
 use Rattle.tcl_compile.proofs.Forks.{LedHere, forked}
 use Rattle.tcl_compile.proofs.Guarded.{command_said, guarded, guarded_runs}
 use Rattle.tcl_compile.proofs.Inlined.{set_runs, bump_runs}
-
--- ---- literal words
-
-piece_says : (p : Part) (t : Text) → IsVerbatim p t → (dialect : Dialect) (d : ℕ) (s : State) → exec (Run dialect) (pieces_text d (p ∷ [])) s ≡ Gives (Has t) s
-piece_says (text x) t e dialect d s = ap (λ u. Gives (Has u) s) (append-nil x.text ∙ sym e)
-piece_says (escape x c) t e dialect d s = absurd e
-piece_says (var x name) t e dialect d s = absurd e
-piece_says (elem_ x name ps) t e dialect d s = absurd e
-piece_says (bracket x script) t e dialect d s = absurd e
-
-pieces_say : (ps : List Part) (t : Text) → AreVerbatim ps t → (dialect : Dialect) (d : ℕ) (s : State) → exec (Run dialect) (pieces_text d ps) s ≡ Gives (Has t) s
-pieces_say [] t e dialect d s = ap (λ u. Gives (Has u) s) (sym e)
-pieces_say (p ∷ []) t e dialect d s = piece_says p t e dialect d s
-pieces_say (p ∷ q ∷ ps) t e dialect d s = absurd e
-
-pub says : (w : Shape) (t : Text) → IsLiteral w t → Says w t
-says w t h = record { one = h.0; text = λ dialect d s. pieces_say w.pieces t h.1 dialect d s }
-
-pub all_say : (ws : List Shape) (ts : List Text) → AllLiteral ws ts → AllSay ws ts
-all_say [] [] h = tt
-all_say [] (t ∷ ts) h = absurd h
-all_say (w ∷ ws) [] h = absurd h
-all_say (w ∷ ws) (t ∷ ts) h = (says w t h.0, all_say ws ts h.1)
-
-all_plain : (ws : List Shape) (ts : List Text) → AllLiteral ws ts → Plain ws
-all_plain [] [] h = tt
-all_plain [] (t ∷ ts) h = absurd h
-all_plain (w ∷ ws) [] h = absurd h
-all_plain (w ∷ ws) (t ∷ ts) h = (h.0.0, all_plain ws ts h.1)
+use Rattle.tcl_compile.proofs.Turns.{behind_one, in_front}
+use Rattle.tcl_compile.proofs.LiteralWords.{of_some, says, all_say, all_plain}
 
 pub form_plain : (f : Form) (ws : List Shape) → HasForm f ws → Plain ws
 form_plain f ws h = all_plain ws (name_of (command_of f) ∷ h.0) h.1
 
--- a word of no pieces
-pub none_verbatim : {A : Type 0} (f : A → Part) (xs : List A) (t : Text) → length xs ≡ 0 → t ≡ [] → AreVerbatim (map f xs) t
-none_verbatim f [] t e h = h
-none_verbatim f (x ∷ xs) t e h = absurd cc
-
--- ---- literal words, one after another
-
--- the words that are left have these texts behind those that were read
-abbrev pub Texts : ℕ → List Shape → List Text → Type 0
-Texts i ws us = (ts : List Text) → AllLiteral (drop i ws) ts → AllLiteral ws (us ++ ts)
-
-pub texts_next : (ws : List Shape) (i : ℕ) (w : Shape) (t : Text) (us : List Text) → i < length ws → w ≡ get_or ws i w → IsLiteral w t → Texts i ws us → Texts (i + 1) ws (us ++ t ∷ [])
-texts_next ws i w t us lt e is h ts k = subst (AllLiteral ws) (sym (append_assoc us (t ∷ []) ts)) (h (t ∷ ts) (subst (λ vs. AllLiteral vs (t ∷ ts)) (sym (drop_here ws i w lt e)) (is, k)))
-
-pub texts_end : (ws : List Shape) (i : ℕ) (us : List Text) → length ws ≤ i → Texts i ws us → AllLiteral ws us
-texts_end ws i us le h = subst (AllLiteral ws) (append-nil us) (h [] (subst (λ vs. AllLiteral vs []) (sym (drop_end ws i le)) tt))
-
 -- ---- the texts behind a command's name are shorter than the text that it stands in
-
-piece_short : (n : ℕ) (p : Part) (t : Text) → IsVerbatim p t → PieceIsShort n p → length t ≤ n
-piece_short n (text x) t e h = subst (λ (u : Text). length u ≤ n) (sym e) h
-piece_short n (escape x c) t e h = absurd e
-piece_short n (var x name) t e h = absurd e
-piece_short n (elem_ x name ps) t e h = absurd e
-piece_short n (bracket x script) t e h = absurd e
-
-pub pieces_short : (n : ℕ) (ps : List Part) (t : Text) → AreVerbatim ps t → PiecesAreShort n ps → length t ≤ n
-pieces_short n [] t e h = omega (arith, ap length e)
-pieces_short n (p ∷ []) t e h = piece_short n p t e h.0
-pieces_short n (p ∷ q ∷ ps) t e h = absurd e
 
 texts_short : (n : ℕ) (ws : List Shape) (ts : List Text) → AllLiteral ws ts → WordsAreShort n ws → TextsAreShort n ts
 texts_short n [] [] h k = tt
 texts_short n [] (t ∷ ts) h k = absurd h
 texts_short n (w ∷ ws) [] h k = absurd h
-texts_short n (w ∷ ws) (t ∷ ts) h k = (pieces_short n w.pieces t h.0.1 k.0, texts_short n ws ts h.1 k.1)
+texts_short n (w ∷ ws) (t ∷ ts) h k = (of_some (λ (u : Text). length u ≤ n) (spelled w.pieces) t h.0.1 k.0, texts_short n ws ts h.1 k.1)
 
 arguments_short : (n : ℕ) (name : Text) (ws : List Shape) (ts : List Text) → AllLiteral ws (name ∷ ts) → ArgumentsAreShort n ws → TextsAreShort n ts
 arguments_short n name [] ts h k = absurd h
@@ -124,16 +65,20 @@ change_long k name (w0 ∷ []) h = absurd h
 change_long k name (w0 ∷ w1 ∷ []) h = absurd h
 change_long k name (w0 ∷ w1 ∷ w2 ∷ ws) h = omega arith
 
+-- what stands behind a guard is counted
+guarded_turns : (p : Inlined) (c g : Code) → 0 < turns_of c → 0 < turns_of (guarded p c g)
+guarded_turns p c g lt = omega (arith, lt, in_front c (Skip (length g) ∷ g), behind_one (Guard p (length c + 1)) (c ++ Skip (length g) ∷ g))
+
 module _ (dialect : Dialect) where
   -- ---- a guard, and the call beside it
 
   pub grown_guarded : (m0 m1 m2 m3 m4 m5 m6 : Code) (f : Form) (ws : List Shape) → HasForm f ws → m1 ≡ m0 ++ Guard (command_of f) 0 ∷ [] → Grown (PageCode dialect f) m1 m2 → m3 ≡ m2 ++ Skip 0 ∷ [] → LedHere (length m0) m3 m4 → Grown (CommandCode dialect ws) m4 m5 → LedHere (length m2) m5 m6
-      → Grown (CommandCode dialect ws) m0 m6
+      → Grown (InlinedCode dialect f ws) m0 m6
   grown_guarded m0 m1 m2 m3 m4 m5 m6 f ws h e g k l x n =
       let p = command_of f in (
         guarded p g.0 x.0,
         forked (Guard p 0) g.0 x.0 m0 m1 m2 m3 m4 m5 m6 e g.1 k l x.1 n,
-        guarded_runs dialect p h.0 _ g.0 x.0 (λ d s. command_said dialect d ws (name_of p ∷ h.0) s (all_say ws (name_of p ∷ h.0) h.1)) (g.2 h.0 h.2) x.2,
+        (λ q. guarded_turns p g.0 x.0 (g.2.0 q), guarded_runs dialect p h.0 _ g.0 x.0 (λ d s. command_said dialect d ws (name_of p ∷ h.0) s (all_say ws (name_of p ∷ h.0) h.1)) (g.2.1 h.0 h.2) x.2),
       )
 
   -- ---- a variable's change

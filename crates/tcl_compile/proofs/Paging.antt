@@ -14,8 +14,9 @@ use Rattle.tcl_meaning.specs.Effects.{Here}
 use Rattle.tcl_meaning.specs.Tasks.{Run, Nothing, IfTest}
 use Rattle.tcl_code.specs.Instructions.{Push, Enter, Become, Bump, Body, Again, Skip, SkipWhen, Turn, Break, Continue, Answer}
 use Rattle.tcl_code.specs.declared.inlined.Inlined.TheVariants as inlined
+use Rattle.tcl_code.specs.Turns.{turns_of}
 use Rattle.tcl_compile.specs.Emitted.{ScriptCode}
-use Rattle.tcl_compile.specs.Forms.{IsForm, command_of, page_does, clause_of, PageCode, BodyCode, ClausesCode, bodied, BodiedCode, TurnCode, LoopCode, ForCode}
+use Rattle.tcl_compile.specs.Forms.{IsForm, command_of, page_does, clause_of, TurnsBack, PageCode, BodyCode, ClausesCode, bodied, BodiedCode, TurnCode, LoopMade, ForCode}
 use Rattle.tcl_compile.specs.Fragments.{Grown}
 use Rattle.tcl_compile.specs.Inlining.{Makes}
 use Rattle.tcl_compile.specs.Trees.{ExpressionCode}
@@ -30,6 +31,7 @@ use Rattle.tcl_compile.proofs.Clauses.{rest_is}
 use Rattle.tcl_compile.proofs.Conditions.{if_owes, body_code, body_makes, clause_code, clause_makes, none_makes}
 use Rattle.tcl_compile.proofs.ForLoop.{turn_makes, while_makes, for_makes}
 use Rattle.tcl_compile.proofs.Looping.{loop_code}
+use Rattle.tcl_compile.proofs.Turns.{behind_one, in_back, turn_counts}
 
 -- ---- the first clause, and those behind it
 
@@ -53,23 +55,43 @@ first_split (x ∷ xs) d lt = ap (λ l. clause_of x ∷ map clause_of l) (sym (r
 pub behind_less : (xs : List Clause) → 0 < length xs → length (behind_first xs) < length xs
 behind_less xs lt = omega (arith, ap length (rest_is 1 xs), length-drop 1 xs)
 
+-- a loop has its turn back
+loop_turns : (c t : Code) → 0 < turns_of (loop_code c t)
+loop_turns c t =
+    let n = length c + length t + 2 in
+    let last = Turn n ∷ Push [] ∷ Answer ∷ [] in
+    let second = Skip (length t + 2) ∷ (t ++ SkipWhen false 1 ∷ last) in
+    omega (
+      arith,
+      turn_counts n (Push [] ∷ Answer ∷ []),
+      behind_one (SkipWhen false 1) last,
+      in_back t (SkipWhen false 1 ∷ last),
+      behind_one (Skip (length t + 2)) (t ++ SkipWhen false 1 ∷ last),
+      in_back c second,
+      behind_one (Skip (length c + 1)) (c ++ second),
+    )
+
 module _ (dialect : Dialect) where
   -- the code of a form where its page's is known
   of_form : (f g : Form) (ts us : List Text) (c : Code) → f ≡ g → IsForm f ts → (IsForm g ts → Makes dialect c (page_does dialect (command_of g) ts)) → Makes dialect c (page_does dialect (command_of f) ts)
   of_form f g ts us c e is h = subst (λ (x : Form). IsForm x ts → Makes dialect c (page_does dialect (command_of x) ts)) (sym e) h is
 
+  -- the code of a form that is no `while`
+  no_turn : (f g : Form) (c : Code) → f ≡ g → (command_of g ≡ inlined.While → ⊥) → TurnsBack f c
+  no_turn f g c e h q = absurd (h (sym (ap command_of e) ∙ q))
+
   pub grown_break : (f : Form) (old new : Code) → f ≡ form.Break → new ≡ old ++ Break ∷ [] → Grown (PageCode dialect f) old new
-  grown_break f old new e h = (Break ∷ [], h, λ ts is. of_form f form.Break ts [] (Break ∷ []) e is (λ k. subst (λ us. Makes dialect (Break ∷ []) (page_does dialect inlined.Break us)) (sym k) (break_makes dialect)))
+  grown_break f old new e h = (Break ∷ [], h, (no_turn f form.Break (Break ∷ []) e (λ q. cc), λ ts is. of_form f form.Break ts [] (Break ∷ []) e is (λ k. subst (λ us. Makes dialect (Break ∷ []) (page_does dialect inlined.Break us)) (sym k) (break_makes dialect))))
 
   pub grown_continue : (f : Form) (old new : Code) → f ≡ form.Continue → new ≡ old ++ Continue ∷ [] → Grown (PageCode dialect f) old new
-  grown_continue f old new e h = (Continue ∷ [], h, λ ts is. of_form f form.Continue ts [] (Continue ∷ []) e is (λ k. subst (λ us. Makes dialect (Continue ∷ []) (page_does dialect inlined.Continue us)) (sym k) (continue_makes dialect)))
+  grown_continue f old new e h = (Continue ∷ [], h, (no_turn f form.Continue (Continue ∷ []) e (λ q. cc), λ ts is. of_form f form.Continue ts [] (Continue ∷ []) e is (λ k. subst (λ us. Makes dialect (Continue ∷ []) (page_does dialect inlined.Continue us)) (sym k) (continue_makes dialect))))
 
   pub grown_increment : (f : Form) (name : Bor (List ℕ)) (m0 m1 m2 : Code) → f ≡ form.Increment name → m1 ≡ m0 ++ Push (literal "1") ∷ [] → m2 ≡ m1 ++ Bump (chars name.now) ∷ [] → Grown (PageCode dialect f) m0 m2
   grown_increment f name m0 m1 m2 e h k =
       let c = Push (literal "1") ∷ Bump (chars name.now) ∷ [] in (
         c,
         (join (ext {m0 = m0} {c = Push (literal "1") ∷ []} h) (ext {m0 = m1} {c = Bump (chars name.now) ∷ []} k)).is,
-        λ ts is. of_form f (form.Increment name) ts [] c e is (λ j. subst (λ us. Makes dialect c (page_does dialect inlined.Incr us)) (sym j) (incr_makes dialect (chars name.now))),
+        (no_turn f (form.Increment name) c e (λ q. cc), λ ts is. of_form f (form.Increment name) ts [] c e is (λ j. subst (λ us. Makes dialect c (page_does dialect inlined.Incr us)) (sym j) (incr_makes dialect (chars name.now)))),
       )
 
   pub grown_expr : (f : Form) (t : Bor (List ℕ)) (m0 m1 m2 : Code) → f ≡ form.Expr t → Grown (ExpressionCode dialect (chars t.now)) m0 m1 → m2 ≡ m1 ++ Answer ∷ [] → Grown (PageCode dialect f) m0 m2
@@ -77,14 +99,14 @@ module _ (dialect : Dialect) where
       let c = g.0 ++ Answer ∷ [] in (
         c,
         (join (ext {m0 = m0} {c = g.0} g.1) (ext {m0 = m1} {c = Answer ∷ []} k)).is,
-        λ ts is. of_form f (form.Expr t) ts [] c e is (λ j. subst (λ us. Makes dialect c (page_does dialect inlined.Expr us)) (sym j) (expr_makes dialect (chars t.now) g.0 g.2)),
+        (no_turn f (form.Expr t) c e (λ q. cc), λ ts is. of_form f (form.Expr t) ts [] c e is (λ j. subst (λ us. Makes dialect c (page_does dialect inlined.Expr us)) (sym j) (expr_makes dialect (chars t.now) g.0 g.2))),
       )
 
   pub grown_if : (f : Form) (cs : Vec Clause Global) (o : Option (Bor (List ℕ))) (m0 m1 : Code) → f ≡ form.If cs o → Grown (ClausesCode dialect (map clause_of cs.items) (option_map (λ t. chars t.now) o)) m0 m1 → Grown (PageCode dialect f) m0 m1
-  grown_if f cs o m0 m1 e g = (g.0, g.1, λ ts is. of_form f (form.If cs o) ts [] g.0 e is (λ j. if_makes dialect ts (map clause_of cs.items) (option_map (λ t. chars t.now) o) g.0 j.0 g.2))
+  grown_if f cs o m0 m1 e g = (g.0, g.1, (no_turn f (form.If cs o) g.0 e (λ q. cc), λ ts is. of_form f (form.If cs o) ts [] g.0 e is (λ j. if_makes dialect ts (map clause_of cs.items) (option_map (λ t. chars t.now) o) g.0 j.0 g.2)))
 
-  pub grown_while : (f : Form) (test body : Bor (List ℕ)) (m0 m1 : Code) → f ≡ form.While test body → Grown (LoopCode dialect None (chars test.now) (chars body.now)) m0 m1 → Grown (PageCode dialect f) m0 m1
-  grown_while f test body m0 m1 e g = (g.0, g.1, λ ts is. of_form f (form.While test body) ts [] g.0 e is (λ j. subst (λ us. Makes dialect g.0 (page_does dialect inlined.While us)) (sym j) (while_makes dialect (chars test.now) (chars body.now) g.0 g.2)))
+  pub grown_while : (f : Form) (test body : Bor (List ℕ)) (m0 m1 : Code) → f ≡ form.While test body → Grown (LoopMade dialect None (chars test.now) (chars body.now)) m0 m1 → Grown (PageCode dialect f) m0 m1
+  grown_while f test body m0 m1 e g = (g.0, g.1, (λ q. g.2.0, λ ts is. of_form f (form.While test body) ts [] g.0 e is (λ j. subst (λ us. Makes dialect g.0 (page_does dialect inlined.While us)) (sym j) (while_makes dialect (chars test.now) (chars body.now) g.0 g.2.1))))
 
   -- ---- bodies and clauses
 
@@ -133,7 +155,7 @@ module _ (dialect : Dialect) where
       )
 
   pub grown_loop : (m0 m1 m2 m3 m4 m5 m6 m7 m8 m9 : Code) (n : ℕ) (next : Option Text) (test body : Text) → m1 ≡ m0 ++ Skip 0 ∷ [] → Grown (TurnCode dialect next body) m1 m2 → m3 ≡ m2 ++ Skip 0 ∷ [] → LedHere (length m0) m3 m4 → Grown (ExpressionCode dialect test) m4 m5 → m6 ≡ m5 ++ SkipWhen false 1 ∷ []
-      → m7 ≡ m6 ++ Turn n ∷ [] → n ≡ length m6 - length m1 → LedHere (length m2) m7 m8 → m9 ≡ m8 ++ Push [] ∷ Answer ∷ [] → Grown (LoopCode dialect next test body) m0 m9
+      → m7 ≡ m6 ++ Turn n ∷ [] → n ≡ length m6 - length m1 → LedHere (length m2) m7 m8 → m9 ≡ m8 ++ Push [] ∷ Answer ∷ [] → Grown (LoopMade dialect next test body) m0 m9
   grown_loop m0 m1 m2 m3 m4 m5 m6 m7 m8 m9 n next test body e1 x e3 l4 y e6 e7 en l8 e9 =
       let c = x.0 in
       let t = y.0 in
@@ -155,7 +177,7 @@ module _ (dialect : Dialect) where
       let whole : Behind (Skip (length t + 2)) front ((t ++ tail) ++ Push [] ∷ Answer ∷ []) m9 = more_behind (Push [] ∷ Answer ∷ []) (record { is = m8_is }) e9 in
       let rest : ℕ → Code = λ k. Skip (length t + 2) ∷ (t ++ SkipWhen false 1 ∷ Turn k ∷ Push [] ∷ Answer ∷ []) in
       let code : m9 ≡ m0 ++ loop_code c t = whole.is ∙ ap (λ z. front ++ Skip (length t + 2) ∷ z) (append_assoc t tail (Push [] ∷ Answer ∷ [])) ∙ append_assoc m0 (Skip (length c + 1) ∷ c) (rest n) ∙ ap (λ k. m0 ++ Skip (length c + 1) ∷ (c ++ rest k)) turn in
-      (loop_code c t, code, turn_makes dialect next test body t c y.2 x.2)
+      (loop_code c t, code, (loop_turns c t, turn_makes dialect next test body t c y.2 x.2))
 
-  pub grown_whole_for : (m0 m1 m2 : Code) (w : ForTexts) → Grown (BodyCode dialect (chars w.start.now)) m0 m1 → Grown (LoopCode dialect (Some (chars w.next.now)) (chars w.test.now) (chars w.body.now)) m1 m2 → Grown (ForCode dialect w) m0 m2
-  grown_whole_for m0 m1 m2 w g h = (g.0 ++ h.0, (join (ext {m0 = m0} {c = g.0} g.1) (ext {m0 = m1} {c = h.0} h.1)).is, for_makes dialect (chars w.start.now) (chars w.test.now) (chars w.next.now) (chars w.body.now) g.0 h.0 (g.2 0) h.2)
+  pub grown_whole_for : (m0 m1 m2 : Code) (w : ForTexts) → Grown (BodyCode dialect (chars w.start.now)) m0 m1 → Grown (LoopMade dialect (Some (chars w.next.now)) (chars w.test.now) (chars w.body.now)) m1 m2 → Grown (ForCode dialect w) m0 m2
+  grown_whole_for m0 m1 m2 w g h = (g.0 ++ h.0, (join (ext {m0 = m0} {c = g.0} g.1) (ext {m0 = m1} {c = h.0} h.1)).is, for_makes dialect (chars w.start.now) (chars w.test.now) (chars w.next.now) (chars w.body.now) g.0 h.0 (g.2 0) h.2.1)

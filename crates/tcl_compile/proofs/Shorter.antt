@@ -1,19 +1,22 @@
--- The characters of a command that stand for themselves behind its name are fewer than those of the text.
-use Rattle.std.proofs.Common.{◌≡◌, ℕ, suc, ◌-◌, ◌<◌, ◌≤◌, Bool, true, false, List, [], ◌∷◌, ◌++◌, length, sym, ap, ◌∙◌, arith, length-append}
-use Rattle.tcl_chars.specs.Characters.{close_brace, quote}
+-- The text of a literal word behind a command's name is shorter than the text that it stands in.
+use Rattle.std.proofs.Common.{◌≡◌, ℕ, suc, ◌+◌, ◌-◌, ◌<◌, ◌≤◌, Bool, true, false, List, [], ◌∷◌, ◌++◌, length, drop, sym, ap, ◌∙◌, arith, length-append, length-drop}
+use Rattle.std.specs.Prelude.{IfSome}
+use Rattle.std.proofs.lemmas.Option.{IfSome_then}
+use Rattle.tcl_chars.specs.Characters.{newline, backslash, close_brace, quote, space}
+use Rattle.tcl_chars.specs.Escape.{blanks, escape as escape_of}
 use Rattle.tcl_chars.specs.Place.{EndsWith, bytes}
+use Rattle.tcl_chars.proofs.EscapesLemmas.{escape_takes}
 use Rattle.tcl_words.specs.First.{command, first_command}
 use Rattle.tcl_words.specs.Parts.{Part, Shape}
-use Rattle.tcl_words.specs.Spelling.{Stands, Blanks, Comment, Separators, Inside, Piece, Pieces, Body, Word, Words, Command, ends_word}
+use Rattle.tcl_words.specs.Spelling.{Blanks, Comment, Separators, Inside, Piece, Pieces, Body, Word, Words, Command, ends_word}
 use Rattle.tcl_words.specs.declared.word.Form.{Form}
 use Rattle.tcl_words.proofs.OneReading.{command_is_spelled}
 use Rattle.tcl_words.proofs.ReadIsSpelled.{pieces_front}
-use Rattle.tcl_compile.specs.Within.{PieceIsShort, PiecesAreShort, WordsAreShort, ArgumentsAreShort}
+use Rattle.tcl_compile.specs.Literals.{spelled}
+use Rattle.tcl_compile.specs.Within.{PiecesAreShort, WordsAreShort, ArgumentsAreShort}
+use Rattle.tcl_compile.proofs.LiteralWords.{some_with}
 
 -- ---- between words
-
-stood : (size : ℕ) (cs : List ℕ) (s : _) (rest : List ℕ) → Stands size cs s rest → length rest ≤ length cs
-stood size cs s rest w = omega (arith, ap length w.joined, length-append s.text rest)
 
 blanks_le : (cs rest : List ℕ) → Blanks cs rest → length rest ≤ length cs
 blanks_le _ _ (Blanks.none rest) = omega arith
@@ -35,35 +38,40 @@ separators_le _ _ (Separators.comment cs after rest k x) = omega (arith, comment
 
 -- ---- pieces and words
 
-piece_le : (size levels : ℕ) (ends : List ℕ → Bool) (cs : List ℕ) (p : Part) (rest : List ℕ) → Piece size levels ends cs p rest → length rest ≤ length cs
-piece_le size _ _ _ _ _ (Piece.plain levels ends cs s rest r w) = stood size cs s rest w
-piece_le size _ _ _ _ _ (Piece.escaped levels ends cs s rest r w) = stood size _ s rest w
-piece_le size _ _ _ _ _ (Piece.variable levels ends cs s name rest b l p n w) = stood size _ s rest w
-piece_le size _ _ _ _ _ (Piece.braced_variable levels ends cs s name rest l n w) = stood size _ s rest w
-piece_le size _ _ _ _ _ (Piece.element levels k ends cs s name index ps rest v l n i w) = stood size _ s rest w
-piece_le size _ _ _ _ _ (Piece.script levels k ends cs s inside commands rest v n c w) = stood size _ s rest w
+-- the text that pieces spell, and the rest, are no longer than the whole
+abbrev Fills : List ℕ → List ℕ → List ℕ → Type 0
+Fills cs rest t = length t + length rest ≤ length cs
 
-piece_short : (size n levels : ℕ) (ends : List ℕ → Bool) (cs : List ℕ) (p : Part) (rest : List ℕ) → length cs ≤ n → Piece size levels ends cs p rest → PieceIsShort n p
-piece_short size n _ _ _ _ _ le (Piece.plain levels ends cs s rest r w) = omega (arith, le, ap length w.joined, length-append s.text rest)
-piece_short size n _ _ _ _ _ le (Piece.escaped levels ends cs s rest r w) = tt
-piece_short size n _ _ _ _ _ le (Piece.variable levels ends cs s name rest b l p m w) = tt
-piece_short size n _ _ _ _ _ le (Piece.braced_variable levels ends cs s name rest l m w) = tt
-piece_short size n _ _ _ _ _ le (Piece.element levels k ends cs s name index ps rest v l m i w) = tt
-piece_short size n _ _ _ _ _ le (Piece.script levels k ends cs s inside commands rest v m c w) = tt
+abbrev Takes : List ℕ → List ℕ → List Part → Type 0
+Takes cs rest ps = IfSome (spelled ps) (Fills cs rest)
 
-pieces_short : (size n levels : ℕ) (ends : List ℕ → Bool) (cs : List ℕ) (ps : List Part) (rest : List ℕ) → length cs ≤ n → Pieces size levels ends cs ps rest → PiecesAreShort n ps
-pieces_short size n _ _ _ _ _ le (Pieces.done levels ends rest e) = tt
-pieces_short size n _ _ _ _ _ le (Pieces.piece levels ends cs p after ps rest e q k) = (piece_short size n levels ends cs p after le q, pieces_short size n levels ends after ps rest (omega (arith, le, piece_le size levels ends cs p after q)) k)
+piece_takes : (size levels : ℕ) (ends : List ℕ → Bool) (cs : List ℕ) (p : Part) (after rest : List ℕ) (ps : List Part) → Piece size levels ends cs p after → Takes after rest ps → Takes cs rest (p ∷ ps)
+piece_takes size _ _ _ _ _ rest ps (Piece.plain levels ends cs s after r w) h = some_with (λ t. s.text ++ t) (Fills after rest) (Fills cs rest) (spelled ps) (λ t le. omega (arith, le, ap length w.joined, length-append s.text after, length-append s.text t)) h
+piece_takes size _ _ _ _ _ rest ps (Piece.escaped levels ends cs s after r w) h =
+    let least = escape_takes backslash cs in
+    let n = (escape_of (backslash ∷ cs)).1 in
+    some_with (λ t. (escape_of (backslash ∷ cs)).0 ∷ t) (Fills after rest) (Fills (backslash ∷ cs) rest) (spelled ps) (λ t le. omega (arith, le, least, ap length r, length-drop n (backslash ∷ cs))) h
+piece_takes size _ _ _ _ _ rest ps (Piece.variable levels ends cs s name after b l p n w) h = tt
+piece_takes size _ _ _ _ _ rest ps (Piece.braced_variable levels ends cs s name after l n w) h = tt
+piece_takes size _ _ _ _ _ rest ps (Piece.element levels k ends cs s name index qs after v l n i w) h = tt
+piece_takes size _ _ _ _ _ rest ps (Piece.script levels k ends cs s inside commands after v n c w) h = tt
 
-inside_short : (size n : ℕ) (cs : List ℕ) (ps : List Part) → length cs ≤ n → Inside size cs ps → PiecesAreShort n ps
-inside_short size n _ _ le Inside.nothing = tt
-inside_short size n _ _ le (Inside.verbatim c cs s rest ps h u w k) = (omega (arith, le, ap length w.joined, length-append s.text rest), inside_short size n rest ps (omega (arith, le, stood size (c ∷ cs) s rest w)) k)
-inside_short size n _ _ le (Inside.one_space cs s ps w k) = (tt, inside_short size n _ ps (omega (arith, le, stood size _ s _ w)) k)
+pieces_take : (size levels : ℕ) (ends : List ℕ → Bool) (cs : List ℕ) (ps : List Part) (rest : List ℕ) → Pieces size levels ends cs ps rest → Takes cs rest ps
+pieces_take size _ _ _ _ _ (Pieces.done levels ends rest e) = omega arith
+pieces_take size _ _ _ _ _ (Pieces.piece levels ends cs p after ps rest e q k) = piece_takes size levels ends cs p after rest ps q (pieces_take size levels ends after ps rest k)
+
+inside_takes : (size : ℕ) (cs : List ℕ) (ps : List Part) → Inside size cs ps → Takes cs [] ps
+inside_takes size _ _ Inside.nothing = omega arith
+inside_takes size _ _ (Inside.verbatim c cs s rest ps h u w k) = some_with (λ t. s.text ++ t) (Fills rest []) (Fills (c ∷ cs) []) (spelled ps) (λ t le. omega (arith, le, ap length w.joined, length-append s.text rest, length-append s.text t)) (inside_takes size rest ps k)
+inside_takes size _ _ (Inside.one_space cs s ps w k) = some_with (λ t. space ∷ t) (Fills (drop (blanks cs) cs) []) (Fills (backslash ∷ newline ∷ cs) []) (spelled ps) (λ t le. omega (arith, le, length-drop (blanks cs) cs)) (inside_takes size _ ps k)
+
+short_by : (n : ℕ) (cs rest : List ℕ) (ps : List Part) → length cs ≤ n → Takes cs rest ps → PiecesAreShort n ps
+short_by n cs rest ps le h = IfSome_then (spelled ps) h (λ t k. omega (arith, le, k))
 
 body_short : (size n levels : ℕ) (nested : Bool) (cs : List ℕ) (f : Form) (ps : List Part) (rest : List ℕ) → length cs ≤ n → Body size levels nested cs f ps rest → PiecesAreShort n ps
-body_short size n _ _ _ _ _ _ le (Body.braced levels nested cs inside ps rest e b i) = inside_short _ n inside ps (omega (arith, le, ap length e, length-append inside (close_brace ∷ rest))) i
-body_short size n _ _ _ _ _ _ le (Body.quoted levels nested cs ps rest k) = pieces_short size n levels _ cs ps _ (omega (arith, le)) k
-body_short size n _ _ _ _ _ _ le (Body.bare levels nested cs ps rest h q k) = pieces_short size n levels _ cs ps rest le k
+body_short size n _ _ _ _ _ _ le (Body.braced levels nested cs inside ps rest e b i) = short_by n inside [] ps (omega (arith, le, ap length e, length-append inside (close_brace ∷ rest))) (inside_takes _ inside ps i)
+body_short size n _ _ _ _ _ _ le (Body.quoted levels nested cs ps rest k) = short_by n cs (quote ∷ rest) ps (omega (arith, le)) (pieces_take size levels _ cs ps (quote ∷ rest) k)
+body_short size n _ _ _ _ _ _ le (Body.bare levels nested cs ps rest h q k) = short_by n cs rest ps le (pieces_take size levels _ cs ps rest k)
 
 word_short : (size n levels : ℕ) (nested : Bool) (cs : List ℕ) (w : Shape) (rest : List ℕ) → length cs ≤ n → Word size levels nested cs w rest → PiecesAreShort n w.pieces
 word_short size n _ _ _ _ _ le (Word.without_mark levels nested cs f ps rest b stop) = body_short size n levels nested cs f ps rest le b

@@ -1,5 +1,5 @@
 -- A code that follows a script means it.
-use Rattle.std.proofs.Common.{◌≡◌, ℕ, ◌+◌, ◌≤◌, List, [], ◌∷◌, ◌++◌, length, None, refl, sym, ap, ◌∙◌, subst, arith}
+use Rattle.std.proofs.Common.{◌≡◌, ℕ, ◌+◌, ◌≤◌, Bool, true, List, [], ◌∷◌, ◌++◌, length, None, refl, sym, ap, ◌∙◌, subst, arith}
 use Rattle.std.specs.Prelude.{slice_get}
 use Rattle.std.proofs.lemmas.Option.{slice_get_past}
 use Rattle.tcl_chars.specs.declared.numbers.Dialect.{Dialect}
@@ -21,6 +21,7 @@ use Rattle.tcl_code.proofs.Place.{has_all}
 use Rattle.tcl_code.proofs.Ends.{one_end}
 use Rattle.tcl_compile.specs.Fragments.{Follows, Grown}
 use Rattle.tcl_compile.specs.Emitted.{ScriptCode}
+use Rattle.tcl_compile.specs.Whiles.{HasTurns, ScriptMade}
 use Rattle.tcl_compile.proofs.Failing.{landed_stops}
 
 module _ (dialect : Dialect) (code : List Instruction) where
@@ -85,3 +86,7 @@ emitted_valid dialect c0 c1 t e0 g = valid c1 (subst (λ c. Fits c bare bare) (s
 
 pub emitted_means : (dialect : Dialect) (c0 c1 : List Instruction) (t : Text) → c0 ≡ [] → Grown (ScriptCode dialect t) c0 c1 → Means dialect c1 t
 emitted_means dialect c0 c1 t e0 g = subst (λ c. Means dialect c t) (sym (g.1 ∙ ap (λ x. x ++ g.0) e0)) (means dialect g.0 t g.2)
+
+-- and has a turn for each loop, if the script is the whole
+pub emitted_turns : (dialect : Dialect) (outermost : Bool) (c0 c1 : List Instruction) (t : Text) → outermost ≡ true → c0 ≡ [] → Grown (ScriptMade dialect outermost t) c0 c1 → HasTurns t c1
+emitted_turns dialect outermost c0 c1 t o e0 g = subst (HasTurns t) (sym (g.1 ∙ ap (λ x. x ++ g.0) e0)) (g.2.1 o)

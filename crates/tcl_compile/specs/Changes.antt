@@ -4,7 +4,7 @@ use Rattle.tcl_words.specs.Parts.{Shape}
 use Rattle.tcl_pages.specs.Texts.{Text}
 use Rattle.tcl_code.specs.Guards.{inlined_of, name_of}
 use Rattle.tcl_code.specs.Instructions.{Instruction, Write, Bump}
-use Rattle.tcl_compile.specs.Forms.{IsLiteral}
+use Rattle.tcl_compile.specs.Literals.{IsLiteral}
 use Rattle.tcl_code.specs.declared.inlined.Change.{Change}
 use Rattle.tcl_code.specs.declared.inlined.Change.TheVariants as change
 

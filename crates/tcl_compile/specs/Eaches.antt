@@ -1,16 +1,16 @@
 -- `foreach` over one list, inlined.
 use Rattle.std.specs.Prelude.{◌≡◌, ◌<◌, false, List, [], ◌∷◌, length, map, Ok}
-use Rattle.std.specs.Str.{chars}
 use Rattle.tcl_chars.specs.declared.numbers.Dialect.{Dialect}
 use Rattle.tcl_list.specs.Elements.{elements_of}
-use Rattle.tcl_list.specs.Texts.{text_of}
+use Rattle.tcl_list.specs.Texts as texts
 use Rattle.tcl_words.specs.Parts.{Shape}
 use Rattle.tcl_pages.specs.Texts.{Text}
 use Rattle.tcl_code.specs.Guards.{name_of}
 use Rattle.tcl_code.specs.Instructions.{Instruction, Push, TakeFirst, Under, Write, Call}
 use Rattle.tcl_code.specs.declared.inlined.Inlined.TheVariants as inlined
-use Rattle.tcl_compile.specs.Forms.{IsLiteral, page_does}
+use Rattle.tcl_compile.specs.Forms.{page_does}
 use Rattle.tcl_compile.specs.Inlining.{Uses}
+use Rattle.tcl_compile.specs.Literals.{IsLiteral, text_of}
 use Rattle.tcl_compile.specs.declared.each.EachForm.{EachForm}
 
 -- ---- words
@@ -25,7 +25,7 @@ AreEachWords list body (w0 ∷ w1 ∷ w ∷ w3 ∷ []) = IsLiteral w0 (name_of i
 AreEachWords list body _ = ⊥
 
 abbrev pub IsEach : EachForm → List Shape → Type 0
-IsEach f ws = AreEachWords (chars f.list.now) (chars f.body.now) ws × AreNames (chars f.list.now) (map text_of f.names.items)
+IsEach f ws = AreEachWords (text_of f.list) (text_of f.body) ws × AreNames (text_of f.list) (map texts.text_of f.names.items)
 
 -- ---- code
 

@@ -1,9 +1,9 @@
 -- The commands of literal words that are inlined.
-use Rattle.std.specs.Prelude.{◌≡◌, ◌≤◌, ◌+◌, ℕ, suc, Bool, true, false, List, [], ◌∷◌, ◌++◌, length, map, Option, Some, None, option_map}
+use Rattle.std.specs.Prelude.{◌≡◌, ◌<◌, ◌≤◌, ◌+◌, ℕ, suc, Bool, true, false, List, [], ◌∷◌, ◌++◌, length, map, Option, Some, None, option_map}
 use Rattle.std.specs.Str.{chars}
 use Rattle.tcl_chars.specs.declared.numbers.Dialect.{Dialect}
 use Rattle.tcl_chars.specs.Texts.{literal}
-use Rattle.tcl_words.specs.Parts.{Part, text, Shape}
+use Rattle.tcl_words.specs.Parts.{Shape}
 use Rattle.tcl_pages.specs.Texts.{Text}
 use Rattle.tcl_meaning.specs.Asking.{Asks, ask}
 use Rattle.tcl_meaning.specs.Control.{next_clause, while_next, for_next}
@@ -17,33 +17,16 @@ use Rattle.tcl_code.specs.Guards.{name_of, page_of}
 use Rattle.tcl_code.specs.Instructions.{Instruction, Skip, Body, Again}
 use Rattle.tcl_code.specs.declared.inlined.Inlined.{Inlined}
 use Rattle.tcl_code.specs.declared.inlined.Inlined.TheVariants as inlined
-use Rattle.tcl_compile.specs.Emitted.{ScriptCode}
+use Rattle.tcl_code.specs.Turns.{turns_of}
+use Rattle.tcl_compile.specs.Emitted.{CommandCode, ScriptCode}
 use Rattle.tcl_compile.specs.Inlining.{Makes, asking}
+use Rattle.tcl_compile.specs.Literals.{IsLiteral, AllLiteral}
 use Rattle.tcl_compile.specs.declared.inlining.Clause.{Clause}
 use Rattle.tcl_compile.specs.declared.inlining.Joint.{Joint}
 use Rattle.tcl_compile.specs.declared.inlining.Joint.TheVariants as joint
 use Rattle.tcl_compile.specs.declared.inlining.ForTexts.{ForTexts}
 use Rattle.tcl_compile.specs.declared.inlining.Form.{Form}
 use Rattle.tcl_compile.specs.declared.inlining.Form.TheVariants as form
-
--- a piece that stands for itself
-abbrev pub IsVerbatim : Part → Text → Type 0
-IsVerbatim (text s) t = t ≡ s.text
-IsVerbatim _ t = ⊥
-
-abbrev pub AreVerbatim : List Part → Text → Type 0
-AreVerbatim [] t = t ≡ []
-AreVerbatim (p ∷ []) t = IsVerbatim p t
-AreVerbatim _ t = ⊥
-
--- a word that is one, and is this text
-abbrev pub IsLiteral : Shape → Text → Type 0
-IsLiteral w t = (w.expands ≡ false) × AreVerbatim w.pieces t
-
-abbrev pub AllLiteral : List Shape → List Text → Type 0
-AllLiteral [] [] = Unit {0}
-AllLiteral (w ∷ ws) (t ∷ ts) = IsLiteral w t × AllLiteral ws ts
-AllLiteral _ _ = ⊥
 
 -- ---- the words of an `if`
 
@@ -125,9 +108,17 @@ FormIsShort n _ = Unit {0}
 abbrev pub page_does : Dialect → Inlined → List Text → ℕ → Prog Task Completion
 page_does dialect p ts d = page_in dialect d (page_asks dialect (page_of p) ts)
 
+-- that of a `while` has a turn back
+abbrev pub TurnsBack : Form → List Instruction → Type 0
+TurnsBack f c = command_of f ≡ inlined.While → 0 < turns_of c
+
 -- the code of a form, behind its guard
 abbrev pub PageCode : Dialect → Form → List Instruction → Type 0
-PageCode dialect f c = (ts : List Text) → IsForm f ts → Makes dialect c (page_does dialect (command_of f) ts)
+PageCode dialect f c = TurnsBack f c × ((ts : List Text) → IsForm f ts → Makes dialect c (page_does dialect (command_of f) ts))
+
+-- and with the guard, and the call beside it
+abbrev pub InlinedCode : Dialect → Form → List Shape → List Instruction → Type 0
+InlinedCode dialect f ws c = TurnsBack f c × CommandCode dialect ws c
 
 -- of a body whose completion is that of its command
 abbrev pub BodyCode : Dialect → Text → List Instruction → Type 0
@@ -159,6 +150,10 @@ next_test dialect (Some next) test body = for_next dialect test next body
 -- of such a loop, from its first condition on
 abbrev pub LoopCode : Dialect → Option Text → Text → Text → List Instruction → Type 0
 LoopCode dialect next test body c = Makes dialect c (asking dialect 1 (next_test dialect next test body))
+
+-- with its turn back
+abbrev pub LoopMade : Dialect → Option Text → Text → Text → List Instruction → Type 0
+LoopMade dialect next test body c = (0 < turns_of c) × LoopCode dialect next test body c
 
 -- of a `for`
 abbrev pub ForCode : Dialect → ForTexts → List Instruction → Type 0

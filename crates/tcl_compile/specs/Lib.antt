@@ -5,5 +5,7 @@ pub mod Forms
 pub mod Fragments
 pub mod Inlining
 pub mod Kept
+pub mod Literals
 pub mod Trees
+pub mod Whiles
 pub mod Within

@@ -7,7 +7,7 @@ ghost use Rattle.tcl_code.specs.Instructions.{Call, Guard, Skip, Under};
 ghost use Rattle.tcl_words.specs.Parts.{shape_of};
 ghost use Rattle.tcl_compile.specs.Changes.{IsChange, changing};
 
-use crate::inlining::literal;
+use crate::literals::stretch;
 use std::alloc::AllocError;
 use tcl_code::{Change, CodeBuilder, Instr};
 use tcl_words::Word;
@@ -25,15 +25,15 @@ fn change_named(name: &str) -> Option<Change>
     }
 }
 
-// The change that a command of three words makes, and the variable's name, where both are literal.
+// The change that a command of three words makes, and the variable's name, where both are stretches.
 pub(crate) fn change_of<'a>(words: &[Word<'a>]) -> Option<(Change, &'a str)>
     ensures { IfSome result (λ x. IsChange x.0 (chars x.1.now) (map shape_of words.now)) }
 {
     if words.len() != 3 || words[2].expands {
         return None;
     }
-    let head = literal(&words[0])?;
-    let name = literal(&words[1])?;
+    let head = stretch(&words[0])?;
+    let name = stretch(&words[1])?;
     let change = change_named(head)?;
     Some((change, name))
 }

@@ -5,6 +5,7 @@ ghost use Rattle.std.specs.Str.{chars};
 ghost use Rattle.tcl_code.specs.Means.{Means, MeansExpr};
 ghost use Rattle.tcl_code.specs.Shown.{shown_by};
 ghost use Rattle.tcl_code.specs.Valid.{Valid};
+ghost use Rattle.tcl_compile.specs.Whiles.{HasTurns};
 
 use crate::context::Context;
 use crate::script::emit_script;
@@ -14,14 +15,16 @@ use tcl_chars::Dialect;
 use tcl_code::{Code, CodeBuilder, CodeFault, Instr};
 use tcl_names::Layout;
 
-/// The code of a script. It ends exactly as the script does, with any layout.
+/// The code of a script. It ends exactly as the script does, with any layout. Among its instructions
+/// are at least as many turns back as the script has commands `while {..} {..}`.
 pub fn compile_script(
     alloc: Global,
     text: &str,
     dialect: Dialect,
     _layout: &Layout,
 ) -> Result<Code, AllocError>
-    ensures { IfOk result (λ code. Means dialect (shown_by code) (chars text.now)) }
+    ensures means { IfOk result (λ code. Means dialect (shown_by code) (chars text.now)) }
+    ensures turns { IfOk result (λ code. HasTurns (chars text.now) (shown_by code)) }
 {
     let mut code = CodeBuilder::new(alloc);
     emit_script(&mut code, Context::new(alloc, dialect), text)?;

@@ -1,6 +1,6 @@
 //! What a code is emitted for.
 
-ghost use Rattle.std.specs.Prelude.{◌≡◌};
+ghost use Rattle.std.specs.Prelude.{◌≡◌, true};
 
 use std::alloc::Global;
 use tcl_chars::Dialect;
@@ -15,6 +15,8 @@ pub(crate) struct Context {
     pub(crate) alloc: Global,
     /// Of numbers.
     pub(crate) dialect: Dialect,
+    /// For a text's own commands.
+    pub(crate) outermost: bool,
     /// How much deeper commands are inlined.
     levels: u32,
 }
@@ -22,11 +24,13 @@ pub(crate) struct Context {
 impl Context {
     // For a whole text.
     pub(crate) fn new(alloc: Global, dialect: Dialect) -> Context
-        ensures { result.dialect ≡ dialect }
+        ensures dialect { result.dialect ≡ dialect }
+        ensures outermost { result.outermost ≡ true }
     {
         Context {
             alloc,
             dialect,
+            outermost: true,
             levels: MOST_LEVELS,
         }
     }
@@ -36,11 +40,6 @@ impl Context {
         self.levels > 0
     }
 
-    // Are these the text's own commands?
-    pub(crate) fn is_outermost(self) -> bool {
-        self.levels == MOST_LEVELS
-    }
-
     // For a script inside.
     pub(crate) fn within(self) -> Context
         ensures { result.dialect ≡ self.dialect }
@@ -48,6 +47,7 @@ impl Context {
         Context {
             alloc: self.alloc,
             dialect: self.dialect,
+            outermost: false,
             levels: self.levels.saturating_sub(1),
         }
     }

@@ -9,10 +9,11 @@ ghost use Rattle.tcl_meaning.specs.Nesting.{WordsNest};
 ghost use Rattle.tcl_compile.specs.Eaches.{AreEachWords, AreNames, EachCode, IsEach, calling, takes};
 ghost use Rattle.tcl_compile.specs.Emitted.{CommandCode};
 ghost use Rattle.tcl_compile.specs.Fragments.{Grown};
+ghost use Rattle.tcl_compile.specs.Literals as literals;
 ghost use Rattle.tcl_compile.specs.Within.{ArgumentsAreShort, WordsWithin};
 
 use crate::context::Context;
-use crate::inlining::literal;
+use crate::literals::{Literal, literal_of, stretch};
 use crate::pages::{emit_looped, emit_nothing, emit_turn};
 use crate::script::emit_word;
 use crate::skips::lead_here;
@@ -26,9 +27,9 @@ use tcl_words::Word;
 /// A `foreach` over one list: the list of its variables' names, the names, and the body.
 #[derive(Drop)]
 pub(crate) struct EachForm<'a> {
-    pub(crate) list: &'a str,
+    pub(crate) list: Literal<'a>,
     pub(crate) names: Vec<RcStr>,
-    pub(crate) body: &'a str,
+    pub(crate) body: Literal<'a>,
 }
 
 // A `foreach` of more names is called.
@@ -50,19 +51,26 @@ fn names_of(alloc: Global, list: &str) -> Result<Option<Vec<RcStr>>, AllocError>
 }
 
 // The list of names and the body, where they are literal, of a `foreach` over one list.
-fn each_words<'a>(words: &[Word<'a>]) -> Option<(&'a str, &'a str)>
-    ensures { IfSome result (λ x. AreEachWords (chars x.0.now) (chars x.1.now) (map shape_of words.now)) }
+fn each_words<'a>(
+    alloc: Global,
+    words: &[Word<'a>],
+) -> Result<Option<(Literal<'a>, Literal<'a>)>, AllocError>
+    ensures { IfOk result (λ found. IfSome found (λ x. AreEachWords (literals.text_of x.0) (literals.text_of x.1) (map shape_of words.now))) }
 {
     if words.len() != 4 || words[2].expands {
-        return None;
+        return Ok(None);
     }
-    let head = literal(&words[0])?;
-    if head != "foreach" {
-        return None;
+    match stretch(&words[0]) {
+        Some(head) if head == "foreach" => (),
+        _ => return Ok(None),
     }
-    let list = literal(&words[1])?;
-    let body = literal(&words[3])?;
-    Some((list, body))
+    let Some(list) = literal_of(alloc, &words[1])? else {
+        return Ok(None);
+    };
+    let Some(body) = literal_of(alloc, &words[3])? else {
+        return Ok(None);
+    };
+    Ok(Some((list, body)))
 }
 
 // A `foreach` over one list that is inlined.
@@ -75,10 +83,10 @@ pub(crate) fn each_of<'a>(
     if !context.inlines() {
         return Ok(None);
     }
-    let Some((list, body)) = each_words(words) else {
+    let Some((list, body)) = each_words(context.alloc, words)? else {
         return Ok(None);
     };
-    match names_of(context.alloc, list)? {
+    match names_of(context.alloc, list.as_str())? {
         Some(names) => Ok(Some(EachForm { list, names, body })),
         None => Ok(None),
     }
@@ -112,8 +120,8 @@ fn emit_turns(
     context: Context,
     each: &EachForm<'_>,
 ) -> Result<(), AllocError>
-    requires { AreNames (chars each.now.list.now) (map text_of each.now.names.items) }
-    ensures { OnOk result (Grown (EachCode context.dialect (chars each.now.list.now) (chars each.now.body.now)) code.old code.new) }
+    requires { AreNames (literals.text_of each.now.list) (map text_of each.now.names.items) }
+    ensures { OnOk result (Grown (EachCode context.dialect (literals.text_of each.now.list) (literals.text_of each.now.body)) code.old code.new) }
 {
     code.emit(Instr::Gather)?;
     code.emit(Instr::AddAll)?;
@@ -121,7 +129,7 @@ fn emit_turns(
     code.emit(Instr::Skip(0))?;
     let begin = code.len();
     emit_names(code, each.names.as_slice())?;
-    emit_looped(code, context, false, each.body)?;
+    emit_looped(code, context, false, each.body.as_str())?;
     code.emit(Instr::Skip(2))?;
     lead_here(code, to_more)?;
     code.emit(Instr::SkipEmpty(1))?;
@@ -154,6 +162,6 @@ pub(crate) fn emit_each(
     let past = code.len();
     code.emit(Instr::Skip(0))?;
     lead_here(code, guard)?;
-    emit_calling(code, each.list, each.body)?;
+    emit_calling(code, each.list.as_str(), each.body.as_str())?;
     lead_here(code, past)
 }

@@ -1,18 +1,21 @@
 //! The commands of literal words that are inlined.
 
-ghost use Rattle.std.specs.Prelude.{◌≡◌, true, IfOk, IfSome, map};
+ghost use Rattle.std.specs.Prelude.{◌≡◌, true, IfOk, IfSome, IsSome, Some, length, map};
 ghost use Rattle.std.specs.Str.{chars};
 ghost use Rattle.tcl_code.specs.Guards.{name_of};
 ghost use Rattle.tcl_code.specs.declared.inlined.Inlined.TheVariants as inlined;
-ghost use Rattle.tcl_words.specs.Parts.{part_of, shape_of};
+ghost use Rattle.tcl_words.specs.Parts.{shape_of};
 ghost use Rattle.tcl_compile.specs.Forms as forms;
-ghost use Rattle.tcl_compile.specs.Forms.{AllLiteral, HasClause, HasForm, IsFormOf, IsJoint, IsLiteral, IsNamed, IsVerbatim};
+ghost use Rattle.tcl_compile.specs.Forms.{HasClause, IsFormOf, IsJoint, IsNamed};
+ghost use Rattle.tcl_compile.specs.Literals.{text_of};
+ghost use Rattle.tcl_compile.specs.Whiles.{IsWhile};
 
 use crate::context::Context;
+use crate::literals::{Literal, stretch, views};
 use std::alloc::{AllocError, Global};
 use tcl_chars::is_text;
 use tcl_code::Inlined;
-use tcl_words::{Piece, Word};
+use tcl_words::Word;
 
 /// A condition, and the body that is run where it holds.
 #[derive(Clone, Copy)]
@@ -85,12 +88,16 @@ fn are_short(clauses: &[Clause<'_>]) -> bool {
 }
 
 // Is a loop with this condition inlined? Each one among a text's own commands is.
-fn inlines_loop(context: Context, test: &str) -> bool {
-    context.is_outermost() || context.inlines() && test.len() <= LONGEST_EXPRESSION
+fn inlines_loop(context: Context, test: &str) -> bool
+    ensures { context.outermost ≡ true → result ≡ true }
+{
+    context.outermost || context.inlines() && test.len() <= LONGEST_EXPRESSION
 }
 
 // Is a form inlined?
-pub(crate) fn is_inlined(context: Context, form: &Form<'_>) -> bool {
+fn is_inlined(context: Context, form: &Form<'_>) -> bool
+    ensures { context.outermost ≡ true → forms.command_of form.now ≡ inlined.While → result ≡ true }
+{
     match form {
         Form::Expr(text) => context.inlines() && text.len() <= LONGEST_EXPRESSION,
         Form::If(clauses, _) => context.inlines() && are_short(clauses),
@@ -100,46 +107,8 @@ pub(crate) fn is_inlined(context: Context, form: &Form<'_>) -> bool {
     }
 }
 
-// The characters of a piece that stand for themselves.
-fn verbatim<'a>(piece: &Piece<'a>) -> Option<&'a str>
-    ensures { IfSome result (λ t. IsVerbatim (part_of piece.now) (chars t.now)) }
-{
-    match piece {
-        Piece::Text(span) => Some(span.text),
-        _ => None,
-    }
-}
-
-// The text of a word that is literal.
-pub(crate) fn literal<'a>(word: &Word<'a>) -> Option<&'a str>
-    ensures { IfSome result (λ t. IsLiteral (shape_of word.now) (chars t.now)) }
-{
-    if word.expands {
-        return None;
-    }
-    match word.pieces.len() {
-        0 => Some(""),
-        1 => verbatim(&word.pieces[0]),
-        _ => None,
-    }
-}
-
-// The texts of words that are all literal.
-fn literals<'a>(alloc: Global, words: &[Word<'a>]) -> Result<Option<Vec<&'a str>>, AllocError>
-    ensures { IfOk result (λ texts. IfSome texts (λ ts. AllLiteral (map shape_of words.now) (map (λ t. chars t.now) ts.items))) }
-{
-    let mut texts = Vec::new(alloc);
-    'words: for word in words {
-        match literal(word) {
-            Some(text) => texts.push(text)?,
-            None => return Ok(None),
-        }
-    }
-    Ok(Some(texts))
-}
-
-// The command of a name.
-fn command_named(name: &str) -> Option<Inlined>
+// The command of a name, but for `while`.
+fn other_named(name: &str) -> Option<Inlined>
     ensures { IfSome result (λ p. chars name.now ≡ name_of p) }
 {
     if name == "incr" {
@@ -148,8 +117,6 @@ fn command_named(name: &str) -> Option<Inlined>
         Some(Inlined::Expr)
     } else if name == "if" {
         Some(Inlined::If)
-    } else if name == "while" {
-        Some(Inlined::While)
     } else if name == "for" {
         Some(Inlined::For)
     } else if name == "break" {
@@ -158,6 +125,18 @@ fn command_named(name: &str) -> Option<Inlined>
         Some(Inlined::Continue)
     } else {
         None
+    }
+}
+
+// The command of a name.
+fn command_named(name: &str) -> Option<Inlined>
+    ensures named { IfSome result (λ p. chars name.now ≡ name_of p) }
+    ensures whiles { chars name.now ≡ name_of inlined.While → result ≡ Some inlined.While }
+{
+    if is_text(name, "while") {
+        Some(Inlined::While)
+    } else {
+        other_named(name)
     }
 }
 
@@ -209,7 +188,8 @@ fn form_by<'a>(
     command: Inlined,
     texts: &[&'a str],
 ) -> Result<Option<Form<'a>>, AllocError>
-    ensures { IfOk result (λ form. IfSome form (λ f. IsFormOf command f (map (λ t. chars t.now) texts.now))) }
+    ensures form { IfOk result (λ form. IfSome form (λ f. IsFormOf command f (map (λ t. chars t.now) texts.now))) }
+    ensures whiles { IfOk result (λ form. command ≡ inlined.While → length texts.now ≡ 2 → IsSome form) }
 {
     match (command, texts) {
         (Inlined::Break, []) => Ok(Some(Form::Break)),
@@ -228,34 +208,30 @@ fn form_by<'a>(
     }
 }
 
-// The form of a command of this name, if its words are literal.
-fn form_behind<'a>(
-    alloc: Global,
+// The form of a command of this name, from the literal words behind it, if it is inlined.
+pub(crate) fn form_of<'b>(
+    context: Context,
     command: Inlined,
-    words: &[Word<'a>],
-) -> Result<Option<Form<'a>>, AllocError>
-    requires { IsNamed command (map shape_of words.now) }
-    ensures { IfOk result (λ form. IfSome form (λ f. HasForm f (map shape_of words.now))) }
+    literals: &'b [Literal<'_>],
+) -> Result<Option<Form<'b>>, AllocError>
+    ensures form { IfOk result (λ form. IfSome form (λ f. IsFormOf command f (map text_of literals.now))) }
+    ensures whiles { IfOk result (λ form. context.outermost ≡ true → command ≡ inlined.While → length literals.now ≡ 2 → IsSome form) }
 {
-    match literals(alloc, &words[1..])? {
-        Some(texts) => form_by(alloc, command, texts.as_slice()),
-        None => Ok(None),
+    let texts = views(context.alloc, literals)?;
+    match form_by(context.alloc, command, texts.as_slice())? {
+        Some(form) if is_inlined(context, &form) => Ok(Some(form)),
+        _ => Ok(None),
     }
 }
 
-// The form of a command, if its words are literal and it is one that is inlined.
-pub(crate) fn form_of<'a>(alloc: Global, words: &[Word<'a>]) -> Result<Option<Form<'a>>, AllocError>
-    ensures { IfOk result (λ form. IfSome form (λ f. HasForm f (map shape_of words.now))) }
+// The command that is inlined, of words that begin with its name.
+pub(crate) fn inlined_by(words: &[Word<'_>]) -> Option<Inlined>
+    ensures named { IfSome result (λ p. IsNamed p (map shape_of words.now)) }
+    ensures whiles { IsWhile (map shape_of words.now) → result ≡ Some inlined.While }
 {
     if words.is_empty() {
-        return Ok(None);
+        return None;
     }
-    let command = match literal(&words[0]) {
-        Some(name) => command_named(name),
-        None => None,
-    };
-    match command {
-        Some(command) => form_behind(alloc, command, words),
-        None => Ok(None),
-    }
+    let name = stretch(&words[0])?;
+    command_named(name)
 }

@@ -12,6 +12,7 @@ mod context;
 mod each;
 mod inlining;
 mod kept;
+mod literals;
 mod pages;
 mod script;
 mod skips;

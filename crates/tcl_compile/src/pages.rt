@@ -3,7 +3,7 @@
 ghost use Rattle.std.specs.Prelude.{◌≡◌, ◌-◌, ◌<◌, ◌≤◌, ◌++◌, ◌∷◌, [], OnOk, length, map, option_map};
 ghost use Rattle.std.specs.Str.{chars};
 ghost use Rattle.tcl_code.specs.Instructions.{Answer, Push, Turn};
-ghost use Rattle.tcl_compile.specs.Forms.{BodiedCode, BodyCode, ClausesAreShort, ClausesCode, ForCode, FormIsShort, LoopCode, OtherwiseIsShort, PageCode, TurnCode, clause_of, most_clauses};
+ghost use Rattle.tcl_compile.specs.Forms.{BodiedCode, BodyCode, ClausesAreShort, ClausesCode, ForCode, FormIsShort, LoopMade, OtherwiseIsShort, PageCode, TurnCode, clause_of, most_clauses};
 ghost use Rattle.tcl_compile.specs.Fragments.{Grown};
 
 use crate::context::Context;
@@ -160,7 +160,7 @@ fn emit_loop(
     requires test { length (chars test.now) ≤ length (chars whole.now) - 1 }
     requires next { OtherwiseIsShort (length (chars whole.now) - 1) (option_map (λ t. chars t.now) next) }
     requires body { length (chars body.now) ≤ length (chars whole.now) - 1 }
-    ensures { OnOk result (Grown (LoopCode context.dialect (option_map (λ t. chars t.now) next.entry) (chars test.now) (chars body.now)) code.old code.new) }
+    ensures { OnOk result (Grown (LoopMade context.dialect (option_map (λ t. chars t.now) next.entry) (chars test.now) (chars body.now)) code.old code.new) }
 {
     let to_test = code.len();
     code.emit(Instr::Skip(0))?;

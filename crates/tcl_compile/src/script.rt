@@ -1,26 +1,29 @@
 //! The code of a script, emitted from left to right.
 
-ghost use Rattle.std.specs.Prelude.{◌≡◌, ◌+◌, ◌-◌, ◌<◌, ◌++◌, false, ◌∷◌, [], IfOk, OnOk, length, map};
+ghost use Rattle.std.specs.Prelude.{◌≡◌, ◌+◌, ◌-◌, ◌<◌, ◌++◌, false, true, ◌∷◌, [], IfOk, OnOk, length, map};
 ghost use Rattle.std.specs.Str.{chars};
 ghost use Rattle.tcl_words.specs.First.{IsParsed, first_command, most_levels};
 ghost use Rattle.tcl_words.specs.Parts.{shape_of, part_of, parts_of};
 ghost use Rattle.tcl_meaning.specs.Nesting.{PartNests, PartsNest, WordsNest};
 ghost use Rattle.tcl_code.specs.Instructions.{Call, Join, Push};
+ghost use Rattle.tcl_code.specs.declared.inlined.Inlined.TheVariants as inlined;
 ghost use Rattle.tcl_compile.specs.Changes.{IsChange};
-ghost use Rattle.tcl_compile.specs.Emitted.{PieceCode, WordCode, BracketCode, CommandCode, ScriptCode};
-ghost use Rattle.tcl_compile.specs.Forms.{HasForm};
+ghost use Rattle.tcl_compile.specs.Emitted.{PieceCode, WordCode, BracketCode, CommandCode};
+ghost use Rattle.tcl_compile.specs.Forms.{HasForm, InlinedCode, IsNamed};
 ghost use Rattle.tcl_compile.specs.Fragments.{Grown, Plain, adding};
+ghost use Rattle.tcl_compile.specs.Whiles.{CommandMade, IsWhile, ScriptMade};
 ghost use Rattle.tcl_compile.specs.Within.{ArgumentsAreShort, PartWithin, PartsWithin, WordsWithin};
 
 use crate::change::{change_of, emit_change};
 use crate::context::Context;
 use crate::each::{each_of, emit_each};
-use crate::inlining::{Form, command_of, form_of, is_inlined};
+use crate::inlining::{Form, command_of, form_of, inlined_by};
+use crate::literals::literals;
 use crate::pages::emit_page;
 use crate::skips::lead_here;
 use std::alloc::{AllocError, Global};
 use tcl_chars::push;
-use tcl_code::{Change, CodeBuilder, Instr};
+use tcl_code::{Change, CodeBuilder, Inlined, Instr};
 use tcl_words::{Parsed, Piece, Word, parse_first};
 
 // Brackets and array indices may stand in one another this deep.
@@ -39,7 +42,7 @@ pub(crate) fn emit_script(
     context: Context,
     text: &str,
 ) -> Result<(), AllocError>
-    ensures { OnOk result (Grown (ScriptCode context.dialect (chars text.now)) code.old code.new) }
+    ensures { OnOk result (Grown (ScriptMade context.dialect context.outermost (chars text.now)) code.old code.new) }
 {
     let mut rest = text;
     'commands: loop {
@@ -57,7 +60,8 @@ pub(crate) fn emit_script(
 
 // Has a word `{*}` in front?
 fn any_expands(words: &[Word<'_>]) -> bool
-    ensures { result ≡ false → Plain (map shape_of words.now) }
+    ensures plain { result ≡ false → Plain (map shape_of words.now) }
+    ensures expands { result ≡ true → Plain (map shape_of words.now) → ⊥ }
 {
     'words: for word in words {
         if word.expands {
@@ -79,7 +83,7 @@ fn emit_command(
     requires nests { WordsNest most_levels (map shape_of words.now) }
     requires within { WordsWithin (length (chars whole.now) - 1) (map shape_of words.now) }
     requires short { ArgumentsAreShort (length (chars whole.now) - 1) (map shape_of words.now) }
-    ensures { OnOk result (Grown (CommandCode context.dialect (map shape_of words.now)) code.old code.new) }
+    ensures { OnOk result (Grown (CommandMade context.dialect context.outermost (map shape_of words.now)) code.old code.new) }
 {
     if any_expands(words) {
         return emit_gathered(code, context, whole, words);
@@ -90,11 +94,36 @@ fn emit_command(
     if let Some(each) = each_of(context, words)? {
         return emit_each(code, context, whole, &each, words);
     }
-    match form_of(context.alloc, words)? {
-        Some(form) if is_inlined(context, &form) => {
-            emit_inlined(code, context, whole, &form, words)
-        }
-        _ => emit_plain(code, context, whole, words),
+    match inlined_by(words) {
+        Some(command) => emit_named(code, context, whole, command, words),
+        None => emit_plain(code, context, whole, words),
+    }
+}
+
+// A command of the name of one that is inlined.
+#[cycle(emitting)]
+fn emit_named(
+    code: &mut CodeBuilder,
+    context: Context,
+    whole: &str,
+    command: Inlined,
+    words: &[Word<'_>],
+) -> Result<(), AllocError>
+    requires named { IsNamed command (map shape_of words.now) }
+    requires whiles { IsWhile (map shape_of words.now) → command ≡ inlined.While }
+    requires plain { Plain (map shape_of words.now) }
+    requires some { 0 < length (chars whole.now) }
+    requires nests { WordsNest most_levels (map shape_of words.now) }
+    requires within { WordsWithin (length (chars whole.now) - 1) (map shape_of words.now) }
+    requires short { ArgumentsAreShort (length (chars whole.now) - 1) (map shape_of words.now) }
+    ensures { OnOk result (Grown (CommandMade context.dialect context.outermost (map shape_of words.now)) code.old code.new) }
+{
+    match literals(context.alloc, &words[1..])? {
+        Some(literals) => match form_of(context, command, literals.as_slice())? {
+            Some(form) => emit_inlined(code, context, whole, &form, words),
+            None => emit_plain(code, context, whole, words),
+        },
+        None => emit_plain(code, context, whole, words),
     }
 }
 
@@ -112,7 +141,7 @@ fn emit_inlined(
     requires nests { WordsNest most_levels (map shape_of words.now) }
     requires within { WordsWithin (length (chars whole.now) - 1) (map shape_of words.now) }
     requires short { ArgumentsAreShort (length (chars whole.now) - 1) (map shape_of words.now) }
-    ensures { OnOk result (Grown (CommandCode context.dialect (map shape_of words.now)) code.old code.new) }
+    ensures { OnOk result (Grown (InlinedCode context.dialect form.now (map shape_of words.now)) code.old code.new) }
 {
     let guard = code.len();
     code.emit(Instr::Guard(command_of(form), 0))?;

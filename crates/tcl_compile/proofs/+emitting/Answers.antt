@@ -2,7 +2,7 @@ use Rattle.std.proofs.Common.{rules, [], get_or, subst, ◌≤◌, ◌≡◌, �
 use Rattle.std.proofs.lemmas.Result.{on_ok_weaker}
 use Rattle.std.proofs.lemmas.List.{length-map}
 use Rattle.std.specs.Str.{chars}
-use Rattle.tcl_list.specs.Texts.{text_of}
+use Rattle.tcl_list.specs.Texts as texts
 use Rattle.tcl_words.specs.Parts.{shape_of, part_of, parts_of, stretch_of}
 use Rattle.tcl_meaning.specs.Nesting.{PartNests, PartsNest, WordsNest}
 use Rattle.tcl_words.specs.First.{most_levels}
@@ -10,7 +10,7 @@ use Rattle.tcl_meaning.proofs.Nests.{first_nests, parts_nest_at, words_nest_at}
 use Rattle.tcl_compile.specs.Emitted.{GatheredLeft}
 use Rattle.tcl_compile.specs.Within.{PartWithin, PartsWithin, WordsWithin}
 use Rattle.tcl_compile.proofs.Within.{first_shorter, parts_within_at, words_within_at}
-use Rattle.tcl_compile.proofs.Emits.{grown_one, grown_text, grown_escape, grown_var, grown_elem, grown_bracket, grown_deeper, grown_word, grown_command, grown_gathered, piece_leads, word_leads, gather_leads, leads_start, plain_at, script_leads, script_ends, script_fails}
+use Rattle.tcl_compile.proofs.Emits.{grown_one, grown_text, grown_escape, grown_var, grown_elem, grown_bracket, grown_deeper, grown_word, grown_command, grown_gathered, piece_leads, word_leads, gather_leads, leads_start, plain_at}
 use Rattle.tcl_compile.proofs.Paging.{are_none, are_some, behind_first, behind_less, first_split, grown_break, grown_continue, grown_increment, grown_expr, grown_if, grown_while, grown_body, grown_none, grown_last, grown_clause, grown_looped, grown_turns, grown_loop, grown_whole_for}
 use Rattle.tcl_compile.proofs.EachEmits.{each_short, grown_each, grown_each_turns}
 use Rattle.tcl_compile.proofs.Forming.{grown_changed, change_long, form_plain, form_short, grown_guarded}
@@ -22,12 +22,20 @@ use Rattle.tcl_compile.proofs.Views.{parsed_tree, is_operand, is_group, is_call,
 use Rattle.tcl_expr.specs.Machine.{args_of, rest_of}
 use Rattle.tcl_expr.specs.Gives.{result_view}
 use Rattle.std.specs.Borrow.{Bor}
-use Rattle.std.specs.Prelude.{List, ℕ, Option, option_map}
+use Rattle.std.proofs.lemmas.Bool.{false≢true}
+use Rattle.std.specs.Prelude.{IsSome, List, ℕ, Option, option_map}
+use Rattle.tcl_compile.specs.Whiles.{IsWhile}
 use Rattle.tcl_compile.specs.Forms.{FormIsShort, ClausesAreShort, ClausesCode, OtherwiseIsShort, clause_of, most_clauses}
 use Rattle.tcl_compile.specs.Fragments.{Grown}
 use Rattle.tcl_compile.specs.declared.inlining.Clause.{Clause}
 use Rattle.tcl_compile.specs.Within.{ArgumentsAreShort}
+use Rattle.tcl_compile.proofs.Scripts.{made_code, made_without, script_leads, script_ends, script_fails}
 use Rattle.tcl_compile.proofs.Shorter.{first_short}
+use Rattle.tcl_compile.specs.Changes.{IsChange}
+use Rattle.tcl_compile.specs.Eaches.{IsEach}
+use Rattle.tcl_compile.specs.Literals.{AllLiteral, text_of}
+use Rattle.tcl_compile.proofs.LiteralWords.{of_some}
+use Rattle.tcl_compile.proofs.Whiles.{loop_long, loop_plain, no_change, no_each}
 use Rattle.tcl_compile.proofs.Weights.{reach, reach_more, reach_le, weight, weight_args, weight_rest, light, argument_lighter, step_lighter}
 use Rattle.tcl_compile.proofs.Expressions.{tree_some, grown_value, grown_fault}
 use Rattle.tcl_compile.proofs.Leaves.{tree_is_read}
@@ -51,7 +59,7 @@ pub script::emit_piece-returns-in-Bracket : goal.script::emit_piece-returns-in-B
 script::emit_piece-returns-in-Bracket t c = on_ok_weaker c.emit_deeper.result (λ g. grown_bracket c.args.context.dialect _ _ (part_of c.args.piece.now) (stretch_of c.in-Bracket.field-0) (stretch_of c.in-Bracket.script) (part-bracket _ _ _ c.in-Bracket.is) g) c.emit_deeper.ensures
 
 pub script::emit_deeper-returns : goal.script::emit_deeper-returns
-script::emit_deeper-returns t c = on_ok_weaker c.emit-2.result (λ e. grown_deeper c.args.context.dialect _ _ _ _ (chars c.args.text.now) c.in_ok-emit.ensures.done (rw c.within.ensures at c.in_ok-emit_script.ensures) e) c.emit-2.ensures.done
+script::emit_deeper-returns t c = on_ok_weaker c.emit-2.result (λ e. grown_deeper c.args.context.dialect _ _ _ _ (chars c.args.text.now) c.in_ok-emit.ensures.done (rw c.within.ensures at (made_code _ _ _ _ _ c.in_ok-emit_script.ensures)) e) c.emit-2.ensures.done
 
 pub script::emit_pieces-pieces-preserved : goal.script::emit_pieces-pieces-preserved
 script::emit_pieces-pieces-preserved t c =
@@ -166,13 +174,13 @@ script::emit_gathered-returns t c =
 pub script::emit_script-returns-in-End : goal.script::emit_script-returns-in-End
 script::emit_script-returns-in-End t c =
     let e = parsed_end _ _ _ _ c.in_ok-first.ensures c.in-End.is in
-    script_ends c.args.context.dialect (chars c.args.text.now) (chars c.commands.rest.now) e.rest _ _ e.is c.commands.invariant.1.leads
+    script_ends c.args.context.dialect c.args.context.outermost (chars c.args.text.now) (chars c.commands.rest.now) e.rest _ _ e.is c.commands.invariant.1.leads
 
 pub script::emit_script-returns-in-Bad : goal.script::emit_script-returns-in-Bad
 script::emit_script-returns-in-Bad t c =
     let e = parsed_bad _ _ _ _ c.in_ok-first.ensures c.in-Bad.is in
     on_ok_weaker c.raise.result
-    (λ h. script_fails c.args.context.dialect (chars c.args.text.now) (chars c.commands.rest.now) c.in-Bad.fault _ _ c.commands.code _ e c.text.ensures.text c.commands.invariant.1.leads h) c.raise.ensures.done
+    (λ h. script_fails c.args.context.dialect c.args.context.outermost (chars c.args.text.now) (chars c.commands.rest.now) c.in-Bad.fault _ _ c.commands.code _ e c.text.ensures.text c.commands.invariant.1.leads h) c.raise.ensures.done
 
 pub script::emit_script-emit_command-requires : goal.script::emit_script-emit_command-requires
 script::emit_script-emit_command-requires t c =
@@ -182,7 +190,7 @@ script::emit_script-emit_command-requires t c =
     let less = short.less in
     let shorter = c.commands.invariant.1.shorter in
     let some : 0 < length now = omega arith in
-    let falls : reach (length now) + 502 < reach (length (chars c.args.text.now)) + 900 = omega (arith, reach_le (length now) (length (chars c.args.text.now)) shorter) in
+    let falls : reach (length now) + 503 < reach (length (chars c.args.text.now)) + 900 = omega (arith, reach_le (length now) (length (chars c.args.text.now)) shorter) in
     let nests : WordsNest most_levels (map shape_of c.as_slice.result.now) = rw c.as_slice.ensures.value (first_nests most_levels now _ e.rest e.is) in
     let within : WordsWithin (length now - 1) (map shape_of c.as_slice.result.now) = rw c.as_slice.ensures.value short.within in
     let arguments : ArgumentsAreShort (length now - 1) (map shape_of c.as_slice.result.now) = rw c.as_slice.ensures.value (first_short most_levels now _ e.rest e.is) in
@@ -209,7 +217,7 @@ script::emit_script-commands-preserved t c =
     let was = c.commands.invariant.1.shorter in (
       search rules,
       record {
-        leads = rw left (script_leads c.args.context.dialect (chars c.args.text.now) now e.rest (map shape_of c.in-Command.words.items) _ c.commands.code _ _ e.is c.commands.invariant.1.leads c.in_ok-emit-in-Command.ensures.done (rw c.as_slice.ensures.value at c.in_ok-emit_command-in-Command.ensures));
+        leads = rw left (script_leads c.args.context.dialect c.args.context.outermost (chars c.args.text.now) now e.rest (map shape_of c.in-Command.words.items) _ c.commands.code _ _ e.is c.commands.invariant.1.leads c.in_ok-emit-in-Command.ensures.done (rw c.as_slice.ensures.value at c.in_ok-emit_command-in-Command.ensures));
         shorter = omega arith;
       },
     )
@@ -406,7 +414,7 @@ pages::emit_page-emit_loop-requires t c =
     (search rules, (c.requires.1.1.0, (short.0, (tt, short.1))))
 
 pub pages::emit_body-returns : goal.pages::emit_body-returns
-pages::emit_body-returns t c = on_ok_weaker c.emit-2.result (λ h. grown_body c.args.context.dialect _ _ _ _ (chars c.args.text.now) c.in_ok-emit.ensures.done (rw c.within.ensures at c.in_ok-emit_script.ensures) h) c.emit-2.ensures.done
+pages::emit_body-returns t c = on_ok_weaker c.emit-2.result (λ h. grown_body c.args.context.dialect _ _ _ _ (chars c.args.text.now) c.in_ok-emit.ensures.done (rw c.within.ensures at (made_code _ _ _ _ _ c.in_ok-emit_script.ensures)) h) c.emit-2.ensures.done
 
 -- what an index past the end would give
 abbrev no_clause : Clause
@@ -476,7 +484,7 @@ pages::emit_clauses-returns t c =
 pub pages::emit_looped-returns : goal.pages::emit_looped-returns
 pages::emit_looped-returns t c =
     on_ok_weaker c.lead_here.result
-    (λ h. grown_looped c.args.context.dialect _ _ _ _ _ c.args.passes (chars c.args.text.now) c.in_ok-emit.ensures.done (rw c.within.ensures at c.in_ok-emit_script.ensures) c.in_ok-emit-2.ensures.done (λ front back i e p. h front back i e (c.len-begin.ensures ∙ p))) c.lead_here.ensures
+    (λ h. grown_looped c.args.context.dialect _ _ _ _ _ c.args.passes (chars c.args.text.now) c.in_ok-emit.ensures.done (rw c.within.ensures at (made_code _ _ _ _ _ c.in_ok-emit_script.ensures)) c.in_ok-emit-2.ensures.done (λ front back i e p. h front back i e (c.len-begin.ensures ∙ p))) c.lead_here.ensures
 
 pub pages::emit_bodies-emit_looped-requires : goal.pages::emit_bodies-emit_looped-requires
 pages::emit_bodies-emit_looped-requires t c =
@@ -525,10 +533,10 @@ pages::emit_for-returns t c = on_ok_weaker c.emit_loop.result (λ h. grown_whole
 pub each::emit_each-emit_turns-requires : goal.each::emit_each-emit_turns-requires
 each::emit_each-emit_turns-requires t c =
     let whole = chars c.args.whole.now in
-    let body = chars c.args.each.now.body.now in
+    let body = text_of c.args.each.now.body in
     let is = c.requires.1.1.0 in
     let some = c.requires.1.1.1.0 in
-    let short = each_short (length whole - 1) (chars c.args.each.now.list.now) body (map shape_of c.args.words.now) is.0 c.requires.1.1.1.1.1.1 in
+    let short = each_short (length whole - 1) (text_of c.args.each.now.list) body (map shape_of c.args.words.now) is.0 c.requires.1.1.1.1.1.1 in
     let falls : reach (length body) + 902 < reach (length whole) + 404 = omega (arith, reach_more (length body) (length whole) (omega (arith, some, short))) in
     (search rules, is.1)
 
@@ -537,12 +545,36 @@ each::emit_each-returns t c =
     let at = map_at shape_of c.args.words.now 2 c.index-words-2.result c.index-words-2.is in
     on_ok_weaker c.lead_here-2.result
     (λ h. grown_each c.args.context.dialect c.args.each.now (map shape_of c.args.words.now) (shape_of c.index-words-2.result) _ _ _ _ _ _ _ _ c.requires.1.1.0 at c.in_ok-emit_word.ensures c.in_ok-emit.ensures.done c.in_ok-emit_turns.ensures c.in_ok-emit-2.ensures.done
-    (λ front back i e p. c.in_ok-lead_here.ensures front back i e (c.len-guard.ensures ∙ p)) c.in_ok-emit_calling.ensures (λ front back i e p. h front back i e (c.len-past.ensures ∙ p))) c.lead_here-2.ensures
+    (λ front back i e p. c.in_ok-lead_here.ensures front back i e (c.len-guard.ensures ∙ p)) (rw c.as_str-2.ensures at (rw c.as_str.ensures at c.in_ok-emit_calling.ensures)) (λ front back i e p. h front back i e (c.len-past.ensures ∙ p))) c.lead_here-2.ensures
 
 pub each::emit_turns-returns : goal.each::emit_turns-returns
 each::emit_turns-returns t c =
     let each = c.args.each.now in
     on_ok_weaker c.emit_nothing.result
-    (λ h. grown_each_turns c.args.context.dialect _ _ _ _ _ _ _ _ _ _ _ _ _ (chars each.list.now) (map text_of each.names.items) (chars each.body.now) c.requires c.in_ok-emit.ensures.done c.in_ok-emit-2.ensures.done c.in_ok-emit-3.ensures.done (rw c.as_slice.ensures.value at c.in_ok-emit_names.ensures)
-    c.in_ok-emit_looped.ensures c.in_ok-emit-4.ensures.done (λ front back i e p. c.in_ok-lead_here.ensures front back i e (c.len-to_more.ensures ∙ p)) c.in_ok-emit-5.ensures.done c.in_ok-emit_turn.ensures
+    (λ h. grown_each_turns c.args.context.dialect _ _ _ _ _ _ _ _ _ _ _ _ _ (text_of each.list) (map texts.text_of each.names.items) (text_of each.body) c.requires c.in_ok-emit.ensures.done c.in_ok-emit-2.ensures.done c.in_ok-emit-3.ensures.done (rw c.as_slice.ensures.value at c.in_ok-emit_names.ensures)
+    (rw c.as_str.ensures at c.in_ok-emit_looped.ensures) c.in_ok-emit-4.ensures.done (λ front back i e p. c.in_ok-lead_here.ensures front back i e (c.len-to_more.ensures ∙ p)) c.in_ok-emit-5.ensures.done c.in_ok-emit_turn.ensures
     (ap (λ n. n - c.len-begin.result) c.len.ensures ∙ ap (λ n. length c.emit-5.new.self - n) c.len-begin.ensures) c.in_ok-emit-6.ensures.done h) c.emit_nothing.ensures
+
+pub script::emit_command-returns-then-any_expands : goal.script::emit_command-returns-then-any_expands
+script::emit_command-returns-then-any_expands t c =
+    let ws = map shape_of c.args.words.now in
+    on_ok_weaker c.emit_gathered.result (λ g. made_without c.args.context.dialect c.args.context.outermost ws _ _ (λ o w. c.any_expands.ensures.expands c.if-any_expands.true (loop_plain ws w)) g) c.emit_gathered.ensures
+
+pub script::emit_command-returns-in-Some : goal.script::emit_command-returns-in-Some
+script::emit_command-returns-in-Some t c =
+    let ws = map shape_of c.args.words.now in
+    let is = of_some (λ x. IsChange x.0 (chars x.1.now) ws) c.change_of.result (c.in-Some.change, c.in-Some.name) c.in-Some.is c.change_of.ensures in
+    on_ok_weaker c.emit_changed.result (λ g. made_without c.args.context.dialect c.args.context.outermost ws _ _ (λ o. no_change c.in-Some.change (chars c.in-Some.name.now) ws is) g) c.emit_changed.ensures
+
+pub script::emit_command-returns-in-Some-2 : goal.script::emit_command-returns-in-Some-2
+script::emit_command-returns-in-Some-2 t c =
+    let ws = map shape_of c.args.words.now in
+    let is = of_some (λ f. IsEach f ws) c.in_ok-each.field-0 c.in-Some-2.each c.in-Some-2.is c.in_ok-each.ensures in
+    on_ok_weaker c.emit_each.result (λ g. made_without c.args.context.dialect c.args.context.outermost ws _ _ (λ o. no_each (text_of c.in-Some-2.each.list) (text_of c.in-Some-2.each.body) ws is.0) g) c.emit_each.ensures
+
+pub script::emit_named-returns-in-Some : goal.script::emit_named-returns-in-Some
+script::emit_named-returns-in-Some t c =
+    let all = of_some (λ ls. AllLiteral _ (map text_of ls.items)) c.in_ok-literals.field-0 c.in-Some.literals c.in-Some.is c.in_ok-literals.ensures.literal in
+    let two : IsWhile (map shape_of c.args.words.now) → length c.as_slice.result.now ≡ 2 = λ w. ap length c.as_slice.ensures.value ∙ sym (length-map c.in-Some.literals.items text_of) ∙ loop_long shape_of c.args.words.now (map text_of c.in-Some.literals.items) w all in
+    on_ok_weaker c.emit_plain.result
+    (λ g. made_without c.args.context.dialect c.args.context.outermost (map shape_of c.args.words.now) _ _ (λ o w. false≢true (subst (λ r. IsSome r) c.in-None-2.is (c.in_ok-form-in-Some.ensures.whiles o (c.requires.1.1.1.0 w) (two w)))) g) c.emit_plain.ensures

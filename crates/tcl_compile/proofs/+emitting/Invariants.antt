@@ -7,9 +7,11 @@ use Rattle.tcl_expr.specs.View.{step_of, view}
 use Rattle.tcl_words.specs.Parts.{shape_of, part_of, parts_of}
 use Rattle.tcl_meaning.specs.Nesting.{PartsNest, WordsNest}
 use Rattle.tcl_words.specs.First.{most_levels}
-use Rattle.tcl_compile.specs.Emitted.{ScriptCode, PiecesLeft, WordsLeft, GatheredLeft}
+use Rattle.tcl_compile.specs.Emitted.{PiecesLeft, WordsLeft, GatheredLeft}
 use Rattle.tcl_compile.specs.Fragments.{Leads, Plain, Begun}
+use Rattle.tcl_compile.specs.Literals.{text_of}
 use Rattle.tcl_compile.specs.Trees.{ArgsLeft, RestCode, ArgsAreRead, RestIsRead}
+use Rattle.tcl_compile.specs.Whiles.{ScriptMade}
 use Rattle.tcl_compile.specs.Within.{PartsWithin, WordsWithin}
 use Rattle.tcl_compile.proofs.Weights.{reach, weight, weight_args, weight_rest}
 use Rattle.tcl_compile.proofs.+emitting.Given as goal
@@ -64,13 +66,16 @@ abbrev pub decreases-each::emit_each : goal.decreases-each::emit_each
 decreases-each::emit_each l = reach (length (chars l.whole.now)) + 404
 
 abbrev pub decreases-each::emit_turns : goal.decreases-each::emit_turns
-decreases-each::emit_turns l = reach (length (chars l.each.now.body.now)) + 902
+decreases-each::emit_turns l = reach (length (text_of l.each.now.body)) + 902
 
 abbrev pub decreases-script::emit_inlined : goal.decreases-script::emit_inlined
 decreases-script::emit_inlined l = reach (length (chars l.whole.now)) + 501
 
 abbrev pub decreases-script::emit_command : goal.decreases-script::emit_command
-decreases-script::emit_command l = reach (length (chars l.whole.now)) + 502
+decreases-script::emit_command l = reach (length (chars l.whole.now)) + 503
+
+abbrev pub decreases-script::emit_named : goal.decreases-script::emit_named
+decreases-script::emit_named l = reach (length (chars l.whole.now)) + 502
 
 abbrev pub decreases-tree::emit_expression : goal.decreases-tree::emit_expression
 decreases-tree::emit_expression l = reach (length (chars l.text.now)) + (16 * length (chars l.text.now) + 500)
@@ -98,7 +103,7 @@ decreases-tree::emit_lazy l = reach (length (chars l.whole.now)) + (8 * weight (
 
 abbrev pub invariant-script::emit_script-commands : goal.invariant-script::emit_script-commands
 invariant-script::emit_script-commands l = shadow (Utf8 l.rest) × record {
-  leads : Leads (ScriptCode l.fn.context.dialect (chars l.rest)) (ScriptCode l.fn.context.dialect (chars l.fn.text)) l.fn.code l.code;
+  leads : Leads (ScriptMade l.fn.context.dialect l.fn.context.outermost (chars l.rest)) (ScriptMade l.fn.context.dialect l.fn.context.outermost (chars l.fn.text)) l.fn.code l.code;
   shorter : length (chars l.rest) ≤ length (chars l.fn.text);
 }
 
