@@ -1,15 +1,17 @@
 -- What the parts of a name are.
-use Rattle.std.proofs.Common.{◌≡◌, ℕ, ◌+◌, ◌-◌, ◌<◌, true, false, cond, ◌==◌, List, [], ◌∷◌, ◌++◌, length, take, drop, get_or, Some, None, Bor, refl, sym, ap, subst, ◌∙◌, arith, append_assoc}
+use Rattle.std.proofs.Common.{◌≡◌, ℕ, ◌+◌, ◌-◌, ◌<◌, true, false, cond, ◌==◌, ◌&&◌, List, [], ◌∷◌, ◌++◌, length, take, drop, get_or, Some, None, Bor, refl, sym, ap, subst, ◌∙◌, arith, append_assoc}
 use Rattle.std.proofs.lemmas.Bool.{cond-true, cond-false, eqb-true}
 use Rattle.std.proofs.lemmas.List.{take_at, drop_at, get_or_at, length-append}
-use Rattle.std.proofs.lemmas.Str.{chars-append, chars_past_char, chars_from_encodes, encodes-append, encodes-chars, encode_ascii, IsUtf8-take, IsUtf8-drop, IsCharBoundary-before_ascii, IsCharBoundary-from_take}
+use Rattle.std.proofs.lemmas.Str.{chars-append, chars_past_char, chars_from_encodes, encodes-append, encodes-chars, encode_ascii, byte_from_char, IsUtf8-take, IsUtf8-drop, IsCharBoundary-before_ascii, IsCharBoundary-from_take}
 use Rattle.std.specs.Str.{chars, IsUtf8, IsCharBoundary, NoCharPasses, NonePass, encode_utf8_all}
 use Rattle.std.specs.Char.{encode_utf8}
 use Rattle.std.proofs.lemmas.Str.Pattern.{strip_suffix_char, split_parts}
 use Rattle.std.specs.Str.Pattern.{FindsChar, FindsCharSuffix, StripsSuffix, SplitsAroundMatch}
-use Rattle.tcl_chars.specs.Characters.{open_paren, close_paren}
-use Rattle.tcl_chars.specs.Place.{begins, before}
-use Rattle.tcl_meaning.specs.Names.{from_paren, last_part, whole_name, element_name, by_paren, divided_name}
+use Rattle.tcl_chars.specs.Characters.{colon, open_paren, close_paren}
+use Rattle.tcl_chars.specs.Place.{begins, before, tail}
+use Rattle.tcl_meaning.specs.Frames.{whole}
+use Rattle.tcl_frames.specs.Parts.{plain_name}
+use Rattle.tcl_meaning.specs.Names.{after_colons, from_paren, last_part, whole_name, element_name, by_paren, divided_name}
 
 no_nil : (c : ℕ) (cs : List ℕ) → c ∷ cs ≡ [] → ⊥
 no_nil c cs e = omega (arith, ap length e)
@@ -138,3 +140,27 @@ parted_is bs inside base index u h k =
     let w = utf8_before inside.now base.now index.now open_paren v f (omega arith) in
     parted_name (chars bs) (chars inside.now) (chars base.now) (chars index.now) (chars_around bs inside.now [] close_paren u e (omega arith)) (chars_around inside.now base.now index.now open_paren v f (omega arith))
     (without_paren base.now w (subst (NoCharPasses (λ d. d == open_paren)) (sym k.3) k.2.0))
+
+-- ---- what a name is that no colon leads and no `)` ends
+
+no_colon : (bs : List ℕ) → IsUtf8 bs → (get_or bs 0 0 ≡ colon → ⊥) → begins colon (chars bs) ≡ false
+no_colon bs u h = by (chars bs) (encodes-chars bs u)
+  where
+    by : (cs : List ℕ) → encode_utf8_all cs ≡ bs → begins colon cs ≡ false
+    by [] e = refl
+    by (c ∷ cs) e = elim (c == colon) as (λ b. (c == colon) ≡ b → b ≡ false) [
+      | true ↦ λ t. let same : c ≡ colon = eqb-true c colon t in absurd (h (byte_from_char bs (encode_utf8_all cs) c (sym e) (omega (arith, same)) ∙ same))
+      | false ↦ λ t. refl
+    ] refl
+
+led_by_none : (cs : List ℕ) → begins colon cs ≡ false → whole_name cs ≡ plain_name cs
+led_by_none cs e = ap (λ b. record { global = b && begins colon (tail cs); base = cond (b && begins colon (tail cs)) (after_colons cs) cs; part = whole }) e
+
+pub plain_is : (bs : List ℕ) → IsUtf8 bs → (get_or bs 0 0 ≡ colon → ⊥) → (get_or bs (length bs - 1) 0 ≡ close_paren → ⊥) → divided_name (chars bs) ≡ plain_name (chars bs)
+unfolding encode_utf8
+plain_is bs u first last = sym (open_is bs u (λ front e. last (ended front e))) ∙ led_by_none (chars bs) (no_colon bs u first)
+  where
+    ended : (front : List ℕ) → bs ≡ front ++ close_paren ∷ [] → get_or bs (length bs - 1) 0 ≡ close_paren
+    ended front e =
+        let size : length bs - 1 ≡ length front = omega (arith, ap length e, length-append front (close_paren ∷ [])) in
+        ap (λ k. get_or bs k 0) size ∙ ap (λ t. get_or t (length front) 0) e ∙ get_or_at front close_paren [] 0 (length front) refl

@@ -22,7 +22,7 @@ use crate::variables::{array_in, edit_in, find_in, is_there_in, place_in, put_in
 use std::alloc::{AllocError, Global};
 use std::marker::Model;
 use tcl_meaning::Refusal;
-use tcl_names::{HashedNames, NameMap, PlacedNames};
+use tcl_names::{HashedNames, Hint, NameMap, PlacedNames};
 use tcl_values::Value;
 
 /// The variables of all frames, by the numbers of the frames.
@@ -83,12 +83,17 @@ impl AllVariables {
     }
 
     /// The text of a place.
-    pub(crate) fn find(&self, at: Place<'_>, missing: Refusal) -> Result<&Value, Refusal>
+    pub(crate) fn find(
+        &self,
+        at: Place<'_>,
+        hint: &Hint,
+        missing: Refusal,
+    ) -> Result<&Value, Refusal>
         requires { at.frame < length self.now }
         ensures found { IfOk result (λ value. get_part missing (variable_in self.now (spot_of at.entry)) (spot_of at.entry).part ≡ Ok value.now) }
         ensures refused { IfErr result (λ refusal. get_part missing (variable_in self.now (spot_of at.entry)) (spot_of at.entry).part ≡ Err refusal) }
     {
-        find_in(&self.frames[at.frame], at.name, at.part, missing)
+        find_in(&self.frames[at.frame], at.name, hint, at.part, missing)
     }
 
     /// The elements of an array.
@@ -121,13 +126,20 @@ impl AllVariables {
     }
 
     /// Gives a place a text.
-    pub(crate) fn put(&mut self, alloc: Global, at: Place<'_>, value: Value) -> Result<(), VarFault>
+    pub(crate) fn put(
+        &mut self,
+        alloc: Global,
+        at: Place<'_>,
+        hint: &Hint,
+        value: Value,
+    ) -> Result<(), VarFault>
         requires { at.frame < length self.old }
         ensures done { OnOk result (stored_at self.old (spot_of at.entry) (put_part (variable_in self.old (spot_of at.entry)) (spot_of at.entry).part value) ≡ Ok self.new) }
         ensures refused { IfErr result (Refuses (put_part (variable_in self.old (spot_of at.entry)) (spot_of at.entry).part value)) }
         ensures same { OnErr result (self.new ≡ self.old) }
     {
-        put_in(&mut self.frames[at.frame], alloc, at.name, at.part, value)
+        let frame = &mut self.frames[at.frame];
+        put_in(frame, alloc, at.name, hint, at.part, value)
     }
 
     /// Changes the elements of the array at a place.
@@ -157,13 +169,18 @@ impl AllVariables {
     }
 
     /// Lends the text of a place.
-    pub(crate) fn place(&mut self, at: Place<'_>, missing: Refusal) -> Result<&mut Value, Refusal>
+    pub(crate) fn place(
+        &mut self,
+        at: Place<'_>,
+        hint: &Hint,
+        missing: Refusal,
+    ) -> Result<&mut Value, Refusal>
         requires { at.frame < length self.old }
         ensures* writes_back { sem 𝓛 (LendsAt self.entry (spot_of at.entry) result) }
         ensures found { IfOk result (λ value. get_part missing (variable_in self.old (spot_of at.entry)) (spot_of at.entry).part ≡ Ok value.now) }
         ensures refused { IfErr result (λ refusal. get_part missing (variable_in self.old (spot_of at.entry)) (spot_of at.entry).part ≡ Err refusal) }
     {
         let frame = &mut self.frames[at.frame];
-        place_in(frame, at.name, at.part, missing)
+        place_in(frame, at.name, hint, at.part, missing)
     }
 }

@@ -23,7 +23,7 @@ use crate::variable::Variable;
 use std::alloc::{AllocError, Global};
 use std::marker::Model;
 use tcl_meaning::Refusal;
-use tcl_names::{HashedNames, NameMap};
+use tcl_names::{HashedNames, Hint, NameMap};
 use tcl_values::Value;
 
 /// The frames of a script, the global one first, and the active one, whose names the script means.
@@ -64,9 +64,17 @@ impl Frames {
         ensures found { (cs : Commands) → IfOk result (λ value. get (store_of cs self.now) (chars name.now) ≡ Ok value.now) }
         ensures refused { (cs : Commands) → IfErr result (λ refusal. get (store_of cs self.now) (chars name.now) ≡ Err refusal) }
     {
+        self.find_near(name, &Hint::new())
+    }
+
+    /// The same as `find`: quick where the variable stands where the hint says.
+    pub fn find_near(&self, name: &str, hint: &Hint) -> Result<&Value, Refusal>
+        ensures found { (cs : Commands) → IfOk result (λ value. get (store_of cs self.now) (chars name.now) ≡ Ok value.now) }
+        ensures refused { (cs : Commands) → IfErr result (λ refusal. get (store_of cs self.now) (chars name.now) ≡ Err refusal) }
+    {
         let name = divide(name);
         let at = place_divided(&self.stack, name);
-        self.variables.find(at, name.part.missing())
+        self.variables.find(at, hint, name.part.missing())
     }
 }
 
@@ -96,8 +104,23 @@ impl Frames {
         ensures refused { (cs : Commands) → IfErr result (Refuses (put_change (store_of cs self.old) (chars name.now) value)) }
         ensures same { OnErr result (self.new ≡ self.old) }
     {
+        self.put_near(alloc, name, &Hint::new(), value)
+    }
+
+    /// The same as `put`: quick where the variable stands where the hint says.
+    pub fn put_near(
+        &mut self,
+        alloc: Global,
+        name: &str,
+        hint: &Hint,
+        value: Value,
+    ) -> Result<(), VarFault>
+        ensures done { (cs : Commands) → OnOk result (applied (put_change (store_of cs self.old) (chars name.now) value) (store_of cs self.old) ≡ Ok (store_of cs self.new)) }
+        ensures refused { (cs : Commands) → IfErr result (Refuses (put_change (store_of cs self.old) (chars name.now) value)) }
+        ensures same { OnErr result (self.new ≡ self.old) }
+    {
         let at = place_of(&self.stack, name);
-        self.variables.put(alloc, at, value)
+        self.variables.put(alloc, at, hint, value)
     }
 
     /// Takes a variable or an element away: unset(n). A link stays.

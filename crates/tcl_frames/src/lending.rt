@@ -18,6 +18,7 @@ use crate::name::{Name, divide};
 use crate::place::{Link, Place};
 use std::alloc::{AllocError, Global};
 use tcl_meaning::Refusal;
+use tcl_names::Hint;
 use tcl_values::Value;
 
 impl Frames {
@@ -27,14 +28,28 @@ impl Frames {
         ensures found { (cs : Commands) → IfOk result (λ value. get (store_of cs self.old) (chars name.now) ≡ Ok value.now) }
         ensures refused { (cs : Commands) → IfErr result (Refuses (get (store_of cs self.old) (chars name.now))) }
     {
+        self.place_near(alloc, name, &Hint::new())
+    }
+
+    /// The same as `place`: quick where the variable stands where the hint says.
+    pub fn place_near(
+        &mut self,
+        alloc: Global,
+        name: &str,
+        hint: &Hint,
+    ) -> Result<&mut Value, VarFault>
+        ensures* writes_back { sem 𝓛 (LendsPlace self.entry (chars name.entry.now) result) }
+        ensures found { (cs : Commands) → IfOk result (λ value. get (store_of cs self.old) (chars name.now) ≡ Ok value.now) }
+        ensures refused { (cs : Commands) → IfErr result (Refuses (get (store_of cs self.old) (chars name.now))) }
+    {
         let divided = divide(name);
         let missing = divided.part.missing();
         match self.own_place(divided) {
-            Some(at) => match self.place_at(at, missing) {
+            Some(at) => match self.place_at(at, hint, missing) {
                 Ok(value) => Ok(value),
                 Err(refusal) => Err(VarFault::Refused(refusal)),
             },
-            None => self.place_linked(alloc, name, missing),
+            None => self.place_linked(alloc, name, hint, missing),
         }
     }
 
@@ -59,6 +74,7 @@ impl Frames {
         &mut self,
         alloc: Global,
         name: &str,
+        hint: &Hint,
         missing: Refusal,
     ) -> Result<&mut Value, VarFault>
         requires { missing ≡ missing_by (divided_name (chars name.now)).part }
@@ -69,7 +85,7 @@ impl Frames {
         let Ok(target) = self.target(alloc, name) else {
             return Err(VarFault::Memory);
         };
-        match self.place_at(target.as_place(), missing) {
+        match self.place_at(target.as_place(), hint, missing) {
             Ok(value) => Ok(value),
             Err(refusal) => Err(VarFault::Refused(refusal)),
         }
@@ -84,12 +100,17 @@ impl Frames {
     }
 
     // Lends the text of a place.
-    fn place_at(&mut self, at: Place<'_>, missing: Refusal) -> Result<&mut Value, Refusal>
+    fn place_at(
+        &mut self,
+        at: Place<'_>,
+        hint: &Hint,
+        missing: Refusal,
+    ) -> Result<&mut Value, Refusal>
         requires { at.frame < length self.old.frames }
         ensures* writes_back { sem 𝓛 (LendsSpot self.entry (spot_of at.entry) result) }
         ensures found { (cs : Commands) → IfOk result (λ value. get_part missing (variable_at (store_of cs self.old) (spot_of at.entry)) (spot_of at.entry).part ≡ Ok value.now) }
         ensures refused { (cs : Commands) → IfErr result (λ refusal. get_part missing (variable_at (store_of cs self.old) (spot_of at.entry)) (spot_of at.entry).part ≡ Err refusal) }
     {
-        self.variables.place(at, missing)
+        self.variables.place(at, hint, missing)
     }
 }

@@ -1,9 +1,9 @@
 //! The names of variables.
-ghost use Rattle.std.specs.Prelude.{◌≡◌, ◌||◌};
+ghost use Rattle.std.specs.Prelude.{◌≡◌, true, ◌||◌};
 ghost use Rattle.std.specs.Str.{chars};
 ghost use Rattle.tcl_meaning.specs.Names as spec;
 ghost use Rattle.tcl_meaning.specs.Variables.{missing};
-ghost use Rattle.tcl_frames.specs.Parts.{part_of, name_of};
+ghost use Rattle.tcl_frames.specs.Parts.{part_of, name_of, plain_name};
 
 use tcl_chars::{begins, split_first, tail};
 use tcl_meaning::Refusal;
@@ -101,8 +101,33 @@ fn element_name<'a>(base: &'a str, index: &'a str) -> Name<'a>
     }
 }
 
+// Does neither a colon lead the name nor `)` end it? Its bytes tell.
+#[inline]
+fn is_plain(name: &str) -> bool
+    ensures { result ≡ true → spec.divided_name (chars name.now) ≡ plain_name (chars name.now) }
+{
+    let bytes = name.as_bytes();
+    let size = bytes.len();
+    size > 0 && bytes[0] != b':' && bytes[size - 1] != b')'
+}
+
 /// The name of a variable, divided.
+#[inline]
 pub(crate) fn divide(name: &str) -> Name<'_>
+    ensures { name_of result ≡ spec.divided_name (chars name.now) }
+{
+    if is_plain(name) {
+        return Name {
+            global: false,
+            base: name,
+            part: Part::Whole,
+        };
+    }
+    divide_at_paren(name)
+}
+
+// The same of any name.
+fn divide_at_paren(name: &str) -> Name<'_>
     ensures { name_of result ≡ spec.divided_name (chars name.now) }
 {
     let Some(inside) = name.strip_suffix(')') else {

@@ -44,9 +44,13 @@ impl Model for Call {
 
 impl Call {
     // The link that a name is.
+    #[inline]
     fn link(&self, name: &str) -> Option<&Link>
         ensures { option_copied result ≡ map.get self.now.links (chars name.now) }
     {
+        if self.links.is_empty() {
+            return None;
+        }
         self.links.get(name)
     }
 

@@ -20,20 +20,21 @@ use crate::name::Part;
 use crate::variable::Variable;
 use std::alloc::Global;
 use tcl_meaning::Refusal;
-use tcl_names::{HashedNames, PlacedNames};
+use tcl_names::{HashedNames, Hint, PlacedNames};
 use tcl_values::Value;
 
 /// The text of a part of a variable.
 pub(crate) fn find_in<'a>(
     variables: &'a PlacedNames<Variable>,
     name: &str,
+    hint: &Hint,
     part: Part<'_>,
     missing: Refusal,
 ) -> Result<&'a Value, Refusal>
     ensures found { IfOk result (λ value. get_part missing (map.get variables.now (chars name.now)) (part_of part.entry) ≡ Ok value.now) }
     ensures refused { IfErr result (λ refusal. get_part missing (map.get variables.now (chars name.now)) (part_of part.entry) ≡ Err refusal) }
 {
-    match variables.get(name) {
+    match variables.get_near(name, hint) {
         Some(variable) => variable.part(part, missing),
         None => match part {
             Part::Deeper => Err(Refusal::IsntArray),
@@ -70,6 +71,7 @@ pub(crate) fn is_there_in(variables: &PlacedNames<Variable>, name: &str, part: P
 pub(crate) fn place_in<'a>(
     variables: &'a mut PlacedNames<Variable>,
     name: &str,
+    hint: &Hint,
     part: Part<'_>,
     missing: Refusal,
 ) -> Result<&'a mut Value, Refusal>
@@ -77,7 +79,7 @@ pub(crate) fn place_in<'a>(
     ensures found { IfOk result (λ value. get_part missing (map.get variables.old (chars name.now)) (part_of part.entry) ≡ Ok value.now) }
     ensures refused { IfErr result (λ refusal. get_part missing (map.get variables.old (chars name.now)) (part_of part.entry) ≡ Err refusal) }
 {
-    match variables.get_mut(name) {
+    match variables.get_mut_near(name, hint) {
         Some(variable) => variable.place(part, missing),
         None => match part {
             Part::Deeper => Err(Refusal::IsntArray),
@@ -107,6 +109,7 @@ pub(crate) fn put_in(
     variables: &mut PlacedNames<Variable>,
     alloc: Global,
     name: &str,
+    hint: &Hint,
     part: Part<'_>,
     value: Value,
 ) -> Result<(), VarFault>
@@ -114,7 +117,7 @@ pub(crate) fn put_in(
     ensures refused { IfErr result (Refuses (put_part (map.get variables.old (chars name.now)) (part_of part.entry) value)) }
     ensures same { OnErr result (variables.new ≡ variables.old) }
 {
-    if let Some(variable) = variables.get_mut(name) {
+    if let Some(variable) = variables.get_mut_near(name, hint) {
         return variable.write(alloc, part, value);
     }
     let variable = made(alloc, part, value)?;

@@ -1,5 +1,5 @@
 -- Names with numbered places, and maps of which some names have such places.
-use Rattle.std.specs.Prelude.{ℕ, List, [], ◌∷◌, ◌++◌, Option, None, Some, option_map, is_some, if◌then◌else◌, ◌+◌}
+use Rattle.std.specs.Prelude.{ℕ, List, [], ◌∷◌, ◌++◌, Option, None, Some, option_map, is_some, if◌then◌else◌, ◌+◌, ◌<◌, ◌≡◌, length, slice_index_or}
 use Rattle.std.specs.FinMap as map
 use Rattle.tcl_chars.specs.Texts.{same_text}
 use Rattle.tcl_names.specs.Named.{Named}
@@ -8,6 +8,10 @@ use Rattle.tcl_names.specs.Named.{Named}
 abbrev pub number_of : List (List ℕ) → List ℕ → Option ℕ
 number_of [] name = None
 number_of (n ∷ ns) name = if same_text name n then Some 0 else option_map (λ k. k + 1) (number_of ns name)
+
+-- each name has the place where it stands: no two are alike
+abbrev pub IsApart : List (List ℕ) → Type 0
+IsApart ns = (k : ℕ) → k < length ns → number_of ns (slice_index_or ns k []) ≡ Some k
 
 -- the names with one behind them, unless it is there
 abbrev pub with_name : Option ℕ → List (List ℕ) → List ℕ → List (List ℕ)

@@ -2,7 +2,7 @@
 ghost use Rattle.std.specs.Prelude.{◌≡◌, [], OnOk, OnErr, length, map as each};
 ghost use Rattle.std.specs.Str.{chars};
 ghost use Rattle.tcl_names.specs.Named.{text_of};
-ghost use Rattle.tcl_names.specs.Placed.{number_of, placed_name};
+ghost use Rattle.tcl_names.specs.Placed.{IsApart, number_of, placed_name};
 
 use std::alloc::{AllocError, Global};
 use std::marker::Model;
@@ -18,10 +18,13 @@ pub struct Layout {
 impl Model for Layout {
     ghost use Rattle.std.specs.Prelude.{ℕ, List, map as each};
     ghost use Rattle.tcl_names.specs.Named.{text_of};
+    ghost use Rattle.tcl_names.specs.Placed.{IsApart};
 
     ghost Value = { List (List ℕ) };
 
     ghost view = { λ l. each text_of l.names.items };
+
+    ghost invariant = { λ l. IsApart (each text_of l.names.items) };
 }
 
 impl Layout {
@@ -68,7 +71,8 @@ impl Layout {
 
     /// The names in the order of their places.
     pub(crate) fn names(&self) -> &[RcStr]
-        ensures { each text_of result.now ≡ self.now }
+        ensures names { each text_of result.now ≡ self.now }
+        ensures apart { IsApart self.now }
     {
         &self.names
     }

@@ -5,35 +5,75 @@ ghost use Rattle.std.specs.Str.{chars};
 ghost use Rattle.std.specs.Option.{option_copied, option_copied_mut};
 ghost use Rattle.std.specs.Borrow.{sem};
 ghost use Rattle.tcl_names.specs.Named.{text_of};
-ghost use Rattle.tcl_names.specs.Placed.{with_names, with_present};
+ghost use Rattle.tcl_names.specs.Placed.{IsApart, number_of, with_names, with_present};
+ghost use Rattle.tcl_names.specs.Places.{names_in};
 ghost use Rattle.tcl_names.specs.PlacedLent.{LendsAtPlaced, LendsValue};
 
 use crate::NameMap;
+use crate::hint::Hint;
 use crate::layout::Layout;
 use std::alloc::{AllocError, Global};
 use std::marker::Model;
 use std::rc::{Rc, RcStr};
+use tcl_chars::is_text;
 
-/// A map from names, of which those of a layout have numbered places.
+// How many names have places, but for those of a layout.
+const MOST_PLACES: usize = 64;
+
+// A name with a place, and what it has, if anything.
+#[derive(Drop)]
+struct Place<V> {
+    name: RcStr,
+    value: Option<V>,
+}
+
+/// A map from names, of which the first that it met have numbered places.
 #[derive(Drop)]
 pub struct PlacedNames<V> {
-    layout: Rc<Layout>,
-    places: Vec<Option<V>>,
+    places: Vec<Place<V>>,
     others: NameMap<V>,
 }
 
 impl<V> Model for PlacedNames<V> {
-    ghost use Rattle.std.specs.Prelude.{◌≡◌, length};
     ghost use Rattle.tcl_names.specs.Named.{Named, named_code};
-    ghost use Rattle.tcl_names.specs.Placed.{placed};
+    ghost use Rattle.tcl_names.specs.Placed.{IsApart, placed};
+    ghost use Rattle.tcl_names.specs.Places.{names_in, values_in};
 
     ghost Value = { Named V };
 
     ghost coded = { named_code V.code };
 
-    ghost view = { λ m. placed m.layout.value m.places.items m.others };
+    ghost view = { λ m. placed (names_in m.places.items) (values_in m.places.items) m.others };
 
-    ghost invariant = { λ m. length m.places.items ≡ length m.layout.value };
+    ghost invariant = { λ m. IsApart (names_in m.places.items) };
+}
+
+// The place of a name.
+fn number<V>(places: &[Place<V>], name: &str) -> Option<usize>
+    ensures { result ≡ number_of (names_in places.now) (chars name.now) }
+{
+    let mut number = 0;
+    for place in places {
+        if is_text(name, place.name.as_str()) {
+            return Some(number);
+        }
+        number += 1;
+    }
+    None
+}
+
+// The same. The place that is guessed is tried first.
+fn number_near<V>(places: &[Place<V>], name: &str, hint: &Hint) -> Option<usize>
+    requires { IsApart (names_in places.now) }
+    ensures { result ≡ number_of (names_in places.now) (chars name.now) }
+{
+    let guess = hint.get();
+    if guess < places.len() && is_text(name, places[guess].name.as_str()) {
+        return Some(guess);
+    }
+    let found = number(places, name)?;
+    hint.set(found);
+    Some(found)
 }
 
 // Lends what is in a place.
@@ -54,13 +94,14 @@ impl<V> PlacedNames<V> {
         V: Drop,
         ensures { IfOk result (λ m. m ≡ map.empty) }
     {
-        let count = layout.len();
-        let mut places = Vec::with_capacity(alloc, count)?;
-        for _n in 0..count {
-            places.push(None)?;
+        let mut places = Vec::with_capacity(alloc, layout.len())?;
+        for name in layout.names() {
+            places.push(Place {
+                name: name.clone()?,
+                value: None,
+            })?;
         }
         Ok(PlacedNames {
-            layout,
             places,
             others: NameMap::new(alloc),
         })
@@ -73,7 +114,6 @@ impl<V> PlacedNames<V> {
         ensures { IfOk result (λ m. m ≡ others) }
     {
         Ok(PlacedNames {
-            layout: Rc::new(alloc, Layout::new(alloc))?,
             places: Vec::new(alloc),
             others,
         })
@@ -82,8 +122,15 @@ impl<V> PlacedNames<V> {
     pub fn get(&self, name: &str) -> Option<&V>
         ensures { option_copied result ≡ map.get self.now (chars name.now) }
     {
-        match self.layout.number(name) {
-            Some(number) => self.places[number].as_ref(),
+        self.get_near(name, &Hint::new())
+    }
+
+    /// The same as `get`: quick where the name stands where the hint says.
+    pub fn get_near(&self, name: &str, hint: &Hint) -> Option<&V>
+        ensures { option_copied result ≡ map.get self.now (chars name.now) }
+    {
+        match number_near(&self.places, name, hint) {
+            Some(number) => self.places[number].value.as_ref(),
             None => self.others.get(name),
         }
     }
@@ -92,8 +139,16 @@ impl<V> PlacedNames<V> {
         ensures* writes_back { sem 𝓛 (LendsAtPlaced V.row self.entry (chars name.entry.now) result) }
         ensures value { option_copied_mut result ≡ map.get self.old (chars name.now) }
     {
-        match self.layout.number(name) {
-            Some(number) => value_mut(&mut self.places[number]),
+        self.get_mut_near(name, &Hint::new())
+    }
+
+    /// The same as `get_mut`: quick where the name stands where the hint says.
+    pub fn get_mut_near(&mut self, name: &str, hint: &Hint) -> Option<&mut V>
+        ensures* writes_back { sem 𝓛 (LendsAtPlaced V.row self.entry (chars name.entry.now) result) }
+        ensures value { option_copied_mut result ≡ map.get self.old (chars name.now) }
+    {
+        match number_near(&self.places, name, hint) {
+            Some(number) => value_mut(&mut self.places[number].value),
             None => self.others.get_mut(name),
         }
     }
@@ -105,13 +160,19 @@ impl<V> PlacedNames<V> {
         ensures put { OnOk result (self.new ≡ map.insert self.old (chars name.now) value) }
         ensures same { OnErr result (self.new ≡ self.old) }
     {
-        match self.layout.number(name) {
-            Some(number) => {
-                self.places[number] = Some(value);
-                Ok(())
-            }
-            None => self.others.insert(alloc, name, value),
+        if let Some(number) = number(&self.places, name) {
+            self.places[number].value = Some(value);
+            return Ok(());
         }
+        if self.places.len() >= MOST_PLACES || self.others.get(name).is_some() {
+            return self.others.insert(alloc, name, value);
+        }
+        let name = RcStr::from_str(alloc, name)?;
+        self.places.push(Place {
+            name,
+            value: Some(value),
+        })?;
+        Ok(())
     }
 
     /// Takes out what has a name.
@@ -119,8 +180,8 @@ impl<V> PlacedNames<V> {
         ensures removed { self.new ≡ map.remove self.old (chars name.now) }
         ensures value { result ≡ map.get self.old (chars name.now) }
     {
-        match self.layout.number(name) {
-            Some(number) => self.places[number].take(),
+        match number(&self.places, name) {
+            Some(number) => self.places[number].value.take(),
             None => self.others.remove(name),
         }
     }
@@ -129,7 +190,7 @@ impl<V> PlacedNames<V> {
     pub fn add_names(&self, alloc: Global, names: &mut NameMap<()>) -> Result<(), AllocError>
         ensures { OnOk result (names.new ≡ with_names names.old (each (λ e. (e.0, tt)) (map.entries self.now))) }
     {
-        add_placed(self, alloc, self.layout.names(), names)?;
+        add_placed(self, alloc, &self.places, names)?;
         add_others(self, alloc, &self.others, names)
     }
 }
@@ -153,13 +214,13 @@ fn add_present<V>(
 fn add_placed<V>(
     whole: &PlacedNames<V>,
     alloc: Global,
-    known: &[RcStr],
+    places: &[Place<V>],
     names: &mut NameMap<()>,
 ) -> Result<(), AllocError>
-    ensures { OnOk result (names.new ≡ with_present whole.now (each text_of known.now) names.old) }
+    ensures { OnOk result (names.new ≡ with_present whole.now (names_in places.now) names.old) }
 {
-    for name in known {
-        add_present(whole, alloc, name, names)?;
+    for place in places {
+        add_present(whole, alloc, &place.name, names)?;
     }
     Ok(())
 }

@@ -14,5 +14,5 @@ returns-in-Some c =
     let m = c.args.variables.now in
     let name = chars c.args.name.now in
     let v = c.in-Some.variable.now in
-    let got : map.get m name ≡ Some v = sym c.get_mut.ensures.value ∙ ap option_copied_mut c.in-Some.is in
+    let got : map.get m name ≡ Some v = sym c.get_mut_near.ensures.value ∙ ap option_copied_mut c.in-Some.is in
     (λ i. read_of (name_if_ok (λ x. x.ghost_name) c.place.result) (λ w. lent_text m name v (part_of c.args.part) w got i) (insert_same m name v got i), (rw got c.place.ensures.found, rw got c.place.ensures.refused))

@@ -9,9 +9,9 @@ use Rattle.tcl_frames.proofs.all_variables.AllVariables.put.Goals as goal
 pub returns-clause-done : goal.returns-clause-done
 returns-clause-done c =
     let name = chars c.args.at.name.now in
-    done_at c.put_in.result c.self.inside.frames.items c.args.self.now c.args.at.frame c.index_mut.result.now c.put_in.new.variables
+    done_at c.put_in.result c.self.inside.frames.items c.args.self.now c.args.at.frame c.index_mut-frame.result.now c.put_in.new.variables
     (λ m. stored_in m name (put_part (map.get m name) (part_of c.args.at.part) c.args.value)) c.self.view_is
-    (variables_here c.self.inside.frames.items c.args.self.now c.args.at.frame c.index_mut.result.now c.self.view_is c.index_mut.ensures.value c.requires) c.put_in.ensures.done
+    (variables_here c.self.inside.frames.items c.args.self.now c.args.at.frame c.index_mut-frame.result.now c.self.view_is c.index_mut-frame.ensures.value c.requires) c.put_in.ensures.done
 
 pub returns-clause-refused : goal.returns-clause-refused
-returns-clause-refused c = rw (variables_here c.self.inside.frames.items c.args.self.now c.args.at.frame c.index_mut.result.now c.self.view_is c.index_mut.ensures.value c.requires) c.put_in.ensures.refused
+returns-clause-refused c = rw (variables_here c.self.inside.frames.items c.args.self.now c.args.at.frame c.index_mut-frame.result.now c.self.view_is c.index_mut-frame.ensures.value c.requires) c.put_in.ensures.refused

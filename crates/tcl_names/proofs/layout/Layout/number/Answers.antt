@@ -15,7 +15,7 @@ returns-then-is_text c =
     let q = chars c.args.name.now in
     let here : same_text q (text_of (get_or ks c.loop-known.known-index c.known-item.result)) ≡ true =
     ap (λ k. same_text q (text_of k)) (sym c.known-item.is) ∙ ap (λ bs. same_text q (chars bs)) (sym c.as_str.ensures.value) ∙ sym c.is_text.ensures ∙ c.if-is_text.true in
-    ap Some c.loop-known.invariant.0 ∙ sym (found_at ks q _ _ c.loop-known-test.true here) ∙ c.loop-known.invariant.1
+    ap Some c.loop-known.invariant.0 ∙ sym (found_at text_of ks q _ _ c.loop-known-test.true here) ∙ c.loop-known.invariant.1
     ∙ ap (λ l. number_of (each text_of l) q) c.deref-known-items.ensures.value ∙ ap (λ l. number_of l q) c.self.view_is
 
 pub loop-known-preserved : goal.loop-known-preserved
@@ -24,10 +24,10 @@ loop-known-preserved c =
     let q = chars c.args.name.now in
     let other : same_text q (text_of (get_or ks c.loop-known.known-index c.known-item.result)) ≡ false =
     ap (λ k. same_text q (text_of k)) (sym c.known-item.is) ∙ ap (λ bs. same_text q (chars bs)) (sym c.as_str.ensures.value) ∙ sym c.is_text.ensures ∙ c.if-is_text.false in
-    (omega arith, sym (not_at ks q _ _ c.loop-known-test.true other) ∙ c.loop-known.invariant.1)
+    (omega arith, sym (not_at text_of ks q _ _ c.loop-known-test.true other) ∙ c.loop-known.invariant.1)
 
 pub returns : goal.returns
 returns c =
     let ks = c.deref-known-items.result.now in
     let q = chars c.args.name.now in
-    sym (nowhere ks q _ c.loop-known-test.false) ∙ c.loop-known.invariant.1 ∙ ap (λ l. number_of (each text_of l) q) c.deref-known-items.ensures.value ∙ ap (λ l. number_of l q) c.self.view_is
+    sym (nowhere text_of ks q _ c.loop-known-test.false) ∙ c.loop-known.invariant.1 ∙ ap (λ l. number_of (each text_of l) q) c.deref-known-items.ensures.value ∙ ap (λ l. number_of l q) c.self.view_is

@@ -7,4 +7,4 @@ use Rattle.tcl_names.proofs.layout.Layout.number.Given as goal
 
 abbrev pub invariant-loop-known : goal.invariant-loop-known
 invariant-loop-known l =
-    (l.number ≡ l.known-index) × (past l.known-index (drop l.known-index l.known-items) (chars l.name) ≡ number_of (each text_of l.known-items) (chars l.name))
+    (l.number ≡ l.known-index) × (past text_of l.known-index (drop l.known-index l.known-items) (chars l.name) ≡ number_of (each text_of l.known-items) (chars l.name))

@@ -8,7 +8,7 @@ use Rattle.tcl_meaning.specs.Variables.{missing, spot_of as place_named}
 use Rattle.tcl_frames.specs.Places.{spot_of}
 use Rattle.tcl_frames.specs.Standing.{store_of}
 use Rattle.tcl_frames.proofs.Joined.{get_place, put_place}
-use Rattle.tcl_frames.proofs.frames.Frames.place.Goals as goal
+use Rattle.tcl_frames.proofs.frames.Frames.place_near.Goals as goal
 
 pub returns-in-Ok : goal.returns-in-Ok
 returns-in-Ok c =

@@ -5,7 +5,7 @@ use Rattle.tcl_meaning.specs.Names.{Name}
 use Rattle.tcl_meaning.specs.Variables.{missing}
 use Rattle.tcl_frames.specs.Places.{spot_of}
 use Rattle.tcl_frames.proofs.Joined.{get_joined}
-use Rattle.tcl_frames.proofs.frames.Frames.find.Goals as goal
+use Rattle.tcl_frames.proofs.frames.Frames.find_near.Goals as goal
 
 pub returns-clause-found : goal.returns-clause-found
 returns-clause-found c cs =

@@ -4,7 +4,7 @@ use Rattle.tcl_frames.specs.Places.{spot_of}
 use Rattle.tcl_frames.specs.Standing.{store_of}
 use Rattle.tcl_frames.specs.Written.{variable_in, stored_at}
 use Rattle.tcl_frames.proofs.Joined.{put_joined, stored_applied, done_joined, refused_stored}
-use Rattle.tcl_frames.proofs.frames.Frames.put.Goals as goal
+use Rattle.tcl_frames.proofs.frames.Frames.put_near.Goals as goal
 
 pub returns-clause-done : goal.returns-clause-done
 returns-clause-done c cs =

@@ -1,6 +1,6 @@
 use Rattle.std.proofs.Common.{◌∙◌}
 use Rattle.tcl_frames.proofs.NamesLemmas.{open_is, closed_is, parted_is}
-use Rattle.tcl_frames.proofs.name.divide.Goals as goal
+use Rattle.tcl_frames.proofs.name.divide_at_paren.Goals as goal
 
 pub returns-in_default : goal.returns-in_default
 returns-in_default c = c.whole_name.ensures ∙ open_is c.args.name.now c.utf8.name c.in_default.ensures.cases
