@@ -1,3 +1,4 @@
 pub mod Members
 pub mod Eager
 pub mod Numeric
+pub mod OfNumbers

@@ -3,9 +3,11 @@
 
 mod comparisons;
 mod functions;
+mod known;
 mod numbers;
 mod operators;
 
 pub use functions::apply;
+pub use known::{of_numbers, unary_of_number};
 pub use numbers::truth_value;
 pub use operators::{binary, final_value, power, truth, unary};

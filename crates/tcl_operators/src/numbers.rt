@@ -77,6 +77,9 @@ pub fn truth_value(alloc: Global, value: &mut Value, dialect: Dialect) -> Result
     ensures truth { Answers (λ b. b) result (truth_value dialect value.old) }
     ensures same { value.new ≡ value.old }
 {
+    if let Some(number) = value.known_number(dialect) {
+        return Ok(number != 0);
+    }
     if let Whole::Number(number) = value.whole(alloc, dialect)? {
         return Ok(number != 0);
     }

@@ -1,5 +1,6 @@
 //! Operators of expressions: expr(n), Operators.
-ghost use Rattle.std.specs.Prelude.{◌≡◌};
+ghost use Rattle.std.specs.Prelude.{◌≡◌, Ok, IfSome};
+ghost use Rattle.std.specs.Fmt.{signed_decimal};
 ghost use Rattle.tcl_chars.specs.Answers.{Answers};
 ghost use Rattle.tcl_expr.specs.Texts.{unary_text};
 ghost use Rattle.tcl_operators.specs.Eager.{IsEager, IsAnswered};
@@ -7,6 +8,7 @@ ghost use Rattle.tcl_meaning.specs.Operators.{operator, unary_answer, power_answ
 ghost use Rattle.std.specs.Str.{chars};
 
 use crate::comparisons::test;
+use crate::known::{of_numbers, unary_of_number};
 use crate::numbers::{in_decimal, operand, too_large, truth_operand, truth_value};
 use std::alloc::Global;
 use tcl_chars::{Dialect, Fault, Op, UnOp, Whole};
@@ -28,6 +30,14 @@ fn arithmetic_unary(
     in_decimal(alloc, tcl_chars::unary(op, number))
 }
 
+// The number that an operator answers for an operand that is known to be a number.
+fn unary_number(dialect: Dialect, op: UnaryOp, value: &Value) -> Option<i64>
+    ensures { IfSome result (λ z. unary_answer dialect op value.now ≡ Ok (signed_decimal z)) }
+{
+    let number = value.known_number(dialect)?;
+    unary_of_number(op, number)
+}
+
 /// The value of an operator in front of its operand, which stays as it was.
 ///
 /// # Errors
@@ -42,6 +52,9 @@ pub fn unary(
     ensures answer { Answers (λ v. v) result (unary_answer dialect op value.old) }
     ensures same { value.new ≡ value.old }
 {
+    if let Some(number) = unary_number(dialect, op, value) {
+        return Ok(Value::of_int(number));
+    }
     match op {
         UnaryOp::Minus => arithmetic_unary(alloc, dialect, UnOp::Minus, op.text(), value),
         UnaryOp::Plus => arithmetic_unary(alloc, dialect, UnOp::Plus, op.text(), value),
@@ -111,11 +124,23 @@ pub fn final_value(alloc: Global, dialect: Dialect, value: &mut Value) -> Result
     ensures answer { Answers (λ v. v) result (final_answer dialect value.old) }
     ensures same { value.new ≡ value.old }
 {
+    if let Some(number) = value.known_number(dialect) {
+        return Ok(Value::of_int(number));
+    }
     match value.whole(alloc, dialect)? {
         Whole::Number(number) => Ok(Value::of_int(number)),
         Whole::TooLarge => Err(Fault::Error(too_large(alloc)?)),
         Whole::Not => Ok(value.copy()?),
     }
+}
+
+// The number that an operator answers for two operands that are known to be numbers.
+fn binary_number(dialect: Dialect, op: BinaryOp, left: &Value, right: &Value) -> Option<i64>
+    ensures { IfSome result (λ z. IsAnswered (Ok (signed_decimal z)) (operator dialect op) left.now right.now) }
+{
+    let first = left.known_number(dialect)?;
+    let second = right.known_number(dialect)?;
+    of_numbers(dialect, op, first, second)
 }
 
 /// The value of an operator between two operands that takes both of them. They stay as they were.
@@ -136,6 +161,9 @@ pub fn binary(
     ensures left { left.new ≡ left.old }
     ensures right { right.new ≡ right.old }
 {
+    if let Some(number) = binary_number(dialect, op, left, right) {
+        return Ok(Value::of_int(number));
+    }
     let number = match op {
         BinaryOp::Times => Op::Mul,
         BinaryOp::Divide => Op::Div,

@@ -1,5 +1,5 @@
 -- What is kept of a value, and the text that it stands for.
-use Rattle.std.specs.Prelude.{ℕ, ◌≤◌, ◌≡◌, Bool, true, false, List, [], length, map, Option, None, Some, ⊤, Ok, FitsSigned, option_map}
+use Rattle.std.specs.Prelude.{ℕ, ℤ, IfSome, ◌≤◌, ◌≡◌, Bool, true, false, List, [], length, map, Option, None, Some, ⊤, Ok, FitsSigned, option_map}
 use Rattle.std.specs.Int.{w64}
 use Rattle.std.specs.Fmt.{signed_decimal}
 use Rattle.std.specs.Option.{IsSome}
@@ -10,6 +10,10 @@ use Rattle.std.specs.String.{string_bytes}
 use Rattle.std.specs.declared.rc.RcStr.{RcStr}
 use Rattle.std.specs.declared.string.String.{String}
 use Rattle.std.specs.declared.alloc.Global.{Global}
+use Rattle.tcl_chars.specs.Whole.{whole_of}
+use Rattle.tcl_chars.specs.declared.numbers.Dialect.{Dialect}
+use Rattle.tcl_chars.specs.declared.numbers.Dialect.TheVariants.{Tcl86, Tcl9}
+use Rattle.tcl_chars.specs.declared.numbers.Whole.TheVariants.{Number}
 use Rattle.tcl_list.specs.Elements.{elements_of}
 use Rattle.tcl_list.specs.Written.{written}
 use Rattle.tcl_list.specs.Texts.{text_of}
@@ -26,6 +30,7 @@ use Rattle.tcl_values.specs.declared.element.Entry.{Entry}
 use Rattle.tcl_values.specs.declared.element.Entry.TheVariants as entry
 use Rattle.tcl_values.specs.declared.element.Element.TheInside as element
 use Rattle.tcl_values.specs.declared.literal.Literal.{Literal}
+use Rattle.tcl_values.specs.declared.literal.Numbers.{Numbers}
 use Rattle.tcl_values.specs.declared.value.Growing.{Growing}
 use Rattle.tcl_values.specs.declared.value.Held.{Held}
 use Rattle.tcl_values.specs.declared.value.Held.TheVariants as held
@@ -104,8 +109,18 @@ pub record AreSamePairs (p q : Pairs) : Type 0 where
 abbrev pub IsGrown : Growing → Type 0
 IsGrown g = OnTrue g.ascii (IsAscii (string_bytes g.text))
 
-abbrev pub IsLiteral : Literal → Type 0
-IsLiteral l = OnTrue l.ascii (IsAscii (rc_str_bytes l.text))
+abbrev pub number_in : Dialect → Numbers → ℤ
+number_in Tcl86 ns = ns.tcl86
+number_in Tcl9 ns = ns.tcl9
+
+-- numbers that a text is read as, each in its dialect
+abbrev pub AreNumbers : Numbers → List ℕ → Type 0
+AreNumbers ns t = (dialect : Dialect) → whole_of dialect t ≡ Number (number_in dialect ns)
+
+-- what is known of a text of a script beside it
+pub record IsLiteral (l : Literal) : Type 0 where
+  pub ascii : OnTrue l.ascii (IsAscii (rc_str_bytes l.text))
+  pub numbers : IfSome l.numbers (λ ns. AreNumbers ns (text_of l.text))
 
 -- a list without a text of its own, and how it is written
 pub record IsWritten (r : Items) (t : String Global) : Type 0 where

@@ -4,10 +4,11 @@ ghost use Rattle.std.specs.Prelude.{◌≡◌, true, Some, IfOk, IfSome};
 ghost use Rattle.std.specs.Str.{chars, IsAscii};
 ghost use Rattle.tcl_chars.specs.Answers.{Answers};
 ghost use Rattle.tcl_chars.specs.Texts.{text_of};
+ghost use Rattle.tcl_chars.specs.Whole.{whole_of};
 ghost use Rattle.tcl_list.specs.Elements.{elements_of};
 ghost use Rattle.tcl_pages.specs.Dictionaries.{pairs_of};
 ghost use Rattle.tcl_values.specs.Kept.{texts};
-ghost use Rattle.tcl_values.specs.Shape.{elements, items_text, pairs_in, pairs_text, shared_text, AreKept, ArePaired, AreRead, ArePairsRead, IsLiteral};
+ghost use Rattle.tcl_values.specs.Shape.{elements, items_text, pairs_in, pairs_text, shared_text, number_in, AreKept, AreNumbers, ArePaired, AreRead, ArePairsRead, IsLiteral};
 
 use crate::dictionary::Dictionary;
 use crate::element::{Items, Pairs};
@@ -17,7 +18,7 @@ use crate::row::Row;
 use std::alloc::Global;
 use std::cell::OnceCell;
 use std::rc::{Rc, RcStr};
-use tcl_chars::Fault;
+use tcl_chars::{Dialect, Fault, Whole, read_whole};
 
 /// A text of a script. What it is read as is kept beside it, once it has been read, for all who hold the text.
 #[derive(Drop)]
@@ -25,8 +26,45 @@ pub(crate) struct Literal {
     pub(crate) text: RcStr,
     /// Is it known to be ASCII?
     ascii: bool,
+    /// The numbers that it is read as, where it begins as a number does and is one in each dialect.
+    numbers: Option<Numbers>,
     list: OnceCell<Row>,
     dictionary: OnceCell<Dictionary>,
+}
+
+/// The number that a text is read as in each dialect.
+#[derive(Clone, Copy, Drop)]
+pub(crate) struct Numbers {
+    tcl86: i64,
+    tcl9: i64,
+}
+
+impl Numbers {
+    /// What a text is read as, where its first character is a digit or a sign: so most texts aren't read.
+    fn read(text: &str) -> Option<Numbers>
+        ensures { IfSome result (λ numbers. AreNumbers numbers (chars text.now)) }
+    {
+        let Some(b'0'..=b'9' | b'+' | b'-') = text.as_bytes().first() else {
+            return None;
+        };
+        let Whole::Number(tcl86) = read_whole(text, Dialect::Tcl86) else {
+            return None;
+        };
+        let Whole::Number(tcl9) = read_whole(text, Dialect::Tcl9) else {
+            return None;
+        };
+        Some(Numbers { tcl86, tcl9 })
+    }
+
+    /// That of a dialect.
+    fn of(self, dialect: Dialect) -> i64
+        ensures { result ≡ number_in dialect self }
+    {
+        match dialect {
+            Dialect::Tcl86 => self.tcl86,
+            Dialect::Tcl9 => self.tcl9,
+        }
+    }
 }
 
 /// Is a text there, and this one?
@@ -46,9 +84,11 @@ impl Literal {
         ensures known { IsLiteral result }
     {
         let ascii = text.as_str().is_ascii();
+        let numbers = Numbers::read(text.as_str());
         Literal {
             text,
             ascii,
+            numbers,
             list: OnceCell::new(),
             dictionary: OnceCell::new(),
         }
@@ -64,6 +104,17 @@ impl Literal {
             Some(self.text.as_str())
         } else {
             None
+        }
+    }
+
+    /// The number that the text is read as, where it was read when the literal was made.
+    pub(crate) fn number(&self, dialect: Dialect) -> Option<i64>
+        requires { IsLiteral self.now }
+        ensures { IfSome result (λ n. whole_of dialect (text_of self.now.text) ≡ Whole.Number n) }
+    {
+        match self.numbers {
+            Some(numbers) => Some(numbers.of(dialect)),
+            None => None,
         }
     }
 

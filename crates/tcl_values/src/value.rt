@@ -35,7 +35,7 @@ pub(crate) enum Held {
     Ascii(RcStr),
     /// A text that grows at its end.
     Grown(Rc<Growing>),
-    /// A text of a script, which is read as a list or as a dictionary once for all copies.
+    /// A text of a script, which is read as a number, as a list or as a dictionary once for all copies.
     Literal(Rc<Literal>),
     /// A list.
     Row(Rc<Items>),
@@ -120,6 +120,15 @@ fn canonical(text: &str, whole: Whole) -> Option<i64>
     }
 }
 
+/// What a text says as a whole number, and the number if the text is its decimal text.
+fn read_number(text: &str, dialect: Dialect) -> (Whole, Option<i64>)
+    ensures whole { result.0 ≡ whole_of dialect (chars text.now) }
+    ensures decimal { IfSome result.1 (λ n. chars text.now ≡ signed_decimal n) }
+{
+    let whole = read_whole(text, dialect);
+    (whole, canonical(text, whole))
+}
+
 /// The one text and the other behind it.
 pub(crate) fn joined(alloc: Global, text: &str, more: &str) -> Result<String, AllocError>
     ensures { IfOk result (λ s. chars (string_bytes s) ≡ chars text.now ++ chars more.now) }
@@ -186,7 +195,7 @@ impl Value {
         Value { held }
     }
 
-    /// The value that is a text of a script, whose reading as a list or as a dictionary all copies share.
+    /// The value that is a text of a script, whose reading as a number, as a list or as a dictionary all copies share.
     pub fn of_literal(alloc: Global, text: RcStr) -> Result<Value, AllocError>
         ensures { IfOk result (λ v. v ≡ text_of text) }
     {
@@ -244,15 +253,40 @@ impl Value {
         ensures whole { IfOk result (λ w. w ≡ whole_of dialect self.old) }
         ensures same { self.new ≡ self.old }
     {
-        if let Held::Number(n) = &self.held {
-            return Ok(Whole::Number(*n));
+        if let Some(n) = self.known_number(dialect) {
+            return Ok(Whole::Number(n));
         }
-        let text = self.held.text(alloc)?;
-        let whole = read_whole(text.as_str(), dialect);
-        if let Some(n) = canonical(text.as_str(), whole) {
+        let (whole, decimal) = match self.shown() {
+            Some(text) => read_number(text, dialect),
+            None => read_number(self.held.text(alloc)?.as_str(), dialect),
+        };
+        if let Some(n) = decimal {
             self.held = Held::Number(n);
         }
         Ok(whole)
+    }
+
+    /// The number that it is kept as, if it is kept as one: then its text is the number's decimal text.
+    #[inline(always)]
+    pub fn number(&self) -> Option<i64>
+        ensures { IfSome result (λ n. self.now ≡ signed_decimal n) }
+    {
+        match &self.held {
+            Held::Number(number) => Some(*number),
+            _ => None,
+        }
+    }
+
+    /// The number that its text is read as, where that is known without reading it.
+    #[inline(always)]
+    pub fn known_number(&self, dialect: Dialect) -> Option<i64>
+        ensures { IfSome result (λ n. whole_of dialect self.now ≡ Whole.Number n) }
+    {
+        match &self.held {
+            Held::Number(n) => Some(*n),
+            Held::Literal(literal) => literal.number(dialect),
+            _ => None,
+        }
     }
 
     /// A value of the same text. What is kept is shared.
