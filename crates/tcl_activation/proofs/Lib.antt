@@ -6,9 +6,13 @@ mod Joining
 mod Lending
 mod Lifting
 mod Operators
+mod Pacing
+pub mod Pages
 mod Passing
+mod QuickLemmas
 mod Resuming
 mod Spelling
+mod Standing
 mod Stepping
 mod Straight
 mod Taking

@@ -12,3 +12,4 @@ pub mod Results
 pub mod Turnings
 pub mod Needs
 pub mod Standing
+pub mod Quick

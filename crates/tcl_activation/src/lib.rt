@@ -4,11 +4,15 @@
 mod activation;
 mod calls;
 mod expressions;
+mod guards;
 mod inlined;
 mod loops;
 mod open_loop;
+mod pace;
 mod pile;
 mod progress;
+mod quick;
+mod quick_step;
 mod results;
 mod stack;
 mod steps;
@@ -17,8 +21,10 @@ mod variables;
 mod ways;
 
 pub use activation::Activation;
+pub use guards::stands;
 pub use loops::Loops;
 pub use open_loop::OpenLoop;
+pub use pace::Pace;
 pub use pile::Pile;
 pub use progress::Progress;
 pub use results::{Last, Results};

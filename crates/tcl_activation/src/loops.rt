@@ -33,6 +33,7 @@ impl Model for Loops {
 }
 
 // Has one more than `count` there.
+#[inline(always)]
 fn provide(items: &mut Vec<OpenLoop>, alloc: Global, count: usize) -> Result<(), AllocError>
     requires { count ≤ length items.old.items }
     ensures more { OnOk result (count < length items.new.items) }
@@ -40,7 +41,7 @@ fn provide(items: &mut Vec<OpenLoop>, alloc: Global, count: usize) -> Result<(),
     ensures same { take count items.new.items ≡ take count items.old.items }
 {
     if count == items.len() {
-        items.push(OpenLoop::unused(alloc))?;
+        items.push(OpenLoop::unused(alloc)?)?;
     }
     Ok(())
 }
@@ -85,6 +86,7 @@ impl Loops {
     }
 
     /// One more is open, and saves these. In their place comes what its body begins with.
+    #[inline(always)]
     pub fn open(
         &mut self,
         alloc: Global,
@@ -109,6 +111,7 @@ impl Loops {
     }
 
     /// The newest is closed. It puts back what it has saved, and answers its place and its depth.
+    #[inline(always)]
     pub fn close(
         &mut self,
         texts: &mut Pile<Value>,

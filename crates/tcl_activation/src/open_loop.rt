@@ -6,9 +6,8 @@ ghost use Rattle.tcl_meaning.specs.Completions.{nothing};
 use crate::pile::Pile;
 use crate::results::Results;
 use crate::stack::Words;
-use std::alloc::Global;
+use std::alloc::{AllocError, Global};
 use std::marker::Model;
-use std::mem;
 use tcl_values::Value;
 
 /// A loop whose body runs: where the code goes on after `break`, one further where the body ends; whether `continue`
@@ -37,18 +36,19 @@ impl Model for OpenLoop {
 
 impl OpenLoop {
     /// One that has saved nothing yet.
-    pub(crate) fn unused(alloc: Global) -> OpenLoop {
-        OpenLoop {
+    pub(crate) fn unused(alloc: Global) -> Result<OpenLoop, AllocError> {
+        Ok(OpenLoop {
             at: 0,
             passes: false,
             texts: Pile::new(alloc),
             lists: Pile::new(alloc),
-            results: Results::new(alloc),
+            results: Results::with_room(alloc, 0)?,
             depth: 0,
-        }
+        })
     }
 
     /// Saves these. In their place comes what a body begins with.
+    #[inline(always)]
     pub(crate) fn save(
         &mut self,
         at: usize,
@@ -67,12 +67,9 @@ impl OpenLoop {
         self.at = at;
         self.passes = passes;
         self.depth = depth;
-        self.texts.clear();
-        self.lists.clear();
-        self.results.restart();
-        mem::swap(&mut self.texts, texts);
-        mem::swap(&mut self.lists, lists);
-        mem::swap(&mut self.results, results);
+        texts.move_to(&mut self.texts);
+        lists.move_to(&mut self.lists);
+        results.move_to(&mut self.results);
     }
 
     /// Does `continue` pass it?
@@ -83,6 +80,7 @@ impl OpenLoop {
     }
 
     /// Puts back what it has saved, and answers its place and its depth. What stood there instead is let go, all but its room.
+    #[inline(always)]
     pub(crate) fn restore(
         &mut self,
         texts: &mut Pile<Value>,
@@ -92,12 +90,9 @@ impl OpenLoop {
         ensures saved { self.old ≡ loop_of result.0 self.old.passes texts.new lists.new results.new result.1 }
         ensures place { result.0 + 1 < 2 ^ 64 }
     {
-        mem::swap(&mut self.texts, texts);
-        mem::swap(&mut self.lists, lists);
-        mem::swap(&mut self.results, results);
-        self.texts.clear();
-        self.lists.clear();
-        self.results.restart();
+        self.texts.move_to(texts);
+        self.lists.move_to(lists);
+        self.results.move_to(results);
         (self.at, self.depth)
     }
 }

@@ -1,11 +1,12 @@
 //! Values that are put on top of one another.
-ghost use Rattle.std.specs.Prelude.{◌≡◌, ◌≤◌, ◌∷◌, ◌++◌, Some, [], length, take, drop, reverse, option_map, OnOk, OnErr, IfOk};
+ghost use Rattle.std.specs.Prelude.{◌≡◌, ◌≤◌, ◌<◌, ◌∷◌, ◌++◌, Some, [], length, take, drop, reverse, option_map, vec_len, vec_capacity, OnOk, OnErr, IfOk};
 ghost use Rattle.std.specs.Borrow.{sem};
 ghost use Rattle.tcl_activation.specs.Piles.{Lifts};
-ghost use Rattle.tcl_activation.specs.PileLent.{LendsTop};
+ghost use Rattle.tcl_activation.specs.PileLent.{LendsNewest, LendsTop};
 
 use std::alloc::{AllocError, Global};
 use std::marker::Model;
+use std::mem;
 
 /// Values that are put on top of one another. Contracts see a list, the newest first.
 #[derive(Drop)]
@@ -22,6 +23,16 @@ impl<T> Model for Pile<T> {
     ghost coded = { coded_list T.code };
 
     ghost view = { λ p. reverse p.items.items };
+}
+
+// Makes room for one more. It stands apart, so that what puts an item where room is stays small.
+#[cold]
+#[inline(never)]
+pub(crate) fn grow<T>(items: &mut Vec<T>) -> Result<(), AllocError>
+    ensures same { items.new.items ≡ items.old.items }
+    ensures room { OnOk result (vec_len items.new < vec_capacity items.new) }
+{
+    items.reserve(1)
 }
 
 impl<T: Drop> Pile<T> {
@@ -48,7 +59,10 @@ impl<T: Drop> Pile<T> {
     pub fn push(&mut self, item: T) -> Result<(), AllocError>
         ensures { OnOk result (self.new ≡ item ∷ self.old) }
     {
-        self.items.push(item)?;
+        if self.items.len() >= self.items.capacity() {
+            grow(&mut self.items)?;
+        }
+        self.items.push_reserved(item);
         Ok(())
     }
 
@@ -73,11 +87,74 @@ impl<T: Drop> Pile<T> {
         &self.items[self.items.len() - 1]
     }
 
-    /// All is let go.
-    pub fn clear(&mut self)
-        ensures { self.new ≡ [] }
+    /// What lies under the top.
+    #[inline(always)]
+    pub fn second(&self) -> &T
+        requires { 2 ≤ length self.now }
+        ensures { drop 1 self.now ≡ result.now ∷ drop 2 self.now }
     {
-        self.items.clear();
+        &self.items[self.items.len() - 2]
+    }
+
+    /// Another item in place of what lies on top.
+    #[inline(always)]
+    pub fn replace_newest(&mut self, item: T)
+        requires { 1 ≤ length self.old }
+        ensures { self.new ≡ item ∷ drop 1 self.old }
+    {
+        let last = self.items.len() - 1;
+        self.items[last] = item;
+    }
+
+    /// What lies on top is dropped.
+    #[inline(always)]
+    pub fn drop_newest(&mut self)
+        requires { 1 ≤ length self.old }
+        ensures { self.new ≡ drop 1 self.old }
+    {
+        drop(self.items.pop());
+    }
+
+    /// Another item in place of the two on top.
+    #[inline(always)]
+    pub fn replace_two(&mut self, item: T)
+        requires { 2 ≤ length self.old }
+        ensures { self.new ≡ item ∷ drop 2 self.old }
+    {
+        self.drop_newest();
+        self.replace_newest(item);
+    }
+
+    /// Lends what lies on top.
+    #[inline(always)]
+    pub fn newest_mut(&mut self) -> &mut T
+        requires { 1 ≤ length self.old }
+        ensures* writes_back { sem 𝓛 (LendsNewest T.row self.entry result) }
+        ensures value { self.old ≡ result.now ∷ drop 1 self.old }
+    {
+        let newest = self.items.len() - 1;
+        &mut self.items[newest]
+    }
+
+    /// All that lies here comes to another pile, in place of what lies there.
+    #[inline(always)]
+    pub fn move_to(&mut self, other: &mut Pile<T>)
+        ensures moved { other.new ≡ self.old }
+        ensures left { self.new ≡ [] }
+    {
+        if self.items.is_empty() && other.items.is_empty() {
+            return;
+        }
+        self.move_all_to(other);
+    }
+
+    #[inline(never)]
+    fn move_all_to(&mut self, other: &mut Pile<T>)
+        ensures moved { other.new ≡ self.old }
+        ensures left { self.new ≡ [] }
+    {
+        other.items.clear();
+        mem::swap(&mut self.items, &mut other.items);
     }
 
     /// More on top, the last of them uppermost.

@@ -1,7 +1,8 @@
 //! How the last commands of open scripts have ended.
 ghost use Rattle.std.specs.Prelude.{◌≡◌, ◌≤◌, [], ◌∷◌, drop, length, IfOk, OnOk};
-ghost use Rattle.tcl_meaning.specs.Completions.{nothing};
+ghost use Rattle.tcl_meaning.specs.Completions.{nothing, normal};
 
+use crate::pile::grow;
 use std::alloc::{AllocError, Global};
 use std::marker::Model;
 use std::mem;
@@ -12,7 +13,18 @@ use tcl_values::Value;
 /// nothing.
 #[derive(Drop)]
 pub struct Last {
-    ended: Option<Completion>,
+    kept: Kept,
+}
+
+/// What is kept of it.
+#[derive(Drop)]
+pub(crate) enum Kept {
+    /// No command has ended yet.
+    Nothing,
+    /// It was ok, with this value and no options.
+    Value(Value),
+    /// It has ended so.
+    Completion(Completion),
 }
 
 impl Model for Last {
@@ -22,33 +34,67 @@ impl Model for Last {
 
     ghost use Rattle.tcl_activation.specs.Results.{last_of};
 
-    ghost view = { λ last. last_of last.ended };
+    ghost view = { λ last. last_of last.kept };
 }
 
 impl Last {
     /// No command has ended yet.
+    #[inline(always)]
     pub fn nothing() -> Last
         ensures { result ≡ nothing }
     {
-        Last { ended: None }
+        Last {
+            kept: Kept::Nothing,
+        }
+    }
+
+    /// It was ok, with this value.
+    #[inline(always)]
+    pub fn of_value(value: Value) -> Last
+        ensures { result ≡ normal value }
+    {
+        Last {
+            kept: Kept::Value(value),
+        }
     }
 
     /// It has ended so.
+    #[inline(always)]
     pub fn ended(completion: Completion) -> Last
         ensures { result ≡ completion }
     {
         Last {
-            ended: Some(completion),
+            kept: Kept::Completion(completion),
         }
+    }
+
+    // Lets it go: no command has ended yet.
+    #[inline(always)]
+    fn forget(&mut self)
+        ensures { self.new ≡ nothing }
+    {
+        match self.kept {
+            Kept::Nothing => {}
+            _ => self.let_go(),
+        }
+    }
+
+    // The same, where there is something.
+    #[inline(never)]
+    fn let_go(&mut self)
+        ensures { self.new ≡ nothing }
+    {
+        self.kept = Kept::Nothing;
     }
 
     /// The completion.
     pub fn into_completion(self, alloc: Global) -> Result<Completion, AllocError>
         ensures { IfOk result (λ c. c ≡ self) }
     {
-        match self.ended {
-            None => Completion::nothing(alloc),
-            Some(completion) => Ok(completion),
+        match self.kept {
+            Kept::Nothing => Completion::nothing(alloc),
+            Kept::Value(value) => Ok(Completion::normal(alloc, value)),
+            Kept::Completion(completion) => Ok(completion),
         }
     }
 
@@ -56,28 +102,30 @@ impl Last {
     pub fn into_result(self, alloc: Global) -> Result<Value, AllocError>
         ensures { IfOk result (λ v. v ≡ self.result) }
     {
-        Ok(self.into_completion(alloc)?.into_result())
+        match self.kept {
+            Kept::Nothing => Ok(Completion::nothing(alloc)?.into_result()),
+            Kept::Value(value) => Ok(value),
+            Kept::Completion(completion) => Ok(completion.into_result()),
+        }
     }
 }
 
-/// How the last commands of the scripts that are open have ended. Contracts see a list, the newest first. One alone takes no
-/// memory of its own.
+/// How the last commands of the scripts that are open have ended. Contracts see a list, the newest first. There is always room for
+/// one.
 #[derive(Drop)]
 pub struct Results {
-    newest: Option<Last>,
-    // The others stand here, and the newest too where none stands there.
-    others: Vec<Last>,
+    items: Vec<Last>,
 }
 
 impl Model for Results {
-    ghost use Rattle.std.specs.Prelude.{List};
+    ghost use Rattle.std.specs.Prelude.{List, ◌<◌, reverse, vec_capacity};
     ghost use Rattle.tcl_meaning.specs.Completions.{Completion};
 
     ghost Value = { List Completion };
 
-    ghost use Rattle.tcl_activation.specs.Results.{results_of};
+    ghost view = { λ results. reverse results.items.items };
 
-    ghost view = { λ results. results_of results.newest results.others.items };
+    ghost invariant = { λ results. 0 < vec_capacity results.items };
 }
 
 impl Results {
@@ -85,77 +133,82 @@ impl Results {
     pub fn with_room(alloc: Global, brackets: u32) -> Result<Results, AllocError>
         ensures { IfOk result (λ results. results ≡ nothing ∷ []) }
     {
-        Ok(Results {
-            newest: Some(Last::nothing()),
-            others: Vec::with_capacity(alloc, brackets as usize)?,
-        })
+        let mut items = Vec::with_capacity(alloc, 1 + brackets as usize)?;
+        items.push_reserved(Last::nothing());
+        Ok(Results { items })
     }
 
-    /// The results of one script, which has run no command yet.
-    pub fn new(alloc: Global) -> Results
-        ensures { result ≡ nothing ∷ [] }
-    {
-        Results {
-            newest: Some(Last::nothing()),
-            others: Vec::new(alloc),
-        }
-    }
-
-    /// All are let go but that of one script, which has run no command yet.
-    pub fn restart(&mut self)
+    // All are let go but that of one script, which has run no command yet.
+    #[inline(always)]
+    fn restart(&mut self)
         ensures { self.new ≡ nothing ∷ [] }
     {
-        self.newest = Some(Last::nothing());
-        self.others.clear();
+        if self.items.len() == 1 {
+            self.items[0].forget();
+            return;
+        }
+        self.begin_anew();
+    }
+
+    // The same, however many there are. It stands apart, since nearly always there is one.
+    #[inline(never)]
+    fn begin_anew(&mut self)
+        ensures { self.new ≡ nothing ∷ [] }
+    {
+        self.items.clear();
+        self.items.push_reserved(Last::nothing());
+    }
+
+    /// All come in place of those that stand in another. What is left is that of one script, which has run no command yet.
+    #[inline(always)]
+    pub fn move_to(&mut self, other: &mut Results)
+        ensures moved { other.new ≡ self.old }
+        ensures left { self.new ≡ nothing ∷ [] }
+    {
+        mem::swap(&mut self.items, &mut other.items);
+        self.restart();
     }
 
     /// Adds the result of one more script.
+    #[inline(always)]
     pub fn push(&mut self, last: Last) -> Result<(), AllocError>
         ensures { OnOk result (self.new ≡ last ∷ self.old) }
     {
-        match &mut self.newest {
-            None => self.newest = Some(last),
-            Some(newest) => {
-                let before = mem::replace(newest, last);
-                self.others.push(before)?;
-            }
+        if self.items.len() >= self.items.capacity() {
+            grow(&mut self.items)?;
         }
+        self.items.push_reserved(last);
         Ok(())
     }
 
     /// Another one in place of the newest.
+    #[inline]
     pub fn replace(&mut self, last: Last)
         requires { 1 ≤ length self.old }
         ensures { self.new ≡ last ∷ drop 1 self.old }
     {
-        if self.newest.is_none() {
-            drop(self.others.pop());
-        }
-        self.newest = Some(last);
+        let newest = self.items.len() - 1;
+        self.items[newest] = last;
     }
 
     /// The newest is let go.
+    #[inline]
     pub fn drop_newest(&mut self)
         requires { 1 ≤ length self.old }
         ensures { self.new ≡ drop 1 self.old }
     {
-        if self.newest.is_none() {
-            drop(self.others.pop());
-        }
-        self.newest = None;
+        drop(self.items.pop());
     }
 
     /// The newest is taken away.
+    #[inline]
     pub fn pop(&mut self) -> Last
         requires { 1 ≤ length self.old }
         ensures { self.old ≡ result ∷ self.new }
     {
-        match mem::replace(&mut self.newest, None) {
+        match self.items.pop() {
             Some(last) => last,
-            None => match self.others.pop() {
-                Some(last) => last,
-                None => unreachable!(),
-            },
+            None => unreachable!(),
         }
     }
 }

@@ -8,6 +8,7 @@ ghost use Rattle.tcl_code.specs.Valid.{Covers, Valid};
 use crate::instr::Instr;
 use crate::shape::Shape;
 use std::marker::Model;
+use tcl_names::Hint;
 use tcl_values::Value;
 
 /// A valid code: its instructions and the table of their texts.
@@ -15,6 +16,8 @@ use tcl_values::Value;
 pub struct Code {
     pub(crate) instrs: Vec<Instr>,
     pub(crate) texts: Vec<Value>,
+    // where each text, as a name, was found last
+    pub(crate) hints: Vec<Hint>,
     pub(crate) top: Shape,
 }
 
@@ -30,6 +33,7 @@ impl Model for Code {
 }
 
 /// The instruction at a place, if there is one.
+#[inline(always)]
 fn item(instrs: &[Instr], place: usize) -> Option<Instr>
     ensures { result ≡ slice_get instrs.now place }
 {
@@ -62,6 +66,7 @@ impl Code {
     }
 
     /// The instruction at a place, if there is one.
+    #[inline(always)]
     pub fn instr(&self, place: usize) -> Option<Instr>
         ensures instr { result ≡ slice_get self.now.instrs place }
         ensures shown { slice_get (shown_by self.now) place ≡ option_map (shown self.now.texts) result }
@@ -71,7 +76,14 @@ impl Code {
         item(self.instrs.as_slice(), place)
     }
 
+    /// Where the variable was found last whose name is the text of a number.
+    #[inline(always)]
+    pub fn hint(&self, number: u32) -> Option<&Hint> {
+        self.hints.get(number as usize)
+    }
+
     /// The text of a number.
+    #[inline(always)]
     pub fn text(&self, number: u32) -> &Value
         requires { number < length self.now.texts }
         ensures { slice_get self.now.texts number ≡ Some result.now }

@@ -2,6 +2,7 @@
 use Rattle.std.proofs.Common.{◌≡◌, ℕ, suc, ◌≤◌, List, [], ◌∷◌, length, refl, sym, ap, ◌∙◌, subst, inl, arith, Option, Some, None, Result, Ok, Err, IfOk}
 use Rattle.std.specs.FinMap as map
 use Rattle.std.specs.declared.alloc.AllocError.{AllocError}
+use Rattle.tcl_activation.proofs.Pages.{from_first}
 use Rattle.tcl_chars.specs.declared.numbers.Dialect.{Dialect}
 use Rattle.tcl_channels.specs.Works.{Works}
 use Rattle.tcl_steps.specs.Asked.{at_once, IsAsked, IsAskedOrExits}
@@ -102,13 +103,6 @@ asked_answers (Take want g) a s e = absurd cc
 asked_answers (HasEnded g) a s e = absurd cc
 asked_answers (Exit n) a s e = absurd cc
 asked_answers (Call scope task g) a s e = absurd task
-
--- its first step is this one
-pub from_first : (got : Got (Value tasks.Step)) (x : tasks.Step) (t : State) → on_got got (λ v u. does (Give (value_step v)) u) ≡ Gives x t → (v : Value tasks.Step) × (got ≡ Gives v t) × (value_step v ≡ x)
-from_first (Gives v u) x t e = (v, cc, cc)
-from_first (Broke r) x t e = absurd cc
-from_first (Exits n r) x t e = absurd cc
-from_first (Untold c) x t e = absurd cc
 
 pub first_answers : (page : Asks) (a : Asked) (s t : State) → does (page >>= λ v. Give (value_step v)) s ≡ Gives (views.step_of a) t → t.units ≡ s.units → Answered page s (Ok a) t
 first_answers page a s t e free =

@@ -1,7 +1,7 @@
 pub mod Answering
 pub mod Calling
 pub mod Landing
+mod Hurrying
 pub mod Leading
 pub mod Owing
 pub mod Scoping
-pub mod Standing

@@ -1,5 +1,6 @@
 pub mod Answered
 pub mod Hosts
+pub mod Hurried
 pub mod Kinds
 pub mod Leaving
 pub mod Undoing

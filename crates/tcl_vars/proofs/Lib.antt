@@ -2,6 +2,7 @@ pub mod AssignLemmas
 pub mod ElementLemmas
 pub mod JoinLemmas
 pub mod PutLemmas
+mod QuickLemmas
 pub mod ReplaceLemmas
 pub mod SetLemmas
 pub mod UnsetLemmas

@@ -169,7 +169,7 @@ missed d p name ws f g refusal (Ok c) h b = looked d p name ws f g (Give (Has (D
 missed d p name ws f g refusal (Err (stop.Error c)) h b = looked d p name ws f g (Give (Fails c)) (Err refusal) h b
 missed d p name ws f g refusal (Err stop.Memory) h b = tt
 
-found : (d : Dialect) (p : UpdatePage) (name : Text) (ws : List Text) (f g : Standing) (q : Asks) (t : Text) → ((cs : Commands) → get (store_of cs f) name ≡ Ok t)
+pub found : (d : Dialect) (p : UpdatePage) (name : Text) (ws : List Text) (f g : Standing) (q : Asks) (t : Text) → ((cs : Commands) → get (store_of cs f) name ≡ Ok t)
     → Becomes (from_old d p name ws t) f q g → Becomes (on_variable d p name ws) f q g
 found d p name ws f g q t h b =
     looked d p name ws f g q (Ok t) h (subst (λ (o : Plain (Value Text)). Becomes (o >>= from_old d p name ws) f q g) (sym (old_given (old_of p ws) name t)) b)

@@ -1,3 +1,4 @@
 pub mod Unsetting
 pub mod Updating
 pub mod Way
+pub mod Quick

@@ -11,6 +11,7 @@ mod elements;
 mod first;
 mod number;
 mod path;
+mod quick;
 mod replacing;
 mod setting;
 mod text;
@@ -20,6 +21,7 @@ mod words;
 
 pub use assigning::lassign;
 pub use catching::after_catch;
+pub use quick::{quick_incr, quick_set};
 pub use setting::set;
 pub use unsetting::unset;
 pub use updating::update;
