@@ -200,6 +200,16 @@ impl Results {
         drop(self.items.pop());
     }
 
+    /// The newest is let go: its script's next command begins.
+    #[inline(always)]
+    pub fn forget_newest(&mut self)
+        requires { 1 ≤ length self.old }
+        ensures { self.new ≡ nothing ∷ drop 1 self.old }
+    {
+        let newest = self.items.len() - 1;
+        self.items[newest].forget();
+    }
+
     /// The newest is taken away.
     #[inline]
     pub fn pop(&mut self) -> Last

@@ -9,7 +9,7 @@ use Rattle.tcl_words.specs.declared.fault.Syntax.{Syntax}
 use Rattle.tcl_pages.specs.Texts.{Text}
 use Rattle.tcl_meaning.specs.declared.code.Code.{Code}
 use Rattle.tcl_meaning.specs.declared.code.Code.TheVariants as ending
-use Rattle.tcl_meaning.specs.Completions.{Completion, code_now}
+use Rattle.tcl_meaning.specs.Completions.{Completion, nothing, code_now}
 use Rattle.tcl_meaning.specs.State.{State, with_units}
 use Rattle.tcl_meaning.specs.Effects.{Prog, Got, Gives, Broke, Exits, Untold, on_got, exec, paid, ◌>>=◌ as andthen}
 use Rattle.tcl_meaning.specs.Script.{Run, most_depth, run_command, rest_by, sequence, with_words, page_in}
@@ -222,11 +222,11 @@ module _ (dialect : Dialect) where
           → Lands dialect code stack.loops (spot at (with_result v stack) d) s (result_at (at + length (Spend ∷ (c ++ more))) stack d) (Run dialect (Script d v t) s)
       go code at v stack d s le has zero z =
           final_done dialect code Spend has.0
-          (λ next. ap (λ n. follow dialect next stack.loops (spend n (spot (at + 1) (with_result v stack) d) s)) z ∙ ap (λ x. landed next stack.loops (result_at (at + length (Spend ∷ (c ++ more))) stack d) x) (sym (script_broke dialect d v t s ws rest le e z)))
+          (λ next. ap (λ n. follow dialect next stack.loops (spend n (spot (at + 1) (with_result nothing stack) d) s)) z ∙ ap (λ x. landed next stack.loops (result_at (at + length (Spend ∷ (c ++ more))) stack d) x) (sym (script_broke dialect d v t s ws rest le e z)))
       go code at v stack d s le has (suc n) z =
           let back = has_back code (at + 1) c more has.1 in
           let whole = script_plan dialect d v t s (command ws rest) le e ∙ ap (paid (Run dialect) (sequence dialect d ws rest) s) z in
-          one_done dialect code Spend has.0 (ap (λ m. spend m (spot (at + 1) (with_result v stack) d) s) z)
+          one_done dialect code Spend has.0 (ap (λ m. spend m (spot (at + 1) (with_result nothing stack) d) s) z)
           (same_done dialect code (sym (whole ∙ exec_bind (Run dialect) (run_command dialect d ws) (λ c. rest_by d rest (code_now c) c) (with_units n s)))
-          (after_command code d rest (exec (Run dialect) (run_command dialect d ws) (with_units n s)) (f.from code (at + 1) v stack d (with_units n s) (has_front code (at + 1) c more has.1))
+          (after_command code d rest (exec (Run dialect) (run_command dialect d ws) (with_units n s)) (f.from code (at + 1) nothing stack d (with_units n s) (has_front code (at + 1) c more has.1))
           (λ r u fine. moved_done dialect code (omega (arith, length-append c more)) (g.from code (at + 1 + length c) r stack d u fine le back))))

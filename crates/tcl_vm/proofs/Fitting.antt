@@ -205,8 +205,9 @@ module _ (dialect : Dialect) (code : List Instruction) (shape : Shape) (at d p :
   move_fits (ReadElement name) (i ∷ ts) ls rs e f h = read_fits (ReadElement name) (spelled_element name i) (get s.store (spelled_element name i)) _ (λ t. texts_fit (ReadElement name) e 1 1 (inl (refl, refl)) (i ∷ ts) (t ∷ ts) ls rs h (let q = h.texts in omega arith))
   move_fits (Join n) ts ls rs e f h = taken_some n [] ts (λ x. GoesOn (Join n) (on_taken x (λ us below. To (spot (at + 1) (stack_of (concat us ∷ below) ls rs os) d) s))) (let q = h.texts in omega arith)
       (λ us below g. texts_fit (Join n) e n 1 (inl (refl, refl)) ts (concat us ∷ below) ls rs h (let q = h.texts in omega arith))
-  move_fits Spend ts ls rs e f h = spend_fits Spend s.units _ refl
-      (λ v g. (p + 1, way_fits Spend e (Ahead 0) (record shape { paid = shape.paid + 1 }) (inl (refl, refl)) (at + 1) ts ls rs os d outer (p + 1) (omega arith) (record { texts = h.texts; lists = h.lists; results = h.results; brackets = h.brackets }) deep loops (omega arith), inr (inl (refl, refl, ahead_left Spend e (at + 1) (omega arith), g))))
+  move_fits Spend ts ls [] e f h = absurd (let q = h.results in omega arith)
+  move_fits Spend ts ls (r ∷ rs) e f h = spend_fits Spend s.units _ refl
+      (λ v g. (p + 1, way_fits Spend e (Ahead 0) (record shape { paid = shape.paid + 1 }) (inl (refl, refl)) (at + 1) ts ls (nothing ∷ rs) os d outer (p + 1) (omega arith) (record { texts = h.texts; lists = h.lists; results = let q = h.results in omega arith; brackets = h.brackets }) deep loops (omega arith), inr (inl (refl, refl, ahead_left Spend e (at + 1) (omega arith), g))))
   move_fits Enter ts ls rs e f h = deep_fits Enter _
       (λ dp. next_fits Enter e (record shape { depth = shape.depth + 1 }) (inl (refl, refl)) ts ls (nothing ∷ rs) (suc d) (record { texts = h.texts; lists = h.lists; results = let q = h.results in omega arith; brackets = let q = h.brackets in omega arith }) dp loops paid_for)
   move_fits Leave ts ls [] e f h = absurd (let q = h.results in omega arith)

@@ -126,7 +126,8 @@ module _ (dialect : Dialect) (s : State) (os : List Loop) where
   keeps (Some (ReadElement name)) at [] ls rs d = tt
   keeps (Some (ReadElement name)) at (i ∷ ts) ls rs d = keeps_read (spelled_element name i) (get s.store (spelled_element name i)) _
   keeps (Some (Join n)) at ts ls rs d = keeps_taken (taken n [] ts) _ (λ us below. refl)
-  keeps (Some Spend) at ts ls rs d = keeps_spend s.units _
+  keeps (Some Spend) at ts ls [] d = tt
+  keeps (Some Spend) at ts ls (r ∷ rs) d = keeps_spend s.units _
   keeps (Some Enter) at ts ls rs d = keeps_cond (nat_lt most_depth (suc d)) _ _ refl refl
   keeps (Some Leave) at ts ls [] d = tt
   keeps (Some Leave) at ts ls (r ∷ rs) zero = tt

@@ -159,7 +159,8 @@ module _ (b : ℕ) where
     so os (Some (ReadElement name)) at [] ls rs d = refl
     so os (Some (ReadElement name)) at (i ∷ ts) ls rs d = so_read (spelled_element name i) (get s.store (spelled_element name i)) _
     so os (Some (Join n)) at ts ls rs d = so_taken (taken n [] ts) _ _ (λ us below. refl)
-    so os (Some Spend) at ts ls rs d = so_spend s.units (s.units + b) _ refl
+    so os (Some Spend) at ts ls [] d = refl
+    so os (Some Spend) at ts ls (r ∷ rs) d = so_spend s.units (s.units + b) _ refl
     so os (Some Enter) at ts ls rs d = both_cond MovesSo (nat_lt most_depth (suc d)) _ _ _ _ refl refl
     so os (Some Leave) at ts ls [] d = refl
     so os (Some Leave) at ts ls (r ∷ rs) zero = refl
