@@ -5,7 +5,7 @@ import re
 import shutil
 import subprocess
 
-from program import TOP, Result, Wrong, check, expect, write
+from program import TOP, USAGE, Result, Wrong, check, expect, write
 
 RT = """#!/bin/sh
 case "$1" in
@@ -31,7 +31,7 @@ class Checkout:
         self.room, self.top = room, f"{room}/top"
         for folder in ("top/crates/low/src", "top/crates/tclint/src", "top/docs", "top/tests", "bin"):
             os.makedirs(f"{room}/{folder}")
-        for file in ("tclint", "docs/GATE.md", "tests/sources"):
+        for file in ("tclint", "docs/GATE.md", "docs/tclint.1", "tests/sources"):
             subprocess.run(["cp", f"{TOP}/{file}", f"{self.top}/{file}"], check=True)
         write(self.top, "# NAME: the crates that it stands on\nlow:\ntclint: low\n", "crates.txt")
         for crate, file in (("low", "lib"), ("tclint", "main")):
@@ -53,11 +53,17 @@ class Checkout:
     def change(self, text="new\n"):
         write(self.top, text, "crates/low/src/lib.rt")
 
-    def run(self, builds=0, rt="bin"):
+    def run(self, *words, builds=0, rt="bin"):
         path = f"{self.room}/{rt}:/usr/bin:/bin"
         environment = dict(os.environ, PATH=path, CALLS=f"{self.room}/calls", BUILDS=str(builds))
-        ran = subprocess.run([f"{self.top}/tclint"], env=environment, stdin=subprocess.DEVNULL, capture_output=True)
+        command = [f"{self.top}/tclint", *words]
+        ran = subprocess.run(command, cwd=self.room, env=environment, stdin=subprocess.DEVNULL, capture_output=True)
         return Result(ran.returncode, ran.stdout, ran.stderr)
+
+    def expect_untouched(self):
+        """Nothing was built or kept."""
+        if os.path.exists(f"{self.room}/calls") or os.path.exists(f"{self.top}/out"):
+            raise Wrong("something was built or kept")
 
     def expect_build(self):
         got = self.run()
@@ -144,3 +150,152 @@ def _(tested, room):
     if not got.stderr.endswith(b"tclint: it could not be built: see above, and out/build.log\n"):
         raise Wrong(f"said otherwise: {got.stderr.decode()}")
     expect(got, 126, b"", got.stderr)
+
+
+# ---- what the launcher answers itself
+
+# the options of the usage, each with its value
+OPTIONS = re.findall(r"\?(-\w+(?: N)?)\?", USAGE.decode())
+ECHO = '#!/bin/sh\necho "$@"\n'
+
+
+@check("launcher/help")
+def _(tested, room):
+    checkout = Checkout(room, released=False)
+    got = checkout.run("--help")
+    expect(got, 0, got.stdout)
+    lines = got.stdout.decode().splitlines()
+    if lines[0] != USAGE.decode().rstrip() or re.findall(r"^  (-\w+(?: N)?)  ", got.stdout.decode(), re.MULTILINE) != OPTIONS:
+        raise Wrong("these aren't the usage and the options of the program")
+    if len(lines) > 24 or max(map(len, lines)) > 80:
+        raise Wrong("that is more than a screen")
+    checkout.expect_untouched()
+
+
+def version_of(checkout):
+    """What --version says of the program. All else of it is known, and it names no file."""
+    got = checkout.run("--version")
+    found = re.fullmatch(
+        rb"tclint, an interpreter of Tcl 8\.6\nprogram: ([\w ]+)\nsources: ([0-9a-f]{64})\nproved with: (rattle-kit-\w+ logic [0-9a-f]+)\n", got.stdout
+    )
+    expect(got, 0, got.stdout)
+    if not found or found[2].decode() != checkout.sum():
+        raise Wrong(f"said otherwise: {got.stdout.decode()}")
+    return found[1].decode()
+
+
+def version_check(name, says, released=False, before=lambda checkout: None):
+    @check(f"launcher/version-{name}")
+    def _(tested, room):
+        checkout = Checkout(room, released)
+        before(checkout)
+        if version_of(checkout) != says:
+            raise Wrong(f"it isn't {says}")
+        checkout.expect_untouched()
+
+
+def by_hand(checkout):
+    checkout.script("top/crates/tclint/out/tclint", ECHO)
+
+
+version_check("of-nothing", "not built for these sources")
+version_check("of-the-release", "the released one", released=True)
+version_check("after-a-change", "not built for these sources", released=True, before=Checkout.change)
+version_check("of-what-was-built", "built here", before=by_hand)
+
+
+@check("launcher/version-of-what-ran")
+def _(tested, room):
+    checkout = Checkout(room)
+    expect(checkout.run(), 0, b"released\n")
+    if version_of(checkout) != "the released one":
+        raise Wrong("what was taken of the release isn't the release")
+    checkout.change()
+    checkout.expect_build()
+    if version_of(checkout) != "built here":
+        raise Wrong("what was built isn't")
+
+
+@check("launcher/its-words-in-another-place")
+def _(tested, room):
+    checkout = Checkout(room, released=False)
+    by_hand(checkout)
+    for words in (["script.tcl", "--help"], ["--help", "script.tcl"], ["--version", "x"], ["--install", "a", "b"], ["-h"], ["./--help"]):
+        expect(checkout.run(*words), 0, " ".join(words).encode() + b"\n")
+
+
+def expect_installed(checkout, prefix, program):
+    wanted = [(f"{prefix}/bin/tclint", program, 0o755), (f"{prefix}/share/man/man1/tclint.1", f"{TOP}/docs/tclint.1", 0o644)]
+    for path, original, mode in wanted:
+        with open(path, "rb") as copy, open(original, "rb") as file:
+            if copy.read() != file.read() or os.stat(path).st_mode & 0o777 != mode:
+                raise Wrong(f"{path} is another file")
+    checkout.expect_untouched()
+
+
+@check("launcher/install")
+def _(tested, room):
+    checkout = Checkout(room)
+    # twice, in a folder with a space and by a name that is no whole path
+    for prefix in (f"{room}/a prefix", f"{room}/a prefix", "-p"):
+        said = f"tclint: installed {prefix}/bin/tclint and {prefix}/share/man/man1/tclint.1\n"
+        expect(checkout.run("--install", prefix), 0, said.encode())
+        expect_installed(checkout, os.path.join(room, prefix), f"{checkout.top}/release/tclint")
+    ran = subprocess.run([f"{room}/-p/bin/tclint"], capture_output=True)
+    expect(Result(ran.returncode, ran.stdout, ran.stderr), 0, b"released\n")
+
+
+@check("launcher/install-what-was-built")
+def _(tested, room):
+    checkout = Checkout(room, released=False)
+    by_hand(checkout)
+    expect(checkout.run("--install", "p"), 0, b"tclint: installed p/bin/tclint and p/share/man/man1/tclint.1\n")
+    expect_installed(checkout, f"{room}/p", f"{checkout.top}/crates/tclint/out/tclint")
+
+
+@check("launcher/install-nothing")
+def _(tested, room):
+    checkout = Checkout(room)
+    checkout.change()
+    said = b"tclint: nothing is built for these sources, so there is nothing to install: ./tclint FILE builds first\n"
+    expect(checkout.run("--install", "p"), 1, b"", said)
+    if os.path.exists(f"{room}/p"):
+        raise Wrong("a folder was made")
+    checkout.expect_untouched()
+
+
+@check("launcher/install-nowhere")
+def _(tested, room):
+    checkout = Checkout(room)
+    for words in (["--install"], ["--install", ""]):
+        expect(checkout.run(*words), 5, b"", b"tclint: --install wants a folder: tclint --install PREFIX\n")
+    write(room, "no folder", "p")
+    got = checkout.run("--install", "p")
+    if not got.stderr.endswith(b"tclint: it can't be installed in p\n"):
+        raise Wrong(f"said otherwise: {got.stderr.decode()}")
+    expect(got, 1, b"", got.stderr)
+
+
+# ---- the manual page
+
+
+@check("launcher/manual-page")
+def _(tested, room):
+    with open(f"{TOP}/docs/tclint.1", encoding="utf-8") as file:
+        page = file.read().replace("\\-", "-")
+    sections = dict(re.findall(r'^\.SH "?([A-Z ]+)"?\n(.*?)(?=^\.SH|\Z)', page, re.MULTILINE | re.DOTALL))
+    named = [" ".join(line.replace('"', "").split()) for line in re.findall(r"^\.TP\n\.BI? (.*)$", sections["OPTIONS"], re.MULTILINE)]
+    if named != OPTIONS or re.findall(r"-\w+", sections["SYNOPSIS"]) != re.findall(r"-\w+", USAGE.decode()):
+        raise Wrong(f"these aren't the options of the program: {named}")
+    with open(f"{TOP}/docs/MANUAL.md", encoding="utf-8") as file:
+        told = re.findall(r"^\| (\d) \| ", file.read(), re.MULTILINE)
+    if re.findall(r"^\.TP\n\.B (\d)$", sections["EXIT STATUS"], re.MULTILINE) != told:
+        raise Wrong("these aren't the manual's statuses")
+
+
+@check("launcher/manual-page-as-groff-reads-it")
+def _(tested, room):
+    if not shutil.which("groff"):
+        return False
+    ran = subprocess.run(["groff", "-man", "-ww", "-z", "-Tascii", f"{TOP}/docs/tclint.1"], capture_output=True)
+    expect(Result(ran.returncode, ran.stdout, ran.stderr), 0)
