@@ -25,6 +25,8 @@ NAMES = ("set", "incr", "expr", "if", "while", "for", "foreach", "break", "conti
 COMMAND = re.compile(r"(?<![\w$:@])(" + "|".join(NAMES) + r")(?=@)")
 # What tclsh says beyond the message of a malformed expression.
 FAULT_OF_TCLSH = re.compile(rb" at _@_|\nin expression \"[^\n]*\"(?:;\nshould be [^\n]*)?")
+# It has a text of its own for an operand that is empty (docs/PROFILE.md).
+EMPTY_OPERAND, NO_NUMBER = b"can't use empty string as operand", b"can't use non-numeric string as operand"
 BUDGET = 400
 TOGETHER = 200  # scripts of one check
 
@@ -148,7 +150,7 @@ def compare_with_tclsh(tested, room, seed):
     if one[0] == 2:
         return
     two = ended(Program("tclsh"), room, f"two{seed}", script)
-    two = (two[0], FAULT_OF_TCLSH.sub(b"", two[1]))
+    two = (two[0], FAULT_OF_TCLSH.sub(b"", two[1]).replace(EMPTY_OPERAND, NO_NUMBER))
     if one[1] != two[1] or (one[0] == 0) != (two[0] == 0):
         raise Wrong(f"seed {seed}:\n{script}\n    tclint: {one}\n    tclsh: {two}")
 

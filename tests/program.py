@@ -748,3 +748,30 @@ def _(tested, room):
         parts = [case.script, case.stdout, case.stdin, case.stderr]
         if parts != [marked(lines, mark) for mark in ("", *MARKS)]:
             raise Wrong(f"the case is another: {name}")
+
+
+@check("manual/names-every-usage")
+def _(tested, room):
+    """The usage of each command and of each subcommand stands in the manual."""
+    script = """
+        foreach name $::names {if {$name ne "exit"} {lappend calls $name}}
+        foreach name {array dict info string} {
+            catch {$name nosuch} told
+            set at [string first "must be " $told]
+            set names [split [string map {", or " , ", " ,} [string range $told $at+8 end]] ,]
+            foreach subcommand $names {lappend calls "$name $subcommand"}
+        }
+        foreach call $calls {
+            foreach words {{} {{}} {a b c d e f g h i}} {
+                if {[catch {eval $call $words} told] && [string match "wrong # args: should be*" $told]} {puts $told}
+            }
+        }
+    """
+    # in a procedure, since what is called may set variables
+    got = run_text(tested, room, f"set names [info commands]\nproc tell {{}} {{{script}}}\ntell\n")
+    usages = set(re.findall(r'should be "(.*)"$', got.stdout.decode(), re.MULTILINE))
+    with open(f"{TOP}/docs/MANUAL.md", encoding="utf-8") as file:
+        manual = " ".join(file.read().split())
+    wanting = sorted(usage for usage in usages if f"`{usage}`" not in manual and " subcommand ?arg" not in usage)
+    if got.status or len(usages) < 80 or wanting:
+        raise Wrong(f"{got.stderr.decode()}, of {len(usages)} usages these are wanting: {wanting}")
