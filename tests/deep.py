@@ -1,5 +1,5 @@
 #!/usr/bin/env python3
-"""Checks of scripts, expressions and lists that nest deep, on a stack of 1 MiB and on one of 8 MiB.
+"""Checks of scripts, expressions and lists that nest deep, on a stack of 1 MiB and on one of 8 MiB, and values on one of 256 KiB.
 
     tests/deep.py     these checks alone; tests/run runs them with all others
 
@@ -14,7 +14,8 @@ sys.dont_write_bytecode = True
 from program import Program, Wrong, by_shell, check, checks, expect, run_text
 from run_checks import judged
 
-STACKS = [(size, by_shell(f'ulimit -s {size}; exec "$0" "$@"')) for size in (1024, 8192)]
+STACKS = (1024, 8192)  # KiB
+SMALLEST = (256,)
 DEEPEST = 1000
 LEVELS = 200
 MILLION = 1_000_000
@@ -23,14 +24,15 @@ TOO_DEEP = "too many nested evaluations (infinite loop?)"
 TOO_NESTED = "nesting too deep"
 
 
-def deep_check(name, text, answer, fault=None):
+def deep_check(name, text, answer, fault=None, stacks=STACKS):
     """A script that puts an answer, and ends with a fault if one is named, on each stack."""
 
     @check(f"deep/{name}")
     def _(tested, room):
         made = text() if callable(text) else text
         wanted = f"{answer}\n".encode() if answer is not None else b""
-        for size, by in STACKS:
+        for size in stacks:
+            by = by_shell(f'ulimit -s {size}; exec "$0" "$@"')
             try:
                 got = run_text(tested, room, made, by=by)
                 expect(got, 1 if fault else 0, wanted, f"{fault}\n".encode() if fault else b"")
@@ -45,6 +47,7 @@ AGAIN = [
     ("eval", "eval $s", 1),
     ("eval-of-words", "eval eval {$s}", 2),
     ("if", "if 1 $s", 1),
+    ("elseif", "if 0 {} elseif 1 $s", 1),
     ("else", "if 0 {} else $s", 1),
     ("while", "while 1 $s", 1),
     ("for-start", "for $s 1 {} {}", 1),
@@ -52,7 +55,15 @@ AGAIN = [
     ("for-body", "for {} 1 {} $s", 1),
     ("foreach", "foreach x 1 $s", 1),
     ("lmap", "lmap x 1 $s", 1),
+    ("foreach-of-two", "foreach x 1 y 1 $s", 1),
     ("switch", "switch a a $s", 1),
+    ("switch-of-a-list", "switch -glob ab [list a* $s]", 1),
+    ("switch-default", "switch a b {} default $s", 1),
+    ("try", "try $s", 1),
+    ("try-on", "try {error x} on error {} $s", 1),
+    ("try-trap", "try {throw a x} trap a {} - on ok {} $s", 1),
+    ("try-finally", "try {} finally $s", 1),
+    ("eval-by-expansion", "{*}[list eval $s]", 1),
     ("dict-for", "dict for {k v} {a 1} $s", 1),
     ("uplevel", "uplevel 0 $s", 1),
     ("uplevel-global", "uplevel #0 $s", 1),
@@ -61,15 +72,22 @@ AGAIN = [
     ("procedure-by-eval", "eval f", 2),
     ("procedure-by-uplevel", "uplevel 1 f", 2),
     ("procedure-in-a-bracket", "set y [f]", 2),
+    ("procedure-in-an-expression", "return [expr {1 + [f]}]", 3),
+    ("procedure-in-an-expression-in-if", "if 1 {return [expr {1 + [f]}]}", 4),
     ("bracket", "set y [eval $s]", 2),
     ("bracket-in-quotes", 'set y "a[eval $s]b"', 2),
     ("bracket-in-an-index", "set a([eval $s]) 1", 2),
     ("expression", "expr {[eval $s]}", 2),
     ("condition-of-if", "if {[eval $s]} {}", 2),
+    ("condition-of-elseif", "if 0 {} elseif {[eval $s]} {}", 2),
     ("condition-of-while", "while {[eval $s]} {}", 2),
     ("condition-of-for", "for {} {[eval $s]} {} {}", 2),
     ("argument-of-a-function", "expr {abs([eval $s])}", 2),
     ("right-of-and", "expr {1 && [eval $s]}", 2),
+    ("right-of-or", "expr {0 || [eval $s]}", 2),
+    ("branch-of-a-choice", "expr {1 ? [eval $s] : 0}", 2),
+    ("string-of-switch", "switch [eval $s] a {}", 2),
+    ("list-of-foreach", "foreach x [eval $s] {}", 2),
 ]
 
 
@@ -93,12 +111,21 @@ deep_check("twice", "proc f {} {incr ::n; f}\ncatch f\ncatch f m\nputs $n:$m\n",
 WRITTEN = [
     ("eval", "eval {", "}"),
     ("if", "if 1 {", "}"),
+    ("elseif", "if 0 {} elseif 1 {", "}"),
     ("else", "if 0 {} else {", "}"),
     ("while", "while 1 {", ";break}"),
+    ("for-start", "for {", "} 0 {} {}"),
+    ("for-next", "for {} 1 {", ";break} {}"),
     ("for", "for {} 1 {} {", ";break}"),
     ("foreach", "foreach x 1 {", "}"),
+    ("foreach-of-two", "foreach x 1 y 1 {", "}"),
     ("lmap", "lmap x 1 {", "}"),
     ("switch", "switch a {a {", "}}"),
+    ("switch-of-words", "switch a a {", "}"),
+    ("try", "try {", "}"),
+    ("try-on", "try {error x} on error {} {", "}"),
+    ("try-trap", "try {throw a x} trap a {} {", "}"),
+    ("try-finally", "try {} finally {", "}"),
     ("dict-for", "dict for {k v} {a 1} {", "}"),
     ("uplevel", "uplevel 0 {", "}"),
     ("apply", "apply {{} {", "}}"),
@@ -141,16 +168,36 @@ def expressions(times):
     return text
 
 
-deep_check("expression", "puts [expr {" + parentheses(LEVELS, "7") + "}]\n", "7")
-deep_check("expression-too-deep", "puts [expr {" + parentheses(LEVELS + 1, "7") + "}]\n", None, TOO_NESTED)
+# Name, what comes before, the opener, what is inside, the closer: 200 are right, and 201 are too deep.
+NESTED = [
+    ("expression", "puts [expr {", "(", "7", ")", "}]"),
+    ("expression-of-signs", "puts [expr {", "- ", "7", "", "}]"),
+    ("expression-of-complements", "puts [expr {", "~", "7", "", "}]"),
+    ("expression-of-calls", "puts [expr {", "max(1, ", "7", ")", "}]"),
+    ("expression-of-powers", "puts [expr {6 + ", "1**", "7", "", "}]"),
+    ("expression-of-choices", "puts [expr {", "0 ? 1 : ", "7", "", "}]"),
+    ("expression-of-choices-in-choices", "puts [expr {", "1 ? ", "7", " : 0", "}]"),
+    ("brackets", "puts ", "[set x ", "7", "]", ""),
+    ("brackets-of-concat", "puts ", "[concat ", "7", "]", ""),
+    ("brackets-in-quotes", "puts ", '"[set x ', "7", ']"', ""),
+    ("indices", "set a(7) 7; puts ", "$a(", "7", ")", ""),
+    ("indices-in-quotes", 'set a(7) 7; puts "', "$a(", "7", ")", '"'),
+]
+
+
+def nested(before, opener, inside, closer, after, count):
+    """A script in which so many levels stand in one another."""
+    return before + opener * count + inside + closer * count + after + "\n"
+
+
+for name, *parts in NESTED:
+    deep_check(name, nested(*parts, LEVELS), "7")
+    deep_check(f"{name}-too-deep", nested(*parts, LEVELS + 1), None, TOO_NESTED)
+
 deep_check("expressions-in-brackets", "puts [expr {" + expressions(20) + "}]\n", "1")
 deep_check("expression-and-bracket-too-deep", "puts [expr {" + parentheses(LEVELS, "[set x 1]") + "}]\n", None, TOO_NESTED)
-deep_check("expression-of-signs", "puts [expr {" + "- " * LEVELS + "7}]\n", "7")
-deep_check("expression-of-signs-too-deep", "puts [expr {" + "- " * (LEVELS + 1) + "7}]\n", None, TOO_NESTED)
-deep_check("brackets", "puts " + "[set x " * LEVELS + "7" + "]" * LEVELS + "\n", "7")
-deep_check("brackets-too-deep", "puts " + "[set x " * (LEVELS + 1) + "7" + "]" * (LEVELS + 1) + "\n", None, TOO_NESTED)
-deep_check("brackets-of-concat", "puts " + "[concat " * LEVELS + "x" + "]" * LEVELS + "\n", "x")
-deep_check("brackets-of-concat-too-deep", "puts " + "[concat " * (LEVELS + 1) + "x" + "]" * (LEVELS + 1) + "\n", None, TOO_NESTED)
+deep_check("indices-and-brackets", nested("set a(7) 7; puts ", "$a([set x ", "7", "])", "", LEVELS // 2), "7")
+deep_check("indices-and-brackets-too-deep", nested("set a(7) 7; puts ", "[set x $a(", "[set x 7]", ")]", "", LEVELS // 2), None, TOO_NESTED)
 
 for name, character, fault in [
     ("brackets", "[", TOO_NESTED),
@@ -177,10 +224,30 @@ deep_check("list-each", BRACES + "foreach x $l {puts [string length $x]}\n", str
 deep_check("list-kept", BRACES + "lappend l a; lset l 1 b; puts [string length $l],[lindex $l 1]\n", f"{2 * MANY + 2},b")
 deep_check("list-written", BRACES + "puts [string length [list $l]],[string length [lreverse $l]]\n", f"{2 * MANY + 2},{2 * MANY}")
 
-# values that were built so, of which one is copied, changed and dropped; each step writes the whole text, so that more take too long
-BUILT = "for {set i 1} {$i < 2000} {incr i} {set x [%s $x]}; set y $x; %s; set x 1; puts %s; unset y\n"
-deep_check("list-built", "set x {{}}; " + BUILT % ("list", "lset y 0 0 a", "[llength $y],[lindex $y 0 0]"), "1,a")
-deep_check("dictionary-built", "set x {k {}}; " + BUILT % ("dict create k", "dict set y k k a", "[dict size $y],[dict get $y k k]"), "1,a")
+# Values that were built level by level, of which one is copied, changed and dropped. Each step writes the whole text, so
+# that more levels take too long; on the smallest stack each has 26 bytes.
+BUILT_LEVELS = 10_000
+BUILT = "set x %s; for {set i 1} {$i < %d} {incr i} {set x [%s $x]}; set y $x; %s; set x 1; puts %s; unset y\n"
+
+
+def built_check(name, begin, step, change, answer, wanted):
+    deep_check(f"{name}-built", BUILT % (begin, BUILT_LEVELS, step, change, answer), wanted, stacks=SMALLEST)
+
+
+built_check("list", "{{}}", "list", "lset y 0 0 a", "[llength $y],[lindex $y 0 0]", "1,a")
+built_check("list-of-two", "{{} {}}", "list {}", "lset y 1 1 a", "[llength $y],[lindex $y 1 1]", "2,a")
+built_check("dictionary", "{k {}}", "dict create k", "dict set y k k a", "[dict size $y],[dict get $y k k]", "1,a")
+built_check("array", "{}", "set a($i) [list $x]; lindex", "set a(1) b", "[array size a],$a(1)", f"{BUILT_LEVELS - 1},b")
+
+# a path of thousands of keys or places
+PATH_LEVELS = 2_000
+KEYS = f"set keys [lrepeat {PATH_LEVELS} k]; dict set d {{*}}$keys v; set e $d\n"
+PLACES = f"set places [lrepeat {PATH_LEVELS} 0]; set l {'{' * PATH_LEVELS}{'}' * PATH_LEVELS}; set m $l\n"
+deep_check("path-of-keys", KEYS + "puts [string length $d],[dict get $d {*}$keys]\n", f"{4 * PATH_LEVELS - 1},v", stacks=SMALLEST)
+KEYS_CHANGED = "dict set e {*}$keys w; puts [dict get $d {*}$keys][dict get $e {*}$keys]\n"
+deep_check("path-of-keys-changed", KEYS + KEYS_CHANGED, "vw", stacks=SMALLEST)
+deep_check("path-of-keys-removed", KEYS + "dict unset e {*}$keys; puts [string length $e]\n", str(4 * PATH_LEVELS - 4), stacks=SMALLEST)
+deep_check("path-of-places", PLACES + "lset m {*}$places x; puts [lindex $m {*}$places]<[lindex $l {*}$places]>\n", "x<>", stacks=SMALLEST)
 
 
 def main():
