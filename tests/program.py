@@ -750,6 +750,15 @@ def _(tested, room):
             raise Wrong(f"the case is another: {name}")
 
 
+@check("manual/count-of-commands")
+def _(tested, room):
+    """README.md tells how many commands there are."""
+    got = run_text(tested, room, "puts [llength [info commands]]\n")
+    with open(f"{TOP}/README.md", encoding="utf-8") as file:
+        told = re.search(r"all rules of Tcl's syntax, and (\d+) commands", file.read())
+    expect(got, 0, f"{told[1]}\n".encode() if told else b"not told")
+
+
 @check("manual/names-every-usage")
 def _(tested, room):
     """The usage of each command and of each subcommand stands in the manual."""
