@@ -2,6 +2,7 @@
 use std::alloc::{AllocError, Global};
 use std::rc::Rc;
 use std::test::Fail;
+use tcl_chars::Dialect;
 use tcl_code::{Code, CodeBuilder, CodeFault, Instr};
 
 type Built = Result<Code, CodeFault>;
@@ -117,6 +118,21 @@ fn numbers(alloc: Global, name: &str) -> Result<Option<(u32, u32)>, AllocError> 
     }
 }
 
+/// The number that a command's word is known to say in a dialect, where it isn't read.
+fn known(alloc: Global, word: &str, dialect: Dialect) -> Result<Option<i64>, AllocError> {
+    let mut builder = CodeBuilder::new(alloc);
+    builder.emit(Instr::Spend)?;
+    builder.push(word)?;
+    builder.emit(Instr::Call(1))?;
+    let Ok(code) = builder.finish() else {
+        return Ok(None);
+    };
+    match code.instr(1) {
+        Some(Instr::Push(number)) => Ok(code.text(number).known_number(dialect)),
+        _ => Ok(None),
+    }
+}
+
 #[test]
 fn codes_are_built(rt: HostRuntime) -> Result<(), Fail> {
     let alloc = rt.alloc();
@@ -157,5 +173,22 @@ fn a_text_that_comes_again_is_kept_once(rt: HostRuntime) {
     for name in ["exit", "17", "a b c", ""] {
         let found = numbers(rt.alloc(), name);
         assert!(rt; matches!(found, Ok(Some((0, 0)))), "{name}");
+    }
+}
+
+#[test]
+fn a_word_that_begins_as_a_number_is_known(rt: HostRuntime) {
+    for (word, in_86, in_9) in [
+        ("17", Some(17), Some(17)),
+        ("0xff", Some(255), Some(255)),
+        ("-0x10", Some(-16), Some(-16)),
+        ("010", Some(8), Some(10)),
+        ("1a", None, None),
+        ("a", None, None),
+    ] {
+        let found = known(rt.alloc(), word, Dialect::Tcl86);
+        assert!(rt; matches!(found, Ok(number) if number == in_86), "{word}");
+        let found = known(rt.alloc(), word, Dialect::Tcl9);
+        assert!(rt; matches!(found, Ok(number) if number == in_9), "{word}");
     }
 }
