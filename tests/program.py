@@ -10,7 +10,7 @@ import casefile
 
 USAGE = b"usage: tclint ?-tcl9? ?-budget N? ?-slice N? ?file arg ...?\n"
 IO_FAULT = b"read or write failed\n"
-SECONDS = 60
+SECONDS = 180  # a starved machine takes long
 TOP = os.path.dirname(os.path.dirname(os.path.realpath(__file__)))
 
 
