@@ -12,4 +12,5 @@ pub mod PairPlaces
 pub mod PairTexts
 pub mod PairWriting
 pub mod Replaced
+pub mod Singles
 pub mod Truths

@@ -7,3 +7,4 @@ pub mod Lists
 pub mod Numerals
 pub mod Paired
 pub mod Shape
+pub mod Singles

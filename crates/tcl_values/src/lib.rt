@@ -31,6 +31,7 @@ mod literal;
 mod numerals;
 mod pairs;
 mod row;
+mod single;
 mod taking;
 mod value;
 mod writing;

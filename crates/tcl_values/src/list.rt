@@ -15,6 +15,7 @@ use crate::items::{
 };
 use crate::pairs::dict_element;
 use crate::row::Row;
+use crate::single::{is_word, number_row};
 use crate::value::{Held, Value};
 use std::alloc::{AllocError, Global};
 use std::rc::{Rc, RcStr};
@@ -35,13 +36,23 @@ pub(crate) fn plain_elements(alloc: Global, words: Vec<RcStr>) -> Result<Vec<Ele
     Ok(elements)
 }
 
+/// The words that a text is read as. A plain word is shared.
+fn words(alloc: Global, text: &RcStr) -> Result<Vec<RcStr>, Fault>
+    ensures { Answers (λ v. map text_of v.items) result (elements_of (text_of text.now)) }
+{
+    if is_word(text.as_str()) {
+        return Ok(vec![in alloc; text.clone()?]?);
+    }
+    split(alloc, text.as_str())
+}
+
 /// The list that a text is read as, with the text beside it.
 pub(crate) fn read_text(alloc: Global, text: RcStr) -> Result<Rc<Items>, Fault>
     ensures read { Answers (λ r. texts (elements r.value)) result (elements_of (text_of text)) }
     ensures same { IfOk result (λ r. items_text r.value ≡ text_of text) }
     ensures kept { IfOk result (λ r. AreKept r.value) }
 {
-    let words = split(alloc, text.as_str())?;
+    let words = words(alloc, &text)?;
     let items = plain_elements(alloc, words)?;
     let row = Items {
         text: Some(text),
@@ -51,7 +62,7 @@ pub(crate) fn read_text(alloc: Global, text: RcStr) -> Result<Rc<Items>, Fault>
     Ok(Rc::new(alloc, row)?)
 }
 
-/// The list that the text of what is kept is read as, with the text beside it. That of a literal is shared.
+/// The list that the text of what is kept is read as. That of a literal is shared, a number isn't spelled.
 fn read_held(held: &Held, alloc: Global) -> Result<Rc<Items>, Fault>
     requires { IsHeld held.now }
     ensures read { Answers (λ r. texts (elements r.value)) result (elements_of (held_text held.now)) }
@@ -60,6 +71,7 @@ fn read_held(held: &Held, alloc: Global) -> Result<Rc<Items>, Fault>
 {
     match held {
         Held::Literal(literal) => literal.items(alloc),
+        Held::Number(n) => Ok(number_row(alloc, *n)?),
         _ => {
             let text = held.text(alloc)?;
             read_text(alloc, text)
@@ -177,6 +189,9 @@ impl Value {
         ensures count { Answers (λ n. n) result (count_of self.old) }
         ensures same { self.new ≡ self.old }
     {
+        if self.held.is_single() {
+            return Ok(1);
+        }
         read_row(&mut self.held, alloc)?;
         match &self.held {
             Held::Row(row) => Ok(row.items.len()),
@@ -193,6 +208,9 @@ impl Value {
         ensures item { Answers (λ o. o) result (item_of self.old index) }
         ensures same { self.new ≡ self.old }
     {
+        if self.held.is_single() {
+            return Ok(if index == 0 { Some(self.copy()?) } else { None });
+        }
         read_row(&mut self.held, alloc)?;
         match &self.held {
             Held::Row(row) => match row.items.get(index) {
@@ -230,6 +248,9 @@ impl Value {
         ensures list { Answers (λ v. v.items) result (elements_of self.old) }
         ensures same { self.new ≡ self.old }
     {
+        if self.held.is_single() {
+            return Ok(vec![in alloc; self.copy()?]?);
+        }
         read_row(&mut self.held, alloc)?;
         match &self.held {
             Held::Row(row) => Ok(copy_values(alloc, &row.items)?),
