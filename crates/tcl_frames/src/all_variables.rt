@@ -83,6 +83,7 @@ impl AllVariables {
     }
 
     /// The text of a place.
+    #[inline(always)]
     pub(crate) fn find(
         &self,
         at: Place<'_>,
@@ -126,6 +127,7 @@ impl AllVariables {
     }
 
     /// Gives a place a text.
+    #[inline(always)]
     pub(crate) fn put(
         &mut self,
         alloc: Global,
@@ -169,6 +171,7 @@ impl AllVariables {
     }
 
     /// Lends the text of a place.
+    #[inline(always)]
     pub(crate) fn place(
         &mut self,
         at: Place<'_>,

@@ -136,6 +136,7 @@ impl Frames {
 }
 
 /// The frame in which a name is looked for that is written in a frame.
+#[inline(always)]
 pub(crate) fn home(frame: usize, global: bool) -> usize
     ensures home { result ≡ (if global then 0 else frame) }
     ensures earlier { result ≤ frame }
@@ -144,6 +145,7 @@ pub(crate) fn home(frame: usize, global: bool) -> usize
 }
 
 // The place to which a divided name leads that is written in a frame.
+#[inline(always)]
 fn follow_name<'a>(stack: &'a Stack, frame: usize, name: Name<'a>) -> Place<'a>
     ensures leads { spot_of result ≡ spot_in stack.now.frames frame (name_of name.entry) }
     ensures earlier { result.frame ≤ frame }
@@ -153,6 +155,7 @@ fn follow_name<'a>(stack: &'a Stack, frame: usize, name: Name<'a>) -> Place<'a>
 }
 
 /// The place to which a name leads that is written in a frame.
+#[inline(always)]
 pub(crate) fn place_in<'a>(stack: &'a Stack, frame: usize, name: &'a str) -> Place<'a>
     ensures leads { spot_of result ≡ spot_in stack.now.frames frame (divided_name (chars name.now)) }
     ensures earlier { result.frame ≤ frame }
@@ -170,6 +173,7 @@ pub(crate) fn place_here<'a>(stack: &'a Stack, name: &'a str) -> Place<'a>
 }
 
 /// The place to which a divided name leads that the active frame's scripts write.
+#[inline(always)]
 pub(crate) fn place_divided<'a>(stack: &'a Stack, name: Name<'a>) -> Place<'a>
     ensures leads { spot_of result ≡ spot_in stack.now.frames stack.now.active (name_of name.entry) }
     ensures there { result.frame < length stack.now.frames }
@@ -178,6 +182,7 @@ pub(crate) fn place_divided<'a>(stack: &'a Stack, name: Name<'a>) -> Place<'a>
 }
 
 /// The place to which a name leads that the active frame's scripts write.
+#[inline(always)]
 pub(crate) fn place_of<'a>(stack: &'a Stack, name: &'a str) -> Place<'a>
     ensures leads { spot_of result ≡ spot_in stack.now.frames stack.now.active (divided_name (chars name.now)) }
     ensures there { result.frame < length stack.now.frames }

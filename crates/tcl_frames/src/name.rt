@@ -21,6 +21,7 @@ pub(crate) enum Part<'a> {
 
 impl Part<'_> {
     /// How a part is missed in an array that is there, as its name is written.
+    #[inline(always)]
     pub(crate) fn missing(self) -> Refusal
         ensures { result ≡ missing (part_of self.entry) }
     {
@@ -102,7 +103,7 @@ fn element_name<'a>(base: &'a str, index: &'a str) -> Name<'a>
 }
 
 // Does neither a colon lead the name nor `)` end it? Its bytes tell.
-#[inline]
+#[inline(always)]
 fn is_plain(name: &str) -> bool
     ensures { result ≡ true → spec.divided_name (chars name.now) ≡ plain_name (chars name.now) }
 {
@@ -112,7 +113,7 @@ fn is_plain(name: &str) -> bool
 }
 
 /// The name of a variable, divided.
-#[inline]
+#[inline(always)]
 pub(crate) fn divide(name: &str) -> Name<'_>
     ensures { name_of result ≡ spec.divided_name (chars name.now) }
 {
@@ -127,6 +128,7 @@ pub(crate) fn divide(name: &str) -> Name<'_>
 }
 
 // The same of any name.
+#[inline(never)]
 fn divide_at_paren(name: &str) -> Name<'_>
     ensures { name_of result ≡ spec.divided_name (chars name.now) }
 {

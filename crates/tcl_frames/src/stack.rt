@@ -1,5 +1,5 @@
 //! The frames that stand, without their variables: who called whom, and which names are links.
-ghost use Rattle.std.specs.Prelude.{◌≡◌, ℕ, false, is_some, ◌<◌, ◌≤◌, ◌^◌, suc, length, take, ◌++◌, ◌∷◌, [], Some, None, IfOk, IfSome, OnOk, OnErr};
+ghost use Rattle.std.specs.Prelude.{◌≡◌, ℕ, List, true, false, is_some, ◌<◌, ◌≤◌, ◌^◌, suc, length, take, ◌++◌, ◌∷◌, [], Some, None, IfOk, IfSome, OnOk, OnErr};
 ghost use Rattle.std.specs.FinMap as map;
 ghost use Rattle.std.specs.Str.{chars};
 ghost use Rattle.std.specs.Option.{option_copied};
@@ -43,6 +43,14 @@ impl Model for Call {
 }
 
 impl Call {
+    // Is no name a link?
+    #[inline(always)]
+    fn has_no_link(&self) -> bool
+        ensures { result ≡ true → self.now.links ≡ map.empty }
+    {
+        self.links.is_empty()
+    }
+
     // The link that a name is.
     #[inline]
     fn link(&self, name: &str) -> Option<&Link>
@@ -104,6 +112,19 @@ impl Model for Stack {
     ghost invariant = { IsStack };
 }
 
+// Is no name of a frame a link?
+#[inline(always)]
+fn links_none(calls: &[Call], frame: usize) -> bool
+    ensures { result ≡ true → (name : List ℕ) → link_at (links_of calls.now) frame name ≡ None }
+{
+    if frame < calls.len() {
+        let call = &calls[frame];
+        call.has_no_link()
+    } else {
+        true
+    }
+}
+
 // The link that a name of a frame is.
 fn find<'a>(calls: &'a [Call], frame: usize, name: &str) -> Option<&'a Link>
     ensures { option_copied result ≡ link_at (links_of calls.now) frame (chars name.now) }
@@ -155,7 +176,21 @@ impl Stack {
     }
 
     /// The place to which a part of a name of a frame leads.
+    #[inline(always)]
     pub(crate) fn follow<'a>(&'a self, frame: usize, name: &'a str, part: Part<'a>) -> Place<'a>
+        ensures leads { spot_of result ≡ destination self.now.frames (spot frame (chars name.now) (part_of part.entry)) }
+        ensures earlier { result.frame ≤ frame }
+        ensures free { link_at (links_of self.now.frames) result.frame (chars result.name.now) ≡ None }
+    {
+        if links_none(&self.calls, frame) {
+            return Place { frame, name, part };
+        }
+        self.follow_links(frame, name, part)
+    }
+
+    // The same, where the frame may have links.
+    #[inline(never)]
+    fn follow_links<'a>(&'a self, frame: usize, name: &'a str, part: Part<'a>) -> Place<'a>
         ensures leads { spot_of result ≡ destination self.now.frames (spot frame (chars name.now) (part_of part.entry)) }
         ensures earlier { result.frame ≤ frame }
         ensures free { link_at (links_of self.now.frames) result.frame (chars result.name.now) ≡ None }
@@ -282,6 +317,7 @@ impl Stack {
     }
 
     /// Is a name of a frame a link?
+    #[inline(always)]
     pub(crate) fn is_link(&self, frame: usize, name: &str) -> bool
         ensures { result ≡ is_some (link_at (links_of self.now.frames) frame (chars name.now)) }
     {

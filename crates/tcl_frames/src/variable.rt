@@ -106,6 +106,7 @@ impl Variable {
     }
 
     /// The text of a part.
+    #[inline(always)]
     pub(crate) fn part(&self, part: Part<'_>, missing: Refusal) -> Result<&Value, Refusal>
         ensures found { IfOk result (λ value. get_part missing (Some self.now) (part_of part.entry) ≡ Ok value.now) }
         ensures refused { IfErr result (λ refusal. get_part missing (Some self.now) (part_of part.entry) ≡ Err refusal) }
@@ -147,6 +148,7 @@ impl Variable {
     }
 
     /// Gives a part a text.
+    #[inline(always)]
     pub(crate) fn write(
         &mut self,
         alloc: Global,
@@ -205,6 +207,7 @@ impl Variable {
     }
 
     /// Lends the text of a part.
+    #[inline(always)]
     pub(crate) fn place(&mut self, part: Part<'_>, missing: Refusal) -> Result<&mut Value, Refusal>
         ensures* writes_back { sem 𝓛 (LendsPart self.entry (part_of part.entry) result) }
         ensures found { IfOk result (λ value. get_part missing (Some self.old) (part_of part.entry) ≡ Ok value.now) }

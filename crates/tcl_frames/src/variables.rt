@@ -24,6 +24,7 @@ use tcl_names::{HashedNames, Hint, PlacedNames};
 use tcl_values::Value;
 
 /// The text of a part of a variable.
+#[inline(always)]
 pub(crate) fn find_in<'a>(
     variables: &'a PlacedNames<Variable>,
     name: &str,
@@ -68,6 +69,7 @@ pub(crate) fn is_there_in(variables: &PlacedNames<Variable>, name: &str, part: P
 }
 
 /// Lends the text of a part of a variable.
+#[inline(always)]
 pub(crate) fn place_in<'a>(
     variables: &'a mut PlacedNames<Variable>,
     name: &str,
@@ -105,6 +107,7 @@ fn made(alloc: Global, part: Part<'_>, value: Value) -> Result<Variable, VarFaul
 }
 
 /// Puts a text into a part of a variable, which is made where it is missing.
+#[inline(always)]
 pub(crate) fn put_in(
     variables: &mut PlacedNames<Variable>,
     alloc: Global,

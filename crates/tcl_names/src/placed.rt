@@ -1,9 +1,11 @@
 //! Maps by name of which some names have numbered places. Contracts see the same finite map as that of a `NameMap`.
-ghost use Rattle.std.specs.Prelude.{◌≡◌, IfOk, OnOk, OnErr, ◌∷◌, [], map as each};
+ghost use Rattle.std.specs.Prelude.{◌≡◌, nat_eq, IfOk, OnOk, OnErr, ◌∷◌, [], map as each};
 ghost use Rattle.std.specs.FinMap as map;
 ghost use Rattle.std.specs.Str.{chars};
 ghost use Rattle.std.specs.Option.{option_copied, option_copied_mut};
 ghost use Rattle.std.specs.Borrow.{sem};
+ghost use Rattle.std.specs.Cmp.Lexicographic.{pointwise};
+ghost use Rattle.tcl_chars.specs.Texts.{same_text};
 ghost use Rattle.tcl_names.specs.Named.{text_of};
 ghost use Rattle.tcl_names.specs.Placed.{IsApart, number_of, with_names, with_present};
 ghost use Rattle.tcl_names.specs.Places.{names_in};
@@ -19,6 +21,9 @@ use tcl_chars::is_text;
 
 // How many names have places, but for those of a layout.
 const MOST_PLACES: usize = 64;
+
+// How many bytes a name has at most that is compared byte by byte.
+const FEW_BYTES: usize = 8;
 
 // A name with a place, and what it has, if anything.
 #[derive(Drop)]
@@ -48,13 +53,44 @@ impl<V> Model for PlacedNames<V> {
     ghost invariant = { λ m. IsApart (names_in m.places.items) };
 }
 
+// Are the bytes the same? They are compared one by one, which is quickest where there are few.
+#[inline(always)]
+fn are_same(bytes: &[u8], others: &[u8]) -> bool
+    ensures { result ≡ pointwise nat_eq bytes.now others.now }
+{
+    let size = bytes.len();
+    if size != others.len() {
+        return false;
+    }
+    let mut at = 0;
+    'bytes: while at < size {
+        if bytes[at] != others[at] {
+            return false;
+        }
+        at += 1;
+    }
+    true
+}
+
+// Is a name the one that is known?
+#[inline(always)]
+#[tactic(auto, using(tcl_chars::proofs::Same::eq_by_chars))]
+fn is_name(name: &str, known: &str) -> bool
+    ensures { result ≡ same_text (chars name.now) (chars known.now) }
+{
+    if name.len() > FEW_BYTES {
+        return is_text(name, known);
+    }
+    are_same(name.as_bytes(), known.as_bytes())
+}
+
 // The place of a name.
 fn number<V>(places: &[Place<V>], name: &str) -> Option<usize>
     ensures { result ≡ number_of (names_in places.now) (chars name.now) }
 {
     let mut number = 0;
     for place in places {
-        if is_text(name, place.name.as_str()) {
+        if is_name(name, place.name.as_str()) {
             return Some(number);
         }
         number += 1;
@@ -63,20 +99,30 @@ fn number<V>(places: &[Place<V>], name: &str) -> Option<usize>
 }
 
 // The same. The place that is guessed is tried first.
+#[inline(always)]
 fn number_near<V>(places: &[Place<V>], name: &str, hint: &Hint) -> Option<usize>
     requires { IsApart (names_in places.now) }
     ensures { result ≡ number_of (names_in places.now) (chars name.now) }
 {
     let guess = hint.get();
-    if guess < places.len() && is_text(name, places[guess].name.as_str()) {
+    if guess < places.len() && is_name(name, places[guess].name.as_str()) {
         return Some(guess);
     }
+    number_afar(places, name, hint)
+}
+
+// The same, where the place that is guessed has another name.
+#[inline(never)]
+fn number_afar<V>(places: &[Place<V>], name: &str, hint: &Hint) -> Option<usize>
+    ensures { result ≡ number_of (names_in places.now) (chars name.now) }
+{
     let found = number(places, name)?;
     hint.set(found);
     Some(found)
 }
 
 // Lends what is in a place.
+#[inline(always)]
 fn value_mut<V>(place: &mut Option<V>) -> Option<&mut V>
     ensures* writes_back { sem 𝓛 (LendsValue V.row place.entry result) }
     ensures value { option_copied_mut result ≡ place.old }
@@ -126,6 +172,7 @@ impl<V> PlacedNames<V> {
     }
 
     /// The same as `get`: quick where the name stands where the hint says.
+    #[inline(always)]
     pub fn get_near(&self, name: &str, hint: &Hint) -> Option<&V>
         ensures { option_copied result ≡ map.get self.now (chars name.now) }
     {
@@ -143,6 +190,7 @@ impl<V> PlacedNames<V> {
     }
 
     /// The same as `get_mut`: quick where the name stands where the hint says.
+    #[inline(always)]
     pub fn get_mut_near(&mut self, name: &str, hint: &Hint) -> Option<&mut V>
         ensures* writes_back { sem 𝓛 (LendsAtPlaced V.row self.entry (chars name.entry.now) result) }
         ensures value { option_copied_mut result ≡ map.get self.old (chars name.now) }

@@ -6,9 +6,9 @@ use Rattle.tcl_names.specs.Named.{text_of}
 use Rattle.tcl_names.proofs.Held.{place_of}
 use Rattle.tcl_names.proofs.placed.number_near.Goals as goal
 
-pub returns-then-is_text : goal.returns-then-is_text
-returns-then-is_text g c =
+pub returns-then-is_name : goal.returns-then-is_name
+returns-then-is_name g c =
     let q = chars c.args.name.now in
     let alike : same_text q (text_of c.index-places-guess.result.name) ≡ true =
-    ap (λ (p : Place g.row.V.Denot). same_text q (text_of p.name)) c.index-places-guess.is ∙ ap (λ bs. same_text q (chars bs)) (sym c.as_str.ensures.value) ∙ sym c.is_text.ensures ∙ c.if-is_text.true in
+    ap (λ (p : Place g.row.V.Denot). same_text q (text_of p.name)) c.index-places-guess.is ∙ ap (λ bs. same_text q (chars bs)) (sym c.as_str.ensures.value) ∙ sym c.is_name.ensures ∙ c.if-is_name.true in
     sym (place_of c.args.places.now q c.get-guess.result c.index-places-guess.result c.requires c.if-guess-places.true c.index-places-guess.is alike)

@@ -6,7 +6,7 @@ use Rattle.tcl_meaning.specs.Links.{links_of, destination}
 use Rattle.tcl_frames.specs.Parts.{part_of}
 use Rattle.tcl_frames.specs.Places.{spot}
 use Rattle.tcl_frames.proofs.Chains.{way}
-use Rattle.tcl_frames.proofs.stack.Stack.follow.Given as goal
+use Rattle.tcl_frames.proofs.stack.Stack.follow_links.Given as goal
 
 abbrev pub decreases-loop-link : goal.decreases-loop-link
 decreases-loop-link l = way (links_of l.self.frames) l.at_frame (chars l.at_name)
