@@ -16,7 +16,7 @@ ghost use Rattle.tcl_frames.specs.Refusals.{Refuses};
 
 use crate::all_variables::AllVariables;
 use crate::fault::VarFault;
-use crate::name::{Name, Part, divide};
+use crate::name::{Name, Part, divide, is_plain};
 use crate::place::Place;
 use crate::stack::Stack;
 use crate::variable::Variable;
@@ -72,6 +72,18 @@ impl Frames {
         ensures found { (cs : Commands) → IfOk result (λ value. get (store_of cs self.now) (chars name.now) ≡ Ok value.now) }
         ensures refused { (cs : Commands) → IfErr result (λ refusal. get (store_of cs self.now) (chars name.now) ≡ Err refusal) }
     {
+        match plain_place(&self.stack, name) {
+            Some(at) => self.variables.find(at, hint, Refusal::NoSuch),
+            None => self.find_divided(name, hint),
+        }
+    }
+
+    // The same. The name is divided, and links are followed.
+    #[inline(never)]
+    fn find_divided(&self, name: &str, hint: &Hint) -> Result<&Value, Refusal>
+        ensures found { (cs : Commands) → IfOk result (λ value. get (store_of cs self.now) (chars name.now) ≡ Ok value.now) }
+        ensures refused { (cs : Commands) → IfErr result (λ refusal. get (store_of cs self.now) (chars name.now) ≡ Err refusal) }
+    {
         let name = divide(name);
         let at = place_divided(&self.stack, name);
         self.variables.find(at, hint, name.part.missing())
@@ -119,6 +131,25 @@ impl Frames {
         ensures refused { (cs : Commands) → IfErr result (Refuses (put_change (store_of cs self.old) (chars name.now) value)) }
         ensures same { OnErr result (self.new ≡ self.old) }
     {
+        match plain_place(&self.stack, name) {
+            Some(at) => self.variables.put(alloc, at, hint, value),
+            None => self.put_divided(alloc, name, hint, value),
+        }
+    }
+
+    // The same. The name is divided, and links are followed.
+    #[inline(never)]
+    fn put_divided(
+        &mut self,
+        alloc: Global,
+        name: &str,
+        hint: &Hint,
+        value: Value,
+    ) -> Result<(), VarFault>
+        ensures done { (cs : Commands) → OnOk result (applied (put_change (store_of cs self.old) (chars name.now) value) (store_of cs self.old) ≡ Ok (store_of cs self.new)) }
+        ensures refused { (cs : Commands) → IfErr result (Refuses (put_change (store_of cs self.old) (chars name.now) value)) }
+        ensures same { OnErr result (self.new ≡ self.old) }
+    {
         let at = place_of(&self.stack, name);
         self.variables.put(alloc, at, hint, value)
     }
@@ -133,6 +164,23 @@ impl Frames {
         let at = place_divided(&self.stack, name);
         self.variables.remove(at, name.part.missing())
     }
+}
+
+// The place of a plain name of an active frame without links: the name itself.
+#[inline(always)]
+fn plain_place<'a>(stack: &'a Stack, name: &'a str) -> Option<Place<'a>>
+    ensures leads { IfSome result (λ at. spot_of at ≡ spot_in stack.now.frames stack.now.active (divided_name (chars name.now))) }
+    ensures there { IfSome result (λ at. at.frame < length stack.now.frames) }
+    ensures whole { IfSome result (λ at. (divided_name (chars name.now)).part ≡ whole) }
+{
+    if is_plain(name) && stack.has_no_link() {
+        return Some(Place {
+            frame: stack.active(),
+            name,
+            part: Part::Whole,
+        });
+    }
+    None
 }
 
 /// The frame in which a name is looked for that is written in a frame.

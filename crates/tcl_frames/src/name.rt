@@ -102,9 +102,9 @@ fn element_name<'a>(base: &'a str, index: &'a str) -> Name<'a>
     }
 }
 
-// Does neither a colon lead the name nor `)` end it? Its bytes tell.
+/// Does neither a colon lead the name nor `)` end it? Its bytes tell.
 #[inline(always)]
-fn is_plain(name: &str) -> bool
+pub(crate) fn is_plain(name: &str) -> bool
     ensures { result ≡ true → spec.divided_name (chars name.now) ≡ plain_name (chars name.now) }
 {
     let bytes = name.as_bytes();

@@ -161,11 +161,20 @@ impl Stack {
     }
 
     /// The active frame.
+    #[inline(always)]
     pub(crate) fn active(&self) -> usize
         ensures active { result ≡ self.now.active }
         ensures there { result < length self.now.frames }
     {
         self.active
+    }
+
+    /// Is no name of the active frame a link?
+    #[inline(always)]
+    pub(crate) fn has_no_link(&self) -> bool
+        ensures { result ≡ true → (name : List ℕ) → link_at (links_of self.now.frames) self.now.active name ≡ None }
+    {
+        links_none(&self.calls, self.active)
     }
 
     /// How many frames stand.
