@@ -72,10 +72,10 @@ impl Frames {
         ensures found { (cs : Commands) → IfOk result (λ value. get (store_of cs self.now) (chars name.now) ≡ Ok value.now) }
         ensures refused { (cs : Commands) → IfErr result (λ refusal. get (store_of cs self.now) (chars name.now) ≡ Err refusal) }
     {
-        match plain_place(&self.stack, name) {
-            Some(at) => self.variables.find(at, hint, Refusal::NoSuch),
-            None => self.find_divided(name, hint),
+        if let Some(at) = plain_place(&self.stack, name) {
+            return self.variables.find(at, hint, Refusal::NoSuch);
         }
+        self.find_divided(name, hint)
     }
 
     // The same. The name is divided, and links are followed.
@@ -131,10 +131,10 @@ impl Frames {
         ensures refused { (cs : Commands) → IfErr result (Refuses (put_change (store_of cs self.old) (chars name.now) value)) }
         ensures same { OnErr result (self.new ≡ self.old) }
     {
-        match plain_place(&self.stack, name) {
-            Some(at) => self.variables.put(alloc, at, hint, value),
-            None => self.put_divided(alloc, name, hint, value),
+        if let Some(at) = plain_place(&self.stack, name) {
+            return self.variables.put(alloc, at, hint, value);
         }
+        self.put_divided(alloc, name, hint, value)
     }
 
     // The same. The name is divided, and links are followed.
