@@ -23,6 +23,7 @@ use Rattle.tcl_values.specs.Paired.{zipped}
 use Rattle.tcl_pages.specs.Dictionaries.{pairs_of}
 use Rattle.tcl_pages.specs.Dictionaries as dictionaries
 use Rattle.tcl_pages.specs.DictPages.{dictionary}
+use Rattle.tcl_values.specs.declared.composed.Composed.{Composed}
 use Rattle.tcl_values.specs.declared.element.Items.{Items}
 use Rattle.tcl_values.specs.declared.element.Lengthening.{Lengthening}
 use Rattle.tcl_values.specs.declared.element.Pairs.{Pairs}
@@ -168,12 +169,20 @@ pub record AreSameGrown (g h : Growing) : Type 0 where
   pub text : string_bytes g.text ≡ string_bytes h.text
   pub ascii : g.ascii ≡ h.ascii
 
+abbrev pub composed_text : Composed → List ℕ
+composed_text c = chars (string_bytes c.growing.text)
+
+-- the same text, and the same is known of it
+abbrev pub AreSameComposed : Composed → Composed → Type 0
+AreSameComposed c d = AreSameGrown c.growing d.growing
+
 -- the text that a value is
 abbrev pub held_text : Held → List ℕ
 held_text (held.Number n) = signed_decimal n
 held_text (held.Text s) = text_of s
 held_text (held.Ascii s) = text_of s
 held_text (held.Grown s) = chars (string_bytes s.value.text)
+held_text (held.Composed s) = composed_text s.value
 held_text (held.Literal l) = text_of l.value.text
 held_text (held.Row r) = items_text r.value
 held_text (held.Dict r) = pairs_text r.value
@@ -183,6 +192,7 @@ IsHeld (held.Number n) = FitsSigned w64 n
 IsHeld (held.Text s) = ⊤
 IsHeld (held.Ascii s) = IsAscii (rc_str_bytes s)
 IsHeld (held.Grown s) = IsGrown s.value
+IsHeld (held.Composed s) = IsGrown s.value.growing
 IsHeld (held.Literal l) = IsLiteral l.value
 IsHeld (held.Row r) = AreKept r.value
 IsHeld (held.Dict r) = ArePaired r.value
@@ -192,6 +202,7 @@ is_row (held.Number n) = false
 is_row (held.Text s) = false
 is_row (held.Ascii s) = false
 is_row (held.Grown s) = false
+is_row (held.Composed s) = false
 is_row (held.Literal l) = false
 is_row (held.Row r) = true
 is_row (held.Dict r) = false
@@ -201,6 +212,7 @@ is_dict (held.Number n) = false
 is_dict (held.Text s) = false
 is_dict (held.Ascii s) = false
 is_dict (held.Grown s) = false
+is_dict (held.Composed s) = false
 is_dict (held.Literal l) = false
 is_dict (held.Row r) = false
 is_dict (held.Dict r) = true
@@ -211,6 +223,7 @@ elements_held (held.Number n) = []
 elements_held (held.Text s) = []
 elements_held (held.Ascii s) = []
 elements_held (held.Grown s) = []
+elements_held (held.Composed s) = []
 elements_held (held.Literal l) = []
 elements_held (held.Row r) = elements r.value
 elements_held (held.Dict r) = []
@@ -221,6 +234,7 @@ pairs_held (held.Number n) = []
 pairs_held (held.Text s) = []
 pairs_held (held.Ascii s) = []
 pairs_held (held.Grown s) = []
+pairs_held (held.Composed s) = []
 pairs_held (held.Literal l) = []
 pairs_held (held.Row r) = []
 pairs_held (held.Dict r) = pairs_in r.value

@@ -12,15 +12,32 @@ ghost use Rattle.tcl_values.specs.Shape.{held_text, is_dict, pairs_held, pairs_i
 
 use crate::dictionary::Dictionary;
 use crate::element::Pairs;
-use crate::list::read_row;
+use crate::list::read_held;
 use crate::pairs::{count_pairs, find_pair, no_pairs, paired, put_own, put_pair, remove_pair};
 use crate::value::{Held, Value};
 use std::alloc::{AllocError, Global};
 use std::rc::{Rc, RcStr};
 use tcl_chars::Fault;
 
-/// Reads what is kept as a dictionary, which is kept from now on.
+/// The dictionary that the text of what is kept is read as, and was read as by whoever shares the text: that one reads it who is the
+/// first.
 #[tactic(auto, unfolding(tcl_pages::specs::Dictionaries::pairs_of))]
+fn read_pairs(held: &Held, alloc: Global) -> Result<Rc<Pairs>, Fault>
+    requires { IsHeld held.now }
+    ensures read { Answers (λ p. pairs_in p.value) result (pairs_of (held_text held.now)) }
+    ensures same { IfOk result (λ p. pairs_text p.value ≡ held_text held.now) }
+    ensures kept { IfOk result (λ p. ArePaired p.value) }
+{
+    if let Some(pairs) = held.kept_pairs() {
+        return Ok(pairs.clone()?);
+    }
+    let items = read_held(held, alloc)?;
+    let pairs = paired(alloc, &items)?;
+    held.keep_pairs(&pairs)?;
+    Ok(pairs)
+}
+
+/// Reads what is kept as a dictionary, which is kept from now on.
 pub(crate) fn read_dict(held: &mut Held, alloc: Global) -> Result<(), Fault>
     requires { IsHeld held.old }
     ensures read { Answers (λ _. pairs_held held.new) result (pairs_of (held_text held.old)) }
@@ -31,20 +48,9 @@ pub(crate) fn read_dict(held: &mut Held, alloc: Global) -> Result<(), Fault>
     if held.is_dict() {
         return Ok(());
     }
-    if let Held::Literal(literal) = held {
-        let pairs = literal.pairs(alloc)?;
-        *held = Held::Dict(pairs);
-        return Ok(());
-    }
-    read_row(held, alloc)?;
-    match held {
-        Held::Row(row) => {
-            let pairs = paired(alloc, row)?;
-            *held = Held::Dict(pairs);
-            Ok(())
-        }
-        _ => unreachable!(),
-    }
+    let pairs = read_pairs(held, alloc)?;
+    *held = Held::Dict(pairs);
+    Ok(())
 }
 
 /// Values at their keys: of a key that comes again, the last value, in its first place.
@@ -101,7 +107,7 @@ impl Value {
         read_dict(&mut self.held, alloc)?;
         match &self.held {
             Held::Dict(pairs) => match find_pair(pairs, key) {
-                Some(element) => Ok(Some(element.copy()?)),
+                Some(element) => Ok(Some(element.value(alloc)?)),
                 None => Ok(None),
             },
             _ => unreachable!(),

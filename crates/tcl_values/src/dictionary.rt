@@ -8,8 +8,8 @@ ghost use Rattle.tcl_pages.specs.DictPages.{dictionary, value_at, without_key};
 ghost use Rattle.tcl_values.specs.Kept.{texts};
 
 use crate::element::{Element, Pairs};
-use crate::literal::is_text;
 use crate::pairs::{count_pairs, find_pair, forget_pairs_text, no_pairs, put_pair, remove_pair};
+use crate::readings::is_text;
 use crate::value::{Held, Value};
 use std::alloc::{AllocError, Global};
 use std::marker::Model;

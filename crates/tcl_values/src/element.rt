@@ -5,6 +5,7 @@ ghost use Rattle.std.specs.Str.{chars};
 ghost use Rattle.tcl_list.specs.Texts.{text_of};
 
 use crate::digits::Digits;
+use crate::literal::with_room;
 use crate::value::{Growing, Held, Value};
 use indexmap::IndexSet;
 use std::alloc::{AllocError, Global};
@@ -132,6 +133,18 @@ impl Element {
             Entry::Longer(longer) => Held::Row(longer.row.clone()?),
         };
         Ok(Value { held })
+    }
+
+    /// A value of the same text, as by [`Element::copy`]. What a long text is read as is kept from then on for all who hold the value.
+    pub fn value(&self, alloc: Global) -> Result<Value, AllocError>
+        ensures { IfOk result (λ v. v ≡ self.now.text) }
+    {
+        match &self.entry {
+            Entry::Text(text) => Ok(Value {
+                held: with_room(alloc, text.clone()?, false)?,
+            }),
+            _ => self.copy(),
+        }
     }
 
     /// The same element. What is kept is shared.

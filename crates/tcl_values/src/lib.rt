@@ -20,6 +20,7 @@
 #![tactic(auto)]
 
 mod change;
+mod composed;
 mod dict;
 mod dictionary;
 mod digits;
@@ -30,6 +31,7 @@ mod list;
 mod literal;
 mod numerals;
 mod pairs;
+mod readings;
 mod row;
 mod single;
 mod taking;

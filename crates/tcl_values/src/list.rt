@@ -62,20 +62,33 @@ pub(crate) fn read_text(alloc: Global, text: RcStr) -> Result<Rc<Items>, Fault>
     Ok(Rc::new(alloc, row)?)
 }
 
-/// The list that the text of what is kept is read as. That of a literal is shared, a number isn't spelled.
-fn read_held(held: &Held, alloc: Global) -> Result<Rc<Items>, Fault>
+/// The list that the text of what is kept is read as, and was read as by whoever shares the text: that one reads it who is the first.
+fn read_shared(held: &Held, alloc: Global) -> Result<Rc<Items>, Fault>
+    requires { IsHeld held.now }
+    ensures read { Answers (λ r. texts (elements r.value)) result (elements_of (held_text held.now)) }
+    ensures same { IfOk result (λ r. items_text r.value ≡ held_text held.now) }
+    ensures kept { IfOk result (λ r. AreKept r.value) }
+{
+    if let Some(items) = held.kept_list() {
+        return Ok(items.clone()?);
+    }
+    let text = held.text(alloc)?;
+    let items = read_text(alloc, text)?;
+    held.keep_list(&items)?;
+    Ok(items)
+}
+
+/// The list that the text of what is kept is read as. A number isn't spelled.
+pub(crate) fn read_held(held: &Held, alloc: Global) -> Result<Rc<Items>, Fault>
     requires { IsHeld held.now }
     ensures read { Answers (λ r. texts (elements r.value)) result (elements_of (held_text held.now)) }
     ensures same { IfOk result (λ r. items_text r.value ≡ held_text held.now) }
     ensures kept { IfOk result (λ r. AreKept r.value) }
 {
     match held {
-        Held::Literal(literal) => literal.items(alloc),
+        Held::Row(row) => Ok(row.clone()?),
         Held::Number(n) => Ok(number_row(alloc, *n)?),
-        _ => {
-            let text = held.text(alloc)?;
-            read_text(alloc, text)
-        }
+        _ => read_shared(held, alloc),
     }
 }
 
@@ -214,7 +227,7 @@ impl Value {
         read_row(&mut self.held, alloc)?;
         match &self.held {
             Held::Row(row) => match row.items.get(index) {
-                Some(element) => Ok(Some(element.copy()?)),
+                Some(element) => Ok(Some(element.value(alloc)?)),
                 None => Ok(None),
             },
             _ => unreachable!(),

@@ -1,24 +1,18 @@
 //! Texts of a script, whose readings all their copies share.
 
-ghost use Rattle.std.specs.Prelude.{◌≡◌, true, Some, IfOk, IfSome};
+ghost use Rattle.std.specs.Prelude.{◌≡◌, IfOk, IfSome};
+ghost use Rattle.std.specs.Bool.{OnTrue};
+ghost use Rattle.std.specs.Rc.{rc_str_bytes};
 ghost use Rattle.std.specs.Str.{chars, IsAscii};
-ghost use Rattle.tcl_chars.specs.Answers.{Answers};
 ghost use Rattle.tcl_chars.specs.Texts.{text_of};
 ghost use Rattle.tcl_chars.specs.Whole.{whole_of};
-ghost use Rattle.tcl_list.specs.Elements.{elements_of};
-ghost use Rattle.tcl_pages.specs.Dictionaries.{pairs_of};
-ghost use Rattle.tcl_values.specs.Kept.{texts};
-ghost use Rattle.tcl_values.specs.Shape.{elements, items_text, pairs_in, pairs_text, shared_text, number_in, AreKept, AreNumbers, ArePaired, AreRead, ArePairsRead, IsLiteral};
+ghost use Rattle.tcl_values.specs.Shape.{held_text, number_in, AreNumbers, IsHeld, IsLiteral};
 
-use crate::dictionary::Dictionary;
-use crate::element::{Items, Pairs};
-use crate::list::read_text;
-use crate::pairs::paired;
-use crate::row::Row;
-use std::alloc::Global;
-use std::cell::OnceCell;
+use crate::readings::Readings;
+use crate::value::{Held, Value};
+use std::alloc::{AllocError, Global};
 use std::rc::{Rc, RcStr};
-use tcl_chars::{Dialect, Fault, Whole, read_whole};
+use tcl_chars::{Dialect, Whole, read_whole};
 
 /// A text of a script. What it is read as is kept beside it, once it has been read, for all who hold the text.
 #[derive(Drop)]
@@ -28,8 +22,7 @@ pub(crate) struct Literal {
     ascii: bool,
     /// The numbers that it is read as, where it begins as a number does and is one in each dialect.
     numbers: Option<Numbers>,
-    list: OnceCell<Row>,
-    dictionary: OnceCell<Dictionary>,
+    pub(crate) readings: Readings,
 }
 
 /// The number that a text is read as in each dialect.
@@ -67,16 +60,6 @@ impl Numbers {
     }
 }
 
-/// Is a text there, and this one?
-pub(crate) fn is_text(own: &Option<RcStr>, text: &str) -> bool
-    ensures { result ≡ true → shared_text own.now ≡ Some (chars text.now) }
-{
-    match own {
-        Some(own) => own.as_str() == text,
-        None => false,
-    }
-}
-
 impl Literal {
     /// This text, which is looked at once.
     pub(crate) fn new(text: RcStr) -> Literal
@@ -89,8 +72,21 @@ impl Literal {
             text,
             ascii,
             numbers,
-            list: OnceCell::new(),
-            dictionary: OnceCell::new(),
+            readings: Readings::new(),
+        }
+    }
+
+    /// This text, which isn't read as a number.
+    fn unread(text: RcStr, ascii: bool) -> Literal
+        requires { OnTrue ascii (IsAscii (rc_str_bytes text)) }
+        ensures text { result.text ≡ text }
+        ensures known { IsLiteral result }
+    {
+        Literal {
+            text,
+            ascii,
+            numbers: None,
+            readings: Readings::new(),
         }
     }
 
@@ -117,60 +113,34 @@ impl Literal {
             None => None,
         }
     }
+}
 
-    /// The list that is kept beside the text, if it was read from it.
-    fn kept_list(&self) -> Option<&Rc<Items>>
-        ensures { IfSome result (λ r. AreRead r.now.value (text_of self.now.text)) }
-    {
-        match self.list.get() {
-            Some(row) => row.read_from(self.text.as_str()),
-            None => None,
-        }
+/// The least bytes of a text that has room for what it is read as.
+const LONG: usize = 32;
+
+/// A text, which is said to be ASCII or of which that isn't known. A long one has room for what it is read as.
+pub(crate) fn with_room(alloc: Global, text: RcStr, ascii: bool) -> Result<Held, AllocError>
+    requires { OnTrue ascii (IsAscii (rc_str_bytes text)) }
+    ensures text { IfOk result (λ h. held_text h ≡ text_of text) }
+    ensures kept { IfOk result (λ h. IsHeld h) }
+{
+    if LONG <= text.len() {
+        return Ok(Held::Literal(Rc::new(alloc, Literal::unread(text, ascii))?));
     }
-
-    /// The dictionary that is kept beside the text, if it was read from it.
-    fn kept_pairs(&self) -> Option<&Rc<Pairs>>
-        ensures { IfSome result (λ p. ArePairsRead p.now.value (text_of self.now.text)) }
-    {
-        match self.dictionary.get() {
-            Some(pairs) => pairs.read_from(self.text.as_str()),
-            None => None,
-        }
+    if ascii {
+        return Ok(Held::Ascii(text));
     }
+    Ok(Held::Text(text))
+}
 
-    /// The list that the text is read as. It is read once for all who hold the text.
-    pub(crate) fn items(&self, alloc: Global) -> Result<Rc<Items>, Fault>
-        ensures read { Answers (λ r. texts (elements r.value)) result (elements_of (text_of self.now.text)) }
-        ensures same { IfOk result (λ r. items_text r.value ≡ text_of self.now.text) }
-        ensures kept { IfOk result (λ r. AreKept r.value) }
+impl Value {
+    /// The value that is this text. What a long one is read as, as a list or as a dictionary, all copies share.
+    pub fn of_shared(alloc: Global, text: RcStr) -> Result<Value, AllocError>
+        ensures { IfOk result (λ v. v ≡ text_of text) }
     {
-        if let Some(items) = self.kept_list() {
-            return Ok(items.clone()?);
-        }
-        let items = read_text(alloc, self.text.clone()?)?;
-        let row = Row {
-            items: items.clone()?,
-        };
-        let _refused = self.list.set(row);
-        Ok(items)
-    }
-
-    /// The dictionary that the text is read as. It is read once for all who hold the text.
-    #[tactic(auto, unfolding(tcl_pages::specs::Dictionaries::pairs_of))]
-    pub(crate) fn pairs(&self, alloc: Global) -> Result<Rc<Pairs>, Fault>
-        ensures read { Answers (λ p. pairs_in p.value) result (pairs_of (text_of self.now.text)) }
-        ensures same { IfOk result (λ p. pairs_text p.value ≡ text_of self.now.text) }
-        ensures kept { IfOk result (λ p. ArePaired p.value) }
-    {
-        if let Some(pairs) = self.kept_pairs() {
-            return Ok(pairs.clone()?);
-        }
-        let items = self.items(alloc)?;
-        let pairs = paired(alloc, &items)?;
-        let dictionary = Dictionary {
-            pairs: pairs.clone()?,
-        };
-        let _refused = self.dictionary.set(dictionary);
-        Ok(pairs)
+        let ascii = text.as_str().is_ascii();
+        Ok(Value {
+            held: with_room(alloc, text, ascii)?,
+        })
     }
 }

@@ -7,7 +7,7 @@ ghost use Rattle.tcl_values.specs.Kept.{texts};
 
 use crate::element::{Element, Items};
 use crate::items::forget_text;
-use crate::literal::is_text;
+use crate::readings::is_text;
 use crate::value::{Held, Value};
 use std::alloc::AllocError;
 use std::marker::Model;

@@ -60,6 +60,7 @@ impl Held {
             Held::Text(text) => is_word(text.as_str()),
             Held::Ascii(text) => is_word(text.as_str()),
             Held::Grown(grown) => is_word(grown.text.as_str()),
+            Held::Composed(composed) => is_word(composed.growing.text.as_str()),
             _ => false,
         }
     }

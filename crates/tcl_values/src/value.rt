@@ -8,6 +8,7 @@ ghost use Rattle.tcl_chars.specs.Whole.{whole_of};
 ghost use Rattle.tcl_list.specs.Texts.{text_of};
 ghost use Rattle.tcl_values.specs.Shape.{held_text, is_dict, is_row, IsGrown, IsHeld};
 
+use crate::composed::{Composed, extend};
 use crate::element::{Items, Pairs};
 use crate::items::{row_text, show};
 use crate::literal::Literal;
@@ -33,8 +34,10 @@ pub(crate) enum Held {
     Text(RcStr),
     /// A text that is known to be ASCII: its characters are its bytes.
     Ascii(RcStr),
-    /// A text that grows at its end.
+    /// A text that has grown under a key of a dictionary, and grows at its end.
     Grown(Rc<Growing>),
+    /// A text that was composed, and grows at its end.
+    Composed(Rc<Composed>),
     /// A text of a script, which is read as a number, as a list or as a dictionary once for all copies.
     Literal(Rc<Literal>),
     /// A list.
@@ -74,8 +77,21 @@ impl Growing {
         Growing { text, ascii }
     }
 
+    /// The text, where it is known to be ASCII.
+    fn known_ascii(&self) -> Option<&str>
+        requires { IsGrown self.now }
+        ensures text { IfSome result (λ t. t.now ≡ chars (string_bytes self.now.text)) }
+        ensures ascii { IfSome result (λ t. IsAscii t.now) }
+    {
+        if self.ascii {
+            Some(self.text.as_str())
+        } else {
+            None
+        }
+    }
+
     /// Writes a text at its end. Of what stands there already nothing is looked at.
-    fn push(&mut self, more: &str) -> Result<(), AllocError>
+    pub(crate) fn push(&mut self, more: &str) -> Result<(), AllocError>
         requires { IsGrown self.old }
         ensures done { OnOk result (chars (string_bytes self.new.text)
             ≡ chars (string_bytes self.old.text) ++ chars more.now) }
@@ -175,6 +191,7 @@ impl Held {
             Held::Text(text) => text.clone(),
             Held::Ascii(text) => text.clone(),
             Held::Grown(grown) => RcStr::from_str(alloc, grown.text.as_str()),
+            Held::Composed(composed) => RcStr::from_str(alloc, composed.growing.text.as_str()),
             Held::Literal(literal) => literal.text.clone(),
             Held::Row(row) => row_text(row, alloc),
             Held::Dict(pairs) => dict_text(pairs, alloc),
@@ -209,7 +226,7 @@ impl Value {
         ensures { IfOk result (λ v. v ≡ chars (string_bytes text)) }
     {
         Ok(Value {
-            held: Held::Grown(Rc::new(alloc, Growing::new(text))?),
+            held: Held::Composed(Rc::new(alloc, Composed::new(text))?),
         })
     }
 
@@ -290,7 +307,20 @@ impl Value {
     }
 
     /// A value of the same text. What is kept is shared.
+    #[inline(always)]
     pub fn copy(&self) -> Result<Value, AllocError>
+        ensures { IfOk result (λ v. v ≡ self.now) }
+    {
+        if let Held::Number(n) = &self.held {
+            return Ok(Value {
+                held: Held::Number(*n),
+            });
+        }
+        self.share()
+    }
+
+    /// A value of the same text, with what is kept of this one.
+    fn share(&self) -> Result<Value, AllocError>
         ensures { IfOk result (λ v. v ≡ self.now) }
     {
         let held = match &self.held {
@@ -298,6 +328,7 @@ impl Value {
             Held::Text(text) => Held::Text(text.clone()?),
             Held::Ascii(text) => Held::Ascii(text.clone()?),
             Held::Grown(grown) => Held::Grown(grown.clone()?),
+            Held::Composed(composed) => Held::Composed(composed.clone()?),
             Held::Literal(literal) => Held::Literal(literal.clone()?),
             Held::Row(row) => Held::Row(row.clone()?),
             Held::Dict(pairs) => Held::Dict(pairs.clone()?),
@@ -314,6 +345,7 @@ impl Value {
             Held::Text(text) => Some(text.as_str()),
             Held::Ascii(text) => Some(text.as_str()),
             Held::Grown(grown) => Some(grown.text.as_str()),
+            Held::Composed(composed) => Some(composed.growing.text.as_str()),
             Held::Literal(literal) => Some(literal.text.as_str()),
             Held::Row(row) => match &row.text {
                 Some(text) => Some(text.as_str()),
@@ -334,11 +366,8 @@ impl Value {
     {
         match &self.held {
             Held::Ascii(text) => Some(text.as_str()),
-            Held::Grown(grown) => if grown.ascii {
-                Some(grown.text.as_str())
-            } else {
-                None
-            },
+            Held::Grown(grown) => grown.known_ascii(),
+            Held::Composed(composed) => composed.growing.known_ascii(),
             Held::Literal(literal) => literal.known_ascii(),
             _ => None,
         }
@@ -355,10 +384,11 @@ impl Value {
     {
         match &mut self.held {
             Held::Grown(grown) => grow(grown, more),
+            Held::Composed(composed) => extend(composed, more),
             held => {
                 let text = held.text(alloc)?;
-                let grown = Growing::new(joined(alloc, text.as_str(), more)?);
-                *held = Held::Grown(Rc::new(alloc, grown)?);
+                let composed = Composed::new(joined(alloc, text.as_str(), more)?);
+                *held = Held::Composed(Rc::new(alloc, composed)?);
                 Ok(())
             }
         }
