@@ -4,7 +4,7 @@
 //! What is kept is shared by copies of a value and copied where one of them is changed. A change of a value that has no copy is
 //! made in place.
 //!
-//! - [`Value`]: made by `of_text`, `of_literal`, `of_string`, `of_int`, `of_list`; copied by `copy`. Read by `text`, `shown` and `ascii`, as a number by
+//! - [`Value`]: made by `of_text`, `of_shared`, `of_literal`, `of_string`, `of_int`, `of_list`; copied by `copy`. Read by `text`, `shown` and `ascii`, as a number by
 //!   `whole`, and without any reading by `number` and `known_number`, as a list by `count`, `item`, `row`, `list`, `range`. Changed by
 //!   `append` at the end of the text, and as a list by `push`, `replace_item` and `splice`; `take_item` lends an element to a change.
 //!   As a dictionary made by `of_dict`, read by `dict_size`, `dict_get`, `dictionary`, changed by `dict_put`, `dict_remove` and

@@ -1,4 +1,4 @@
-//! Texts of a script, whose readings all their copies share.
+//! Texts of a script and other long ones, whose readings all their copies share.
 
 ghost use Rattle.std.specs.Prelude.{◌≡◌, IfOk, IfSome};
 ghost use Rattle.std.specs.Bool.{OnTrue};
@@ -14,7 +14,7 @@ use std::alloc::{AllocError, Global};
 use std::rc::{Rc, RcStr};
 use tcl_chars::{Dialect, Whole, read_whole};
 
-/// A text of a script. What it is read as is kept beside it, once it has been read, for all who hold the text.
+/// A text of a script, or another long one. What it is read as is kept beside it, once it has been read, for all who hold the text.
 #[derive(Drop)]
 pub(crate) struct Literal {
     pub(crate) text: RcStr,
