@@ -31,7 +31,7 @@ fn element_behind(
     if place >= elements.len() - gone {
         return empty(alloc);
     }
-    elements[gone + place].copy()
+    elements[gone + place].value(alloc)
 }
 
 // The same of a list that is shared.

@@ -22,7 +22,7 @@ fn element_or_empty(alloc: Global, elements: &[Element], place: i128) -> Result<
     if place < 0 || place >= i128::from(elements.len() as u64) {
         return empty(alloc);
     }
-    elements[place as usize].copy()
+    elements[place as usize].value(alloc)
 }
 
 /// The element of a list at the place that an index says, and the empty text where there is none.
