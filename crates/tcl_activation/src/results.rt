@@ -182,7 +182,7 @@ impl Results {
     }
 
     /// Another one in place of the newest.
-    #[inline]
+    #[inline(always)]
     pub fn replace(&mut self, last: Last)
         requires { 1 ≤ length self.old }
         ensures { self.new ≡ last ∷ drop 1 self.old }
@@ -192,7 +192,7 @@ impl Results {
     }
 
     /// The newest is let go.
-    #[inline]
+    #[inline(always)]
     pub fn drop_newest(&mut self)
         requires { 1 ≤ length self.old }
         ensures { self.new ≡ drop 1 self.old }
@@ -211,7 +211,7 @@ impl Results {
     }
 
     /// The newest is taken away.
-    #[inline]
+    #[inline(always)]
     pub fn pop(&mut self) -> Last
         requires { 1 ≤ length self.old }
         ensures { self.old ≡ result ∷ self.new }

@@ -68,6 +68,7 @@ impl Frames {
     }
 
     /// The same as `find`: quick where the variable stands where the hint says.
+    #[inline(always)]
     pub fn find_near(&self, name: &str, hint: &Hint) -> Result<&Value, Refusal>
         ensures found { (cs : Commands) → IfOk result (λ value. get (store_of cs self.now) (chars name.now) ≡ Ok value.now) }
         ensures refused { (cs : Commands) → IfErr result (λ refusal. get (store_of cs self.now) (chars name.now) ≡ Err refusal) }
@@ -120,6 +121,7 @@ impl Frames {
     }
 
     /// The same as `put`: quick where the variable stands where the hint says.
+    #[inline(always)]
     pub fn put_near(
         &mut self,
         alloc: Global,

@@ -123,6 +123,23 @@ pub(crate) fn put_in(
     if let Some(variable) = variables.get_mut_near(name, hint) {
         return variable.write(alloc, part, value);
     }
+    put_anew(variables, alloc, name, part, value)
+}
+
+// The same, where the variable is missing.
+#[inline(never)]
+fn put_anew(
+    variables: &mut PlacedNames<Variable>,
+    alloc: Global,
+    name: &str,
+    part: Part<'_>,
+    value: Value,
+) -> Result<(), VarFault>
+    requires { map.get variables.old (chars name.now) ≡ None }
+    ensures done { OnOk result (stored_in variables.old (chars name.now) (put_part (map.get variables.old (chars name.now)) (part_of part.entry) value) ≡ Ok variables.new) }
+    ensures refused { IfErr result (Refuses (put_part (map.get variables.old (chars name.now)) (part_of part.entry) value)) }
+    ensures same { OnErr result (variables.new ≡ variables.old) }
+{
     let variable = made(alloc, part, value)?;
     variables.insert(alloc, name, variable)?;
     Ok(())
