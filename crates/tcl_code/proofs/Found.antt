@@ -1,18 +1,11 @@
 -- The search's beginning and its end.
-use Rattle.std.proofs.Common.{◌≡◌, ℕ, zero, suc, ◌-◌, ◌<◌, List, [], ◌∷◌, ◌++◌, length, take, Option, Some, None, Bool, true, false, refl, sym, ap, ◌∙◌, subst, arith, ◌⊎◌, inl, inr}
-use Rattle.std.specs.Prelude.{slice_get, get_or, IfSome}
+use Rattle.std.proofs.Common.{◌≡◌, ℕ, zero, suc, ◌-◌, ◌<◌, List, [], ◌∷◌, ◌++◌, take, Option, Some, None, Bool, true, false, refl, sym, ap, ◌∙◌, subst, arith, ◌⊎◌, inl, inr}
+use Rattle.std.specs.Prelude.{slice_get}
 use Rattle.tcl_code.specs.Instructions.{Instruction}
 use Rattle.tcl_code.specs.declared.shape.Shape.{Shape}
 use Rattle.tcl_code.specs.Valid.{Target, target, HasWay, ways_at, ComesIn, Covers, IsWithin, Valid, bare}
 use Rattle.tcl_code.specs.Search.{Has, Shapes, shape_at, Noted, Sound, Followed, Settled, Closed}
-use Rattle.tcl_code.proofs.Noting.{at_read}
 use Rattle.tcl_code.proofs.Settling.{way_reached}
-
-pub none_push : (xs : Shapes) → ((p : ℕ) → shape_at xs p ≡ None) → (p : ℕ) → shape_at (xs ++ None ∷ []) p ≡ None
-none_push [] h zero = refl
-none_push [] h (suc p) = refl
-none_push (x ∷ xs) h zero = h zero
-none_push (x ∷ xs) h (suc p) = none_push xs (λ q. h (suc q)) p
 
 -- ---- the start
 
@@ -78,7 +71,7 @@ nothing_popped (x ∷ xs) ys n e f g = g ∙ ap (λ z. z ++ []) (f ∙ ap (λ k.
 
 -- ---- a shape that covers those that were found
 
-within_on : (a b c : Shape) → IsWithin a b → IsWithin b c → IsWithin a c
+pub within_on : (a b c : Shape) → IsWithin a b → IsWithin b c → IsWithin a c
 within_on a b c h k = record {
   height = omega (arith, h.height, k.height);
   lists = omega (arith, h.lists, k.lists);
@@ -87,18 +80,8 @@ within_on a b c h k = record {
   loops = omega (arith, h.loops, k.loops);
 }
 
-within_some : (o : Option Shape) (s top : Shape) → o ≡ Some s → IfSome o (λ t. IsWithin t top) → IsWithin s top
-within_some None s top e h = absurd (cc)
-within_some (Some t) s top e h = let f : t ≡ s = cc in let P : Shape → Type 0 = λ x. IsWithin x top in subst P f h
-
-earlier_or_here : (p n : ℕ) → p < suc n → (p < n) ⊎ (p ≡ n)
+pub earlier_or_here : (p n : ℕ) → p < suc n → (p < n) ⊎ (p ≡ n)
 earlier_or_here zero zero l = inr refl
 earlier_or_here zero (suc n) l = inl (omega arith)
 earlier_or_here (suc p) zero l = absurd (omega arith)
 earlier_or_here (suc p) (suc n) l = elim (earlier_or_here p n (omega arith)) [ inl h ↦ inl (omega arith) | inr e ↦ inr (ap suc e) ]
-
-pub covered_more : (shapes : Shapes) (n : ℕ) (o : Option Shape) (old new : Shape) → n < length shapes → o ≡ get_or shapes n o → ((p : ℕ) (s : Shape) → p < n → shape_at shapes p ≡ Some s → IsWithin s old) → IsWithin old new → IfSome o (λ t. IsWithin t new) → (p : ℕ) (s : Shape) → p < suc n → shape_at shapes p ≡ Some s → IsWithin s new
-covered_more shapes n o old new l g h w here p s k at = elim (earlier_or_here p n k) [
-  | inl e ↦ within_on s old new (h p s e at) w
-  | inr e ↦ within_some o s new (sym (at_read shapes n o l g) ∙ ap (shape_at shapes) (sym e) ∙ at) here
-]

@@ -5,6 +5,7 @@ pub mod Found
 pub mod Guarding
 pub mod Holding
 pub mod Noting
+pub mod Numbering
 pub mod Place
 pub mod Placing
 pub mod Reading

@@ -1,7 +1,9 @@
 -- What is noted in the search.
-use Rattle.std.proofs.Common.{◌≡◌, ℕ, zero, suc, ◌+◌, ◌≤◌, ◌<◌, List, [], ◌∷◌, ◌++◌, length, Option, Some, None, Bool, true, false, refl, sym, ap, ◌∙◌, subst, arith, set, get_or, ◌⊎◌, inl, inr, IsTrue, ◌↔◌, cond, length-set, length-append}
+use Rattle.std.proofs.Common.{◌≡◌, ℕ, zero, suc, ◌+◌, ◌≤◌, ◌<◌, List, [], ◌∷◌, ◌++◌, length, Option, Some, None, Bool, true, false, refl, sym, ap, ◌∙◌, subst, arith, set, get_or, ◌⊎◌, inl, inr, IsTrue, ◌↔◌, cond, length-set, take, drop}
 use Rattle.std.specs.Prelude.{slice_get}
-use Rattle.std.proofs.lemmas.Option.{slice_get_read}
+use Rattle.std.specs.List.{insert}
+use Rattle.std.proofs.lemmas.List.{take-append-drop}
+use Rattle.std.proofs.lemmas.List.Edits.{length-insert}
 use Rattle.std.proofs.lemmas.List.Sums.{sum_by-set}
 use Rattle.tcl_code.specs.declared.shape.Shape.{Shape}
 use Rattle.tcl_code.specs.Search.{Has, Shapes, flat, shape_at, unknown, left_over, Noted}
@@ -32,9 +34,6 @@ get_other (x ∷ xs) zero (suc j) v h = refl
 get_other (x ∷ xs) (suc i) zero v h = refl
 get_other (x ∷ xs) (suc i) (suc j) v h = get_other xs i j v (λ e. h (ap suc e))
 
-pub at_read : (shapes : Shapes) (p : ℕ) (o : Option Shape) → p < length shapes → o ≡ get_or shapes p o → shape_at shapes p ≡ o
-at_read shapes p o l e = ap flat (slice_get_read shapes (length shapes) p o refl l e)
-
 true_only : (a b : Shape) (r : Bool) → (IsTrue r ↔ (a ≡ b)) → r ≡ true → a ≡ b
 true_only a b true h e = h.0 refl
 true_only a b false h e = absurd (cc)
@@ -44,9 +43,9 @@ false_only a b true h e = absurd (cc)
 false_only a b false h e = λ k. absurd (let t : false ≡ true = h.1 k in cc)
 
 -- where a shape stands already
-pub noted_there : (shapes : Shapes) (pending : List ℕ) (q : ℕ) (s : Shape) (r : Bool) (t : Shape) (o : Option Shape) → q < length shapes → o ≡ get_or shapes q o → o ≡ Some t → (IsTrue r ↔ (t ≡ s)) → Noted r (q ∷ []) s shapes pending shapes pending
-noted_there shapes pending q s r t o l e is h =
-    let at : shape_at shapes q ≡ Some t = at_read shapes q o l e ∙ is in
+pub noted_there : (shapes : Shapes) (pending : List ℕ) (q : ℕ) (s : Shape) (r : Bool) (t : Shape) (o : Option Shape) → o ≡ shape_at shapes q → o ≡ Some t → (IsTrue r ↔ (t ≡ s)) → Noted r (q ∷ []) s shapes pending shapes pending
+noted_there shapes pending q s r t o e is h =
+    let at : shape_at shapes q ≡ Some t = sym e ∙ is in
     record {
       there = λ y p m. elim m [ inl k ↦ ap (shape_at shapes) k ∙ at ∙ ap Some (true_only t s r h y) | inr k ↦ elim k [ ] ];
       clash = λ n. (q, t, inl refl, at, false_only t s r h n);
@@ -80,26 +79,48 @@ only_new shapes new_pending q s l h p t k = elim (same_or p q) [
 abbrev weight : Option Shape → ℕ
 weight o = cond (unknown o) 1 0
 
-fewer : (shapes : Shapes) (pending new_pending : List ℕ) (q : ℕ) (o : Option Shape) (v : Shape) → q < length shapes → o ≡ get_or shapes q o → o ≡ None → new_pending ≡ pending ++ q ∷ [] → left_over (set shapes q (Some v)) new_pending ≤ left_over shapes pending
-fewer shapes pending new_pending q o v l e n k =
-    let a = sum_by-set weight shapes q (Some v) o l in
-    let b : weight (get_or shapes q o) ≡ weight None = ap weight (sym e ∙ n) in
-    let d : length new_pending ≡ length pending + 1 = ap length k ∙ length-append pending (q ∷ []) in
+get_at : (shapes : Shapes) (q : ℕ) (d : Option Shape) → q < length shapes → get_or shapes q d ≡ shape_at shapes q
+get_at [] q d l = absurd (omega arith)
+get_at (x ∷ xs) zero d l = refl
+get_at (x ∷ xs) (suc q) d l = get_at xs q d (omega arith)
+
+fewer : (shapes : Shapes) (pending new_pending : List ℕ) (q : ℕ) (v : Shape) → q < length shapes → shape_at shapes q ≡ None → length new_pending ≡ length pending + 1 → left_over (set shapes q (Some v)) new_pending ≤ left_over shapes pending
+fewer shapes pending new_pending q v l none d =
+    let a = sum_by-set weight shapes q (Some v) None l in
+    let b : weight (get_or shapes q None) ≡ weight None = ap weight (get_at shapes q None l ∙ none) in
     omega (arith, a, b, d)
 
+noted_set : (shapes : Shapes) (pending new_pending : List ℕ) (q : ℕ) (s : Shape) → q < length shapes → shape_at shapes q ≡ None → Has new_pending q → ((p : ℕ) → Has pending p → Has new_pending p) → length new_pending ≡ length pending + 1 → Noted true (q ∷ []) s shapes pending (set shapes q (Some s)) new_pending
+noted_set shapes pending new_pending q s l none there waits long = record {
+  there = λ y p m. elim m [ inl j ↦ ap (shape_at (set shapes q (Some s))) j ∙ ap flat (get_same shapes q (Some s) l) | inr j ↦ elim j [ ] ];
+  clash = λ t. absurd (cc);
+  kept = kept_new shapes q s none;
+  only = only_new shapes new_pending q s l there;
+  waits = waits;
+  long = length-set shapes q (Some s);
+  less = fewer shapes pending new_pending q s l none long;
+}
+
 -- where no shape stands yet
-pub noted_new : (shapes : Shapes) (pending new_pending : List ℕ) (q : ℕ) (s : Shape) (o : Option Shape) → q < length shapes → o ≡ get_or shapes q o → o ≡ None → new_pending ≡ pending ++ q ∷ [] → Noted true (q ∷ []) s shapes pending (set shapes q (Some s)) new_pending
-noted_new shapes pending new_pending q s o l e n k =
-    let P : List ℕ → Type 0 = λ z. Has z q in
-    record {
-      there = λ y p m. elim m [ inl j ↦ ap (shape_at (set shapes q (Some s))) j ∙ ap flat (get_same shapes q (Some s) l) | inr j ↦ elim j [ ] ];
-      clash = λ t. absurd (cc);
-      kept = kept_new shapes q s (at_read shapes q o l e ∙ n);
-      only = only_new shapes new_pending q s l (subst P (sym k) (has_right pending (q ∷ []) q (inl refl)));
-      waits = λ p h. let Q : List ℕ → Type 0 = λ z. Has z p in subst Q (sym k) (has_left pending (q ∷ []) p h);
-      long = length-set shapes q (Some s);
-      less = fewer shapes pending new_pending q o s l e n k;
-    }
+pub noted_new : (shapes new : Shapes) (pending new_pending : List ℕ) (q : ℕ) (s : Shape) (o : Option Shape) → q < length shapes → o ≡ shape_at shapes q → o ≡ None → Has new_pending q → ((p : ℕ) → Has pending p → Has new_pending p) → length new_pending ≡ length pending + 1 → new ≡ set shapes q (Some s) → Noted true (q ∷ []) s shapes pending new new_pending
+noted_new shapes new pending new_pending q s o l e n there waits long put =
+    let P : Shapes → Type 0 = λ x. Noted true (q ∷ []) s shapes pending x new_pending in
+    subst P (sym put) (noted_set shapes pending new_pending q s l (sym e ∙ n) there waits long)
+
+-- a place that is put among those that wait
+pub waits_there : (old new : List ℕ) (i q : ℕ) → new ≡ insert old i q → Has new q
+waits_there old new i q e = let P : List ℕ → Type 0 = λ x. Has x q in subst P (sym e) (has_right (take i old) (q ∷ drop i old) q (inl refl))
+
+waits_in : (xs ys : List ℕ) (p q : ℕ) → Has (xs ++ ys) p → Has (xs ++ q ∷ ys) p
+waits_in xs ys p q h = elim (has_either xs ys p h) [ inl a ↦ has_left xs (q ∷ ys) p a | inr b ↦ has_right xs (q ∷ ys) p (inr b) ]
+
+pub still_waits : (old new : List ℕ) (i q : ℕ) → new ≡ insert old i q → (p : ℕ) → Has old p → Has new p
+still_waits old new i q e p h =
+    let P : List ℕ → Type 0 = λ x. Has x p in
+    subst P (sym e) (waits_in (take i old) (drop i old) p q (subst P (sym (take-append-drop i old)) h))
+
+pub one_more_waits : (old new : List ℕ) (i q : ℕ) → i ≤ length old → new ≡ insert old i q → length new ≡ length old + 1
+one_more_waits old new i q l e = ap length e ∙ length-insert old i q l
 
 pub noted_none : (s : Shape) (shapes : Shapes) (pending : List ℕ) → Noted true [] s shapes pending shapes pending
 noted_none s shapes pending = record {

@@ -1,12 +1,11 @@
 -- What a place that was looked at adds.
-use Rattle.std.proofs.Common.{◌≡◌, ℕ, suc, ◌≤◌, ◌<◌, List, [], ◌∷◌, ◌++◌, length, map, Option, Some, None, Bool, true, false, refl, sym, ap, ◌∙◌, subst, get_or, ◌⊎◌, inl, inr, IsTrue, ◌↔◌}
+use Rattle.std.proofs.Common.{◌≡◌, ℕ, suc, List, [], ◌∷◌, ◌++◌, length, map, Option, Some, None, Bool, true, false, refl, sym, ap, ◌∙◌, subst, ◌⊎◌, inl, inr, IsTrue, ◌↔◌}
 use Rattle.std.specs.Prelude.{slice_get}
-use Rattle.std.proofs.lemmas.Option.{slice_get_past}
 use Rattle.tcl_code.specs.Instructions.{Instruction}
 use Rattle.tcl_code.specs.declared.shape.Shape.{Shape}
 use Rattle.tcl_code.specs.Valid.{Target, target, targets, inner_targets, left_by, inner, IsFine, IsInside, Ways, ways_of, ways_at, HasWay, EachWay, Comes, Valid, FineOrEnd, bare}
-use Rattle.tcl_code.specs.Search.{Has, EachTarget, StaysInside, reached, begun, Shapes, flat, shape_at, Noted, Sound, Followed, Settled, Closed}
-use Rattle.tcl_code.proofs.Noting.{has_either, at_read}
+use Rattle.tcl_code.specs.Search.{Has, EachTarget, StaysInside, reached, begun, Shapes, shape_at, Noted, Sound, Followed, Settled, Closed}
+use Rattle.tcl_code.proofs.Noting.{has_either}
 
 -- ---- ways and targets
 
@@ -218,11 +217,3 @@ after_not_suited code shapes place s i r at sound is h e v = not_fine code shape
 
 pub after_outside : (code : List Instruction) (shapes : Shapes) (place : ℕ) (s : Shape) (i : Instruction) (r : Bool) → shape_at shapes place ≡ Some s → Sound code shapes → slice_get code place ≡ Some i → (IsTrue r ↔ StaysInside place (length code) i) → r ≡ false → Valid code → ⊥
 after_outside code shapes place s i r at sound is h e v = not_fine code shapes [] place s at sound (λ k. let u : r ≡ true = h.1 (inside_by code place s i (is_fine code place s (Some i) is k)) in absurd (cc)) v
-
--- ---- what the function reads
-
-pub read_shape : (xs shapes : Shapes) (p : ℕ) (o o' : Option Shape) → xs ≡ shapes → p < length xs → o ≡ get_or xs p o → o ≡ o' → shape_at shapes p ≡ o'
-read_shape xs shapes p o o' e l g h = ap (λ z. shape_at z p) (sym e) ∙ at_read xs p o l g ∙ h
-
-pub read_none : (xs shapes : Shapes) (p : ℕ) → xs ≡ shapes → length xs ≤ p → shape_at shapes p ≡ None
-read_none xs shapes p e l = ap (λ z. shape_at z p) (sym e) ∙ ap flat (slice_get_past xs p l)

@@ -1,7 +1,9 @@
 -- What the search for shapes has found.
-use Rattle.std.specs.Prelude.{ℕ, ◌+◌, ◌*◌, ◌≤◌, ◌≡◌, List, [], ◌∷◌, ◌++◌, length, map, Option, Some, None, slice_get, ◌⊎◌, Bool, true, false, count_by}
+use Rattle.std.specs.Prelude.{ℕ, zero, suc, ◌+◌, ◌*◌, ◌≤◌, ◌≡◌, List, [], ◌∷◌, ◌++◌, length, map, Option, Some, None, slice_get, ◌⊎◌, Bool, true, false, count_by}
 use Rattle.tcl_code.specs.Instructions.{Instruction}
 use Rattle.tcl_code.specs.Valid.{Comes, Covers, FineOrEnd, IsInside, Valid, Target, target, targets, inner_targets, left_by, inner}
+use Rattle.tcl_code.specs.declared.numbers.Numbers.{Numbers}
+use Rattle.tcl_code.specs.declared.numbers.Numbers.TheVariants as numbers
 use Rattle.tcl_code.specs.declared.shape.Reached.{Reached}
 use Rattle.tcl_code.specs.declared.shape.Shape.{Shape}
 
@@ -41,6 +43,31 @@ flat (Some o) = o
 
 abbrev pub shape_at : Shapes → ℕ → Option Shape
 shape_at shapes place = flat (slice_get shapes place)
+
+-- ---- how the shapes are kept: each once, and a number for each place
+
+abbrev pub numbers_in : Numbers → List ℕ
+numbers_in (numbers.Narrow v) = v.items
+numbers_in (numbers.Wide v) = v.items
+
+-- the shape of a number: of 0 there is none
+abbrev pub numbered : List Shape → ℕ → Option Shape
+numbered shapes zero = None
+numbered shapes (suc n) = slice_get shapes n
+
+abbrev pub all_numbered : List Shape → List ℕ → Shapes
+all_numbered shapes ns = map (numbered shapes) ns
+
+-- numbers up to one
+abbrev pub AllWithin : ℕ → List ℕ → Type 0
+AllWithin count [] = Unit {0}
+AllWithin count (n ∷ ns) = (n ≤ count) × AllWithin count ns
+
+-- shapes came at the end, or none did
+abbrev pub HasMore : List Shape → List Shape → Type 0
+HasMore old new = (more : List Shape) × (new ≡ old ++ more)
+
+-- ---- what is looked at
 
 abbrev pub unknown : Option Shape → Bool
 unknown None = true

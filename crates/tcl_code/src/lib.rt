@@ -11,6 +11,8 @@ mod code;
 mod inlined;
 mod instr;
 pub mod laws;
+mod notes;
+mod numbers;
 mod recent;
 mod search;
 mod shape;

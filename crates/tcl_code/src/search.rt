@@ -1,34 +1,58 @@
 //! The search for the shape at each place of a code, over all ways from the start.
 
 ghost use Rattle.std.specs.Prelude.{◌≡◌, ◌+◌, ◌<◌, ◌≤◌, ◌++◌, ◌∷◌, [], false, true, IfOk, IfSome, List, None, Some, length, ℕ};
-ghost use Rattle.tcl_code.specs.Search.{Closed, Decides, Noted, Sound, left_over, listed, maybe_one, shape_at};
+ghost use Rattle.tcl_code.specs.Search.{Closed, Decides, Has, Noted, Sound, left_over, listed, maybe_one, shape_at};
 ghost use Rattle.tcl_code.specs.Shown.{instructions};
 ghost use Rattle.tcl_code.specs.Valid.{IsWithin, Valid, bare};
 ghost use Rattle.tcl_pages.specs.Texts.{Text};
 ghost use Rattle.tcl_code.specs.declared.shape.Shape.{Shape};
 
 use crate::instr::Instr;
+use crate::notes::Found;
 use crate::shape::{Reached, Shape, inner_at, leads_to, stays_inside};
 use std::alloc::{AllocError, Global};
 
 /// The shapes that were found, and the places that weren't looked at yet.
 #[derive(Drop)]
 struct Search {
-    shapes: Vec<Option<Shape>>,
+    shapes: Found,
     pending: Vec<usize>,
+}
+
+/// Where a place stands among those that wait, of which the farthest stand first.
+fn rank(pending: &[usize], place: usize) -> usize
+    ensures { result ≤ length pending.now }
+{
+    for index in (0..pending.len()).rev() {
+        if pending[index] >= place {
+            return index + 1;
+        }
+    }
+    0
+}
+
+/// Has a place wait.
+fn wait(pending: &mut Vec<usize>, place: usize) -> Result<(), AllocError>
+    ensures there { IfOk result (λ _. Has pending.new.items place) }
+    ensures kept { IfOk result (λ _. (p : ℕ) → Has pending.old.items p → Has pending.new.items p) }
+    ensures long { IfOk result (λ _. length pending.new.items ≡ length pending.old.items + 1) }
+{
+    let index = rank(pending.as_slice(), place);
+    pending.insert(index, place)?;
+    Ok(())
 }
 
 impl Search {
     /// Does a shape fit what was found at a place? It is noted where nothing was.
     fn note(&mut self, place: usize, shape: Shape) -> Result<bool, AllocError>
-        requires { place < length self.old.shapes.items }
-        ensures { IfOk result (λ fits. Noted fits (place ∷ []) shape self.old.shapes.items self.old.pending.items self.new.shapes.items self.new.pending.items) }
+        requires { place < length self.old.shapes }
+        ensures { IfOk result (λ fits. Noted fits (place ∷ []) shape self.old.shapes self.old.pending.items self.new.shapes self.new.pending.items) }
     {
-        match &self.shapes[place] {
+        match self.shapes.at(place) {
             Some(found) => Ok(found.same(shape)),
             None => {
-                self.pending.push(place)?;
-                self.shapes[place] = Some(shape);
+                wait(&mut self.pending, place)?;
+                self.shapes.put(place, shape)?;
                 Ok(true)
             }
         }
@@ -36,8 +60,8 @@ impl Search {
 
     /// The same at a place, if there is one.
     fn note_at(&mut self, place: Option<usize>, shape: Shape) -> Result<bool, AllocError>
-        requires { IfSome place (λ p. p < length self.old.shapes.items) }
-        ensures { IfOk result (λ fits. Noted fits (maybe_one place) shape self.old.shapes.items self.old.pending.items self.new.shapes.items self.new.pending.items) }
+        requires { IfSome place (λ p. p < length self.old.shapes) }
+        ensures { IfOk result (λ fits. Noted fits (maybe_one place) shape self.old.shapes self.old.pending.items self.new.shapes self.new.pending.items) }
     {
         match place {
             Some(place) => self.note(place, shape),
@@ -47,9 +71,9 @@ impl Search {
 
     /// The same at each place that is reached.
     fn note_all(&mut self, reached: Reached, shape: Shape) -> Result<bool, AllocError>
-        requires first { IfSome reached.first (λ p. p < length self.old.shapes.items) }
-        requires second { IfSome reached.second (λ p. p < length self.old.shapes.items) }
-        ensures { IfOk result (λ fits. Noted fits (listed reached) shape self.old.shapes.items self.old.pending.items self.new.shapes.items self.new.pending.items) }
+        requires first { IfSome reached.first (λ p. p < length self.old.shapes) }
+        requires second { IfSome reached.second (λ p. p < length self.old.shapes) }
+        ensures { IfOk result (λ fits. Noted fits (listed reached) shape self.old.shapes self.old.pending.items self.new.shapes self.new.pending.items) }
     {
         if !self.note_at(reached.first, shape)? {
             return Ok(false);
@@ -60,19 +84,18 @@ impl Search {
 
     /// Looks at a place: does its instruction find what it needs and lead inside, and does all that it leads to fit?
     fn settle(&mut self, code: &[Instr], place: usize) -> Result<bool, AllocError>
-        requires sound { Sound (instructions [] code.now) self.old.shapes.items }
-        requires closed { Closed (instructions [] code.now) self.old.shapes.items (self.old.pending.items ++ place ∷ []) }
-        requires long { length self.old.shapes.items ≡ length code.now + 1 }
-        ensures yes { IfOk result (λ fits. fits ≡ true → Sound (instructions [] code.now) self.new.shapes.items × Closed (instructions [] code.now) self.new.shapes.items self.new.pending.items) }
+        requires sound { Sound (instructions [] code.now) self.old.shapes }
+        requires closed { Closed (instructions [] code.now) self.old.shapes (self.old.pending.items ++ place ∷ []) }
+        requires long { length self.old.shapes ≡ length code.now + 1 }
+        ensures yes { IfOk result (λ fits. fits ≡ true → Sound (instructions [] code.now) self.new.shapes × Closed (instructions [] code.now) self.new.shapes self.new.pending.items) }
         ensures no { IfOk result (λ fits. fits ≡ false → Valid (instructions [] code.now) → ⊥) }
-        ensures kept { IfOk result (λ _. (p : ℕ) (s : Shape) → shape_at self.old.shapes.items p ≡ Some s → shape_at self.new.shapes.items p ≡ Some s) }
-        ensures long { IfOk result (λ _. length self.new.shapes.items ≡ length self.old.shapes.items) }
-        ensures less { IfOk result (λ _. left_over self.new.shapes.items self.new.pending.items ≤ left_over self.old.shapes.items self.old.pending.items) }
+        ensures kept { IfOk result (λ _. (p : ℕ) (s : Shape) → shape_at self.old.shapes p ≡ Some s → shape_at self.new.shapes p ≡ Some s) }
+        ensures long { IfOk result (λ _. length self.new.shapes ≡ length self.old.shapes) }
+        ensures less { IfOk result (λ _. left_over self.new.shapes self.new.pending.items ≤ left_over self.old.shapes self.old.pending.items) }
     {
-        let shape = match self.shapes.get(place) {
+        let shape = match self.shapes.at(place) {
             None => return Ok(true),
-            Some(None) => return Ok(true),
-            Some(Some(shape)) => *shape,
+            Some(shape) => shape,
         };
         match code.get(place) {
             None => Ok(shape.is_end(place, code.len())),
@@ -97,16 +120,12 @@ impl Search {
 
 /// No shape is known yet.
 fn nothing(alloc: Global, count: usize) -> Result<Search, AllocError>
-    ensures none { IfOk result (λ s. (p : ℕ) → shape_at s.shapes.items p ≡ None) }
-    ensures long { IfOk result (λ s. length s.shapes.items ≡ count) }
+    ensures none { IfOk result (λ s. (p : ℕ) → shape_at s.shapes p ≡ None) }
+    ensures long { IfOk result (λ s. length s.shapes ≡ count) }
     ensures pending { IfOk result (λ s. s.pending.items ≡ []) }
 {
-    let mut shapes = Vec::new(alloc);
-    for _ in 0..count {
-        shapes.push(None)?;
-    }
     Ok(Search {
-        shapes,
+        shapes: Found::new(alloc, count)?,
         pending: Vec::new(alloc),
     })
 }
@@ -114,25 +133,14 @@ fn nothing(alloc: Global, count: usize) -> Result<Search, AllocError>
 /// The start is known, and waits.
 fn started(alloc: Global, count: usize) -> Result<Search, AllocError>
     requires { 0 < count }
-    ensures start { IfOk result (λ s. shape_at s.shapes.items 0 ≡ Some bare) }
-    ensures sound { IfOk result (λ s. (code : List Instr) → Sound (instructions [] code) s.shapes.items) }
-    ensures closed { IfOk result (λ s. (code : List Instr) → Closed (instructions [] code) s.shapes.items s.pending.items) }
-    ensures long { IfOk result (λ s. length s.shapes.items ≡ count) }
+    ensures start { IfOk result (λ s. shape_at s.shapes 0 ≡ Some bare) }
+    ensures sound { IfOk result (λ s. (code : List Instr) → Sound (instructions [] code) s.shapes) }
+    ensures closed { IfOk result (λ s. (code : List Instr) → Closed (instructions [] code) s.shapes s.pending.items) }
+    ensures long { IfOk result (λ s. length s.shapes ≡ count) }
 {
     let mut search = nothing(alloc, count)?;
     let _fits = search.note(0, Shape::bare())?;
     Ok(search)
-}
-
-/// A shape that covers those that were found.
-fn top_of(shapes: &[Option<Shape>]) -> Shape
-    ensures { (p : ℕ) (s : Shape) → shape_at shapes.now p ≡ Some s → IsWithin s result }
-{
-    let mut top = Shape::bare();
-    for found in shapes {
-        top = top.covering(*found);
-    }
-    top
 }
 
 /// The shape that covers all that is reached in a code, whatever its texts, if it is valid.
@@ -145,5 +153,5 @@ pub(crate) fn decide(alloc: Global, code: &[Instr]) -> Result<Option<Shape>, All
             return Ok(None);
         }
     }
-    Ok(Some(top_of(search.shapes.as_slice())))
+    Ok(Some(search.shapes.top()))
 }

@@ -67,20 +67,17 @@ impl Shape {
             && self.loops == other.loops
     }
 
-    /// The greater of each, where there is another one.
-    pub(crate) fn covering(self, other: Option<Shape>) -> Shape
+    /// The greater of each.
+    pub(crate) fn covering(self, other: Shape) -> Shape
         ensures this { IsWithin self result }
-        ensures other { IfSome other (λ s. IsWithin s result) }
+        ensures other { IsWithin other result }
     {
-        match other {
-            None => self,
-            Some(other) => Shape {
-                height: self.height.max(other.height),
-                lists: self.lists.max(other.lists),
-                depth: self.depth.max(other.depth),
-                paid: self.paid.max(other.paid),
-                loops: self.loops.max(other.loops),
-            },
+        Shape {
+            height: self.height.max(other.height),
+            lists: self.lists.max(other.lists),
+            depth: self.depth.max(other.depth),
+            paid: self.paid.max(other.paid),
+            loops: self.loops.max(other.loops),
         }
     }
 

@@ -6,11 +6,11 @@ use Rattle.tcl_code.proofs.search.decide.Given as goal
 
 abbrev pub invariant-loop-place : goal.invariant-loop-place
 invariant-loop-place l = record {
-  at : shape_at l.search.shapes.items 0 ≡ Some bare;
-  sound : Sound (instructions [] l.code) l.search.shapes.items;
-  closed : Closed (instructions [] l.code) l.search.shapes.items l.search.pending.items;
-  long : length l.search.shapes.items ≡ length l.code + 1;
+  at : shape_at l.search.shapes 0 ≡ Some bare;
+  sound : Sound (instructions [] l.code) l.search.shapes;
+  closed : Closed (instructions [] l.code) l.search.shapes l.search.pending.items;
+  long : length l.search.shapes ≡ length l.code + 1;
 }
 
 abbrev pub decreases-loop-place : goal.decreases-loop-place
-decreases-loop-place l = left_over l.search.shapes.items l.search.pending.items
+decreases-loop-place l = left_over l.search.shapes l.search.pending.items
