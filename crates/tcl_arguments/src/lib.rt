@@ -3,11 +3,13 @@
 #![tactic(auto)]
 
 mod message;
+mod numbers;
 mod places;
 mod texts;
 
 pub use message::usage;
-pub use places::{behind, index_of};
+pub use numbers::number_of;
+pub use places::{behind, index_of, position_at};
 pub use texts::{
     all_texts, one_or_two_texts, one_text, text_at, three_or_four_texts, three_texts,
     two_or_three_texts, two_texts, up_to_one_text,

@@ -1,13 +1,40 @@
 //! Places that words say: string(n), lindex(n).
 
-ghost use Rattle.std.specs.Prelude.{◌≡◌, ◌+ℤ◌, pos};
+ghost use Rattle.std.specs.Prelude.{◌≡◌, ◌<◌, ◌+ℤ◌, pos, length};
 ghost use Rattle.std.specs.Str.{chars};
+ghost use Rattle.tcl_arguments.specs.WordAt.{word};
 ghost use Rattle.tcl_chars.specs.Answers.{Answers};
 ghost use Rattle.tcl_chars.specs.Index.{clamp};
+ghost use Rattle.tcl_chars.specs.Messages.{position};
 ghost use Rattle.tcl_pages.specs.Lists as spec;
 
+use crate::texts::text_at;
 use std::alloc::Global;
-use tcl_chars::{Dialect, Fault, expect_position, place_of};
+use tcl_chars::{Dialect, Fault, Position, expect_position, place_of};
+use tcl_values::Value;
+
+/// The position that the word at a place names. A word that is known as a number isn't read as a text.
+///
+/// # Errors
+///
+/// `Fault::Error` where the word is no index, `Fault::Memory`.
+#[tactic(auto, using(crate::proofs::Positions::position_of_number))]
+pub fn position_at(
+    alloc: Global,
+    words: &mut [Value],
+    place: usize,
+    dialect: Dialect,
+) -> Result<Position, Fault>
+    requires { place < length words.old }
+    ensures position { Answers (λ p. p) result (position dialect (word words.old place)) }
+    ensures same { words.new ≡ words.old }
+{
+    if let Some(number) = words[place].known_number(dialect) {
+        return Ok(Position::Start(number, 0));
+    }
+    let text = text_at(alloc, words, place)?;
+    expect_position(alloc, text.as_str(), dialect)
+}
 
 /// The place among `count` elements or characters that a text says.
 ///

@@ -1,6 +1,8 @@
 -- The element to which indices lead, a step at a time.
-use Rattle.std.proofs.Common.{◌≡◌, ◌≢◌, ℕ, zero, suc, ◌+◌, ◌<◌, ◌≤◌, List, [], ◌∷◌, length, drop, get_or, map, Ok, Err, sym, ap, ◌∙◌, refl, arith}
+use Rattle.std.proofs.Common.{◌≡◌, ◌≢◌, ℕ, zero, suc, ◌+◌, ◌<◌, ◌≤◌, List, [], ◌∷◌, length, drop, get_or, map, Ok, Err, sym, ap, ◌∙◌, refl, arith, ℤ, FitsSigned}
 use Rattle.std.proofs.lemmas.List.{drop_all, drop_more}
+use Rattle.std.specs.Fmt.{signed_decimal}
+use Rattle.std.specs.Int.{w64}
 use Rattle.tcl_chars.specs.Answers.{Stops}
 use Rattle.tcl_chars.specs.declared.fault.Fault.{Fault}
 use Rattle.tcl_chars.specs.declared.fault.Fault.TheVariants as fault
@@ -9,9 +11,10 @@ use Rattle.tcl_chars.specs.Texts.{literal}
 use Rattle.tcl_list.specs.Elements.{elements_of}
 use Rattle.tcl_lists.specs.WordAt.{word, item_by}
 use Rattle.tcl_pages.specs.Answers.{Answer, ◌>>=◌}
-use Rattle.tcl_pages.specs.Lists.{index, element_or_empty, element_at, element_by, lindex}
+use Rattle.tcl_pages.specs.Lists.{index, element_or_empty, element_at, element_by, indices_of, lindex}
 use Rattle.tcl_pages.specs.Texts.{Text}
 use Rattle.tcl_pages.specs.Usage.{usage}
+use Rattle.tcl_values.proofs.Singles.{single_number}
 use Rattle.tcl_values.specs.Kept.{Kept, texts}
 
 -- a question whose answer is used in two steps
@@ -52,15 +55,15 @@ at_one_index : (d : Dialect) (list i : Text) (is : List Text) → element_at d l
 at_one_index d list i is =
     in_steps (elements_of list) _ _ _ (λ es. in_steps (index d i (length es)) (λ place. element_at d (element_or_empty es place) is) (λ place. Ok (element_or_empty es place)) (λ item. element_at d item is) (λ p. refl))
 
-pub index_goes_on : (d : Dialect) (list item t : Text) (ws : List Text) (i : ℕ) → i < length ws → t ≡ word ws i → item_by d list t ≡ Ok item → element_at d item (drop (i + 1) ws) ≡ element_at d list (drop i ws)
-index_goes_on d list item t ws i h w e =
-    sym (ap (element_at d list) (drop_more ws i [] h) ∙ at_one_index d list (word ws i) (drop (i + 1) ws) ∙ ap (λ u. item_by d list u >>= λ x. element_at d x (drop (i + 1) ws)) (sym w)
-    ∙ ap (λ r. r >>= λ x. element_at d x (drop (i + 1) ws)) e)
+next_index : (d : Dialect) (list : Text) (ws : List Text) (i : ℕ) → i < length ws → element_at d list (drop i ws) ≡ (item_by d list (word ws i) >>= λ item. element_at d item (drop (i + 1) ws))
+next_index d list ws i h = ap (element_at d list) (drop_more ws i [] h) ∙ at_one_index d list (word ws i) (drop (i + 1) ws)
 
-pub index_stops : (d : Dialect) (f : Fault) (list t : Text) (ws : List Text) (i : ℕ) → i < length ws → t ≡ word ws i → Stops f (item_by d list t) → Stops f (element_at d list (drop i ws))
-index_stops d f list t ws i h w e =
-    stops_same f _ _ (sym (ap (element_at d list) (drop_more ws i [] h) ∙ at_one_index d list (word ws i) (drop (i + 1) ws) ∙ ap (λ u. item_by d list u >>= λ x. element_at d x (drop (i + 1) ws)) (sym w)))
-    (stops_first f (item_by d list t) (λ x. element_at d x (drop (i + 1) ws)) e)
+pub index_goes_on : (d : Dialect) (list item : Text) (ws : List Text) (i : ℕ) → i < length ws → item_by d list (word ws i) ≡ Ok item → element_at d item (drop (i + 1) ws) ≡ element_at d list (drop i ws)
+index_goes_on d list item ws i h e = sym (next_index d list ws i h ∙ ap (λ r. r >>= λ x. element_at d x (drop (i + 1) ws)) e)
+
+pub index_stops : (d : Dialect) (f : Fault) (list : Text) (ws : List Text) (i : ℕ) → i < length ws → Stops f (item_by d list (word ws i)) → Stops f (element_at d list (drop i ws))
+index_stops d f list ws i h e =
+    stops_same f _ _ (sym (next_index d list ws i h)) (stops_first f (item_by d list (word ws i)) (λ x. element_at d x (drop (i + 1) ws)) e)
 
 pub index_ends : (d : Dialect) (list : Text) (ws : List Text) (i : ℕ) → length ws ≤ i → element_at d list (drop i ws) ≡ Ok list
 index_ends d list ws i h = ap (element_at d list) (drop_all i ws h)
@@ -71,14 +74,24 @@ pub lindex_usage : (d : Dialect) (ws : List Text) → length ws ≡ 0 → lindex
 lindex_usage d [] h = refl
 lindex_usage d (w ∷ ws) h = absurd (omega arith)
 
-pub lindex_by_list : (d : Dialect) (ws : List Text) → length ws ≡ 2 → lindex d ws ≡ element_by d (word ws 0) (elements_of (word ws 1))
+pub lindex_by_list : (d : Dialect) (ws : List Text) → length (drop 1 ws) ≡ 1 → lindex d ws ≡ element_by d (word ws 0) (elements_of (word ws 1))
 lindex_by_list d [] h = absurd (omega arith)
 lindex_by_list d (a ∷ []) h = absurd (omega arith)
 lindex_by_list d (a ∷ b ∷ []) h = refl
 lindex_by_list d (a ∷ b ∷ c ∷ ws) h = absurd (omega arith)
 
-pub lindex_by_words : (d : Dialect) (ws : List Text) → length ws ≢ 0 → length ws ≢ 2 → lindex d ws ≡ element_at d (word ws 0) (drop 1 ws)
+pub lindex_by_words : (d : Dialect) (ws : List Text) → length ws ≢ 0 → indices_of (drop 1 ws) ≡ Ok (drop 1 ws) → lindex d ws ≡ element_at d (word ws 0) (drop 1 ws)
 lindex_by_words d [] h k = absurd (h refl)
-lindex_by_words d (a ∷ []) h k = refl
-lindex_by_words d (a ∷ b ∷ []) h k = absurd (k refl)
-lindex_by_words d (a ∷ b ∷ c ∷ ws) h k = refl
+lindex_by_words d (a ∷ ws) h k = ap (element_by d a) k
+
+-- ---- words that are the indices themselves
+
+pub several_indices : (ws : List Text) → length ws ≢ 1 → indices_of ws ≡ Ok ws
+several_indices [] h = refl
+several_indices (a ∷ []) h = absurd (h refl)
+several_indices (a ∷ b ∷ ws) h = refl
+
+pub number_index : (ws : List Text) (w : Text) (z : ℤ) → length ws ≡ 1 → FitsSigned w64 z → w ≡ get_or ws 0 w → w ≡ signed_decimal z → indices_of ws ≡ Ok ws
+number_index [] w z h f is e = absurd (omega arith)
+number_index (a ∷ []) w z h f is e = ap elements_of (sym is ∙ e) ∙ single_number z f ∙ ap (λ t. Ok (t ∷ [])) (sym e ∙ is)
+number_index (a ∷ b ∷ ws) w z h f is e = absurd (omega arith)

@@ -1,18 +1,20 @@
 //! One element of a list, by the indices that lead to it: lindex(n).
 
-ghost use Rattle.std.specs.Prelude.{◌≡◌, ◌<◌, drop, length, IfOk};
-ghost use Rattle.std.specs.Str.{chars};
+ghost use Rattle.std.specs.Prelude.{◌≡◌, ◌<◌, true, false, drop, length, Ok, IfOk};
 ghost use Rattle.tcl_chars.specs.Answers.{Answers};
 ghost use Rattle.tcl_list.specs.Elements.{elements_of};
 ghost use Rattle.tcl_lists.specs.WordAt.{word};
 ghost use Rattle.tcl_lists.specs.WordAt as step;
+ghost use Rattle.tcl_pages.specs.Lists.{indices_of};
 ghost use Rattle.tcl_pages.specs.Lists as spec;
 ghost use Rattle.tcl_values.specs.Kept.{texts};
 
 use crate::message::usage;
-use crate::words::{copy_at, empty, fault_in_front, list_at, text_at};
+use crate::range::values_from;
+use crate::words::{copy_at, empty, fault_in_front, list_at};
 use std::alloc::{AllocError, Global};
-use tcl_chars::{Dialect, Fault, expect_position, place_of};
+use tcl_arguments::position_at;
+use tcl_chars::{Dialect, Fault, place_of};
 use tcl_values::{Element, Value};
 
 /// The element at a place, and the empty text where there is none.
@@ -25,15 +27,23 @@ fn element_or_empty(alloc: Global, elements: &[Element], place: i128) -> Result<
     elements[place as usize].value(alloc)
 }
 
-/// The element of a list at the place that an index says, and the empty text where there is none.
-fn item_by(alloc: Global, list: &mut Value, index: &str, dialect: Dialect) -> Result<Value, Fault>
-    ensures item { Answers (λ v. v) result (step.item_by dialect list.old (chars index.now)) }
+/// The element of a list at the place that one of the indices says, and the empty text where there is none.
+fn item_by(
+    alloc: Global,
+    list: &mut Value,
+    indices: &mut [Value],
+    place: usize,
+    dialect: Dialect,
+) -> Result<Value, Fault>
+    requires { place < length indices.old }
+    ensures item { Answers (λ v. v) result (step.item_by dialect list.old (word indices.old place)) }
     ensures same { list.new ≡ list.old }
+    ensures indices { indices.new ≡ indices.old }
 {
     let row = list.row(alloc)?;
-    let position = expect_position(alloc, index, dialect)?;
-    let place = place_of(position, row.len());
-    Ok(element_or_empty(alloc, row.items(), place)?)
+    let position = position_at(alloc, indices, place, dialect)?;
+    let at = place_of(position, row.len());
+    Ok(element_or_empty(alloc, row.items(), at)?)
 }
 
 /// The element to which the indices from `first` on lead, each in the element at the one before.
@@ -49,8 +59,7 @@ fn element_at(
 {
     let mut element = list;
     for place in first..indices.len() {
-        let index = text_at(alloc, indices, place)?;
-        element = item_by(alloc, &mut element, index.as_str(), dialect)?;
+        element = item_by(alloc, &mut element, indices, place, dialect)?;
     }
     Ok(element)
 }
@@ -71,6 +80,20 @@ fn element_by(alloc: Global, words: &mut [Value], dialect: Dialect) -> Result<Va
     }
 }
 
+/// Is a lone index to be read as a list of indices? A number is an index itself.
+pub fn is_index_list(indices: &[Value]) -> bool
+    ensures lone { result ≡ true → length indices.now ≡ 1 }
+    ensures themselves { result ≡ false → indices_of indices.now ≡ Ok indices.now }
+{
+    if indices.len() != 1 {
+        return false;
+    }
+    match indices[0].number() {
+        Some(_) => false,
+        None => true,
+    }
+}
+
 /// `lindex list ?index ...?`: the element to which the indices lead; one word is a list of them.
 ///
 /// # Errors
@@ -83,7 +106,7 @@ pub fn lindex(alloc: Global, words: &mut [Value], dialect: Dialect) -> Result<Va
     if words.len() == 0 {
         return usage(alloc, "lindex list ?index ...?");
     }
-    if words.len() == 2 {
+    if is_index_list(values_from(&*words, 1)) {
         return element_by(alloc, words, dialect);
     }
     let list = copy_at(words, 0)?;

@@ -12,7 +12,7 @@ mod sort;
 mod whole;
 mod words;
 
-pub use index::lindex;
+pub use index::{is_index_list, lindex};
 pub use joined::concat;
 pub use range::{linsert, lrange, lreplace};
 pub use repeat::lrepeat;

@@ -10,7 +10,8 @@ ghost use Rattle.tcl_pages.specs.Lists as spec;
 
 use std::alloc::{AllocError, Global};
 use std::rc::RcStr;
-use tcl_chars::{Dialect, Fault, expect_position, message, place_of};
+use tcl_arguments::position_at;
+use tcl_chars::{Dialect, Fault, message, place_of};
 use tcl_values::{Row, Value};
 
 /// The text of the word at a place.
@@ -84,8 +85,7 @@ pub(crate) fn index_at(
     ensures index { Answers (λ z. z) result (spec.index dialect (word words.old place) count) }
     ensures same { words.new ≡ words.old }
 {
-    let text = text_at(alloc, words, place)?;
-    let position = expect_position(alloc, text.as_str(), dialect)?;
+    let position = position_at(alloc, words, place, dialect)?;
     Ok(place_of(position, count))
 }
 
