@@ -15,8 +15,8 @@ ghost use Rattle.tcl_values.specs.Lists.{Leaves};
 use crate::words::word_at;
 use std::alloc::{AllocError, Global};
 use std::rc::RcStr;
-use tcl_arguments::text_at;
-use tcl_chars::{Dialect, Fault, Op, binary, expect_number};
+use tcl_arguments::{number_of, text_at};
+use tcl_chars::{Dialect, Fault, Op, binary};
 use tcl_values::{Change, Value};
 
 /// The value of a key of a dictionary, or a text where the key isn't there.
@@ -79,15 +79,20 @@ fn expect_list(alloc: Global, list: Value) -> Result<Value, Fault>
     Ok(list)
 }
 
-/// A number with another one, that a word says, added.
-fn with_number(alloc: Global, number: Value, by: &str, dialect: Dialect) -> Result<Value, Fault>
-    ensures { Answers (λ v. v) result (updates.increased dialect number (chars by.now ∷ [])) }
+/// A number with another one added.
+fn with_number(
+    alloc: Global,
+    number: Value,
+    by: &mut Value,
+    dialect: Dialect,
+) -> Result<Value, Fault>
+    ensures sum { Answers (λ v. v) result (updates.increased dialect number (by.old ∷ [])) }
+    ensures by { by.new ≡ by.old }
 {
     let mut number = number;
-    let text = number.text(alloc)?;
-    let old = expect_number(alloc, text.as_str(), dialect)?;
-    let by = expect_number(alloc, by, dialect)?;
-    match binary(Op::Add, old, by) {
+    let old = number_of(alloc, &mut number, dialect)?;
+    let more = number_of(alloc, by, dialect)?;
+    match binary(Op::Add, old, more) {
         Ok(new) => Ok(Value::of_int(new)),
         Err(refused) => Err(Fault::Error(RcStr::from_str(alloc, refused.text())?)),
     }
@@ -202,8 +207,7 @@ pub fn dict_incr(
     ensures words { words.new ≡ words.old }
 {
     let key = text_at(alloc, words, 0)?;
-    let by = text_at(alloc, words, 1)?;
     let old = value_or(alloc, "0", value, key.as_str())?;
-    let new = with_number(alloc, old, by.as_str(), dialect)?;
+    let new = with_number(alloc, old, &mut words[1], dialect)?;
     value.dict_put(alloc, key, new)
 }
