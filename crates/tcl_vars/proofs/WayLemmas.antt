@@ -1,5 +1,5 @@
 -- The way that indices lead through lists in lists, and what a change at its end leaves.
-use Rattle.std.proofs.Common.{◌≡◌, ℕ, ◌+◌, ◌<◌, ◌≤◌, List, [], ◌∷◌, ◌++◌, take, drop, length, get_or, append_assoc, refl, sym, ap, ◌∙◌, Ok, Err}
+use Rattle.std.proofs.Common.{◌≡◌, ℕ, ◌+◌, ◌<◌, ◌≤◌, List, [], ◌∷◌, ◌++◌, take, drop, length, get_or, append_assoc, refl, sym, ap, ◌∙◌, arith, Ok, Err}
 use Rattle.tcl_chars.specs.Answers.{Stops}
 use Rattle.tcl_chars.specs.declared.fault.Fault.{Fault}
 use Rattle.tcl_chars.specs.declared.numbers.Dialect.{Dialect}
@@ -149,3 +149,14 @@ first_put_stops f d list inner k n ws t v ls h e s = stops_same f _ _ (sym (put_
 pub first_put : (d : Dialect) (list inner : Text) (k n : ℕ) (ws : List Text) (t v el : Text) (ls : List (Text × ℕ)) → IsFirstLevel d list inner k n ws t → way_of d inner (drop 1 (take n ws)) ≡ Ok ls
     → put_all ls v ≡ Ok el → put list k el ≡ element_set d list (take n ws) v
 first_put d list inner k n ws t v el ls h e p = sym (put_first d list inner k n ws t v ls h e ∙ ap (λ r. r >>= put list k) p)
+
+-- ---- one index alone
+
+only_in : (d : Dialect) (i v : Text) (k : ℕ) (r : Answer (List Text)) → (r >>= place_in d i) ≡ Ok k → put_in r k v ≡ (r >>= set_in d i [] v)
+only_in d i v k (Ok es) e =
+    sym (in_steps (index d i (length es)) (λ p. place_within p (length es) >>= changed_in d [] v es) (λ p. place_within p (length es)) (changed_in d [] v es) (λ p. refl) ∙ ap (λ r. r >>= changed_in d [] v es) e)
+only_in d i v k (Err m) e = absurd cc
+
+pub put_only : (d : Dialect) (list : Text) (k n : ℕ) (ws : List Text) (v : Text) → n ≡ 1 → n ≤ length ws → place_by d list (get_or ws 0 []) ≡ Ok k → put list k v ≡ element_set d list (take n ws) v
+put_only d list k n [] v h l p = absurd (omega (arith, h, l))
+put_only d list k n (w ∷ ws) v h l p = only_in d w v k (elements_of list) p ∙ ap (λ m. element_set d list (take m (w ∷ ws)) v) (sym h)

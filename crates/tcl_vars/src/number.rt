@@ -1,26 +1,13 @@
 //! A number that grows: incr(n).
 
 ghost use Rattle.std.specs.Prelude.{◌≡◌, [], ◌∷◌, OnErr};
-ghost use Rattle.tcl_chars.specs.Answers.{Answers};
-ghost use Rattle.tcl_chars.specs.Messages.{number};
 ghost use Rattle.tcl_pages.specs.Updates.{increased};
 ghost use Rattle.tcl_values.specs.Lists.{Leaves};
 
 use std::alloc::Global;
-use tcl_chars::{Dialect, Fault, Op, Whole, binary, expect_number, message};
+use tcl_arguments::number_of;
+use tcl_chars::{Dialect, Fault, Op, binary, message};
 use tcl_values::Value;
-
-/// The number that a value is, or the script's error.
-fn number_of(alloc: Global, value: &mut Value, dialect: Dialect) -> Result<i64, Fault>
-    ensures number { Answers (λ z. z) result (number dialect value.old) }
-    ensures same { value.new ≡ value.old }
-{
-    if let Whole::Number(number) = value.whole(alloc, dialect)? {
-        return Ok(number);
-    }
-    let text = value.text(alloc)?;
-    expect_number(alloc, text.as_str(), dialect)
-}
 
 /// `incr varName ?increment?`: adds a number to the value.
 ///

@@ -1,7 +1,7 @@
 //! An element of lists in lists, changed in its place: lset(n).
 
 ghost use Rattle.std.specs.Prelude.{◌≡◌, ◌<◌, ◌≤◌, ◌-◌, length, take, drop, map, get_or, IfOk, OnErr};
-ghost use Rattle.std.specs.Str.{chars};
+ghost use Rattle.tcl_arguments.specs.WordAt.{word};
 ghost use Rattle.tcl_chars.specs.Answers.{Answers};
 ghost use Rattle.tcl_pages.specs.Lists.{element_set};
 ghost use Rattle.tcl_vars.specs.Way as way;
@@ -9,8 +9,8 @@ ghost use Rattle.tcl_values.specs.Lists.{Leaves};
 
 use crate::words::empty;
 use std::alloc::Global;
-use tcl_arguments::text_at;
-use tcl_chars::{Dialect, Fault, expect_position, message, place_of};
+use tcl_arguments::position_at;
+use tcl_chars::{Dialect, Fault, message, place_of};
 use tcl_values::Value;
 
 /// A list on the way to an element, and the place in it where the way goes on.
@@ -20,13 +20,21 @@ struct Level {
     place: usize,
 }
 
-/// The place that an index says in a list: that of an element, or the one behind the last.
-fn place_by(alloc: Global, list: &mut Value, index: &str, dialect: Dialect) -> Result<usize, Fault>
-    ensures place { Answers (λ n. n) result (way.place_by dialect list.old (chars index.now)) }
+/// The place that one of the indices says in a list: that of an element, or the one behind the last.
+fn place_by(
+    alloc: Global,
+    list: &mut Value,
+    indices: &mut [Value],
+    at: usize,
+    dialect: Dialect,
+) -> Result<usize, Fault>
+    requires { at < length indices.old }
+    ensures place { Answers (λ n. n) result (way.place_by dialect list.old (word indices.old at)) }
     ensures same { list.new ≡ list.old }
+    ensures indices { indices.new ≡ indices.old }
 {
     let count = list.count(alloc)?;
-    let position = expect_position(alloc, index, dialect)?;
+    let position = position_at(alloc, indices, at, dialect)?;
     let place = place_of(position, count);
     if place < 0 || place > i128::from(count as u64) {
         return Err(Fault::Error(message(alloc, "list index out of range")?));
@@ -73,8 +81,7 @@ fn levels_of(
     let mut levels = Vec::new(alloc);
     let mut list = list;
     for at in first..last {
-        let index = text_at(alloc, indices, at)?;
-        let place = place_by(alloc, &mut list, index.as_str(), dialect)?;
+        let place = place_by(alloc, &mut list, indices, at, dialect)?;
         let inner = element_taken(alloc, &mut list, place)?;
         levels.push(Level { list, place })?;
         list = inner;
@@ -114,8 +121,10 @@ pub(crate) fn put_at(
         *value = new;
         return Ok(());
     }
-    let index = text_at(alloc, indices, 0)?;
-    let place = place_by(alloc, value, index.as_str(), dialect)?;
+    let place = place_by(alloc, value, indices, 0, dialect)?;
+    if count == 1 {
+        return put(alloc, value, place, new);
+    }
     let inner = element_taken(alloc, value, place)?;
     let levels = levels_of(alloc, inner, indices, 1, count, dialect)?;
     let element = put_back(alloc, levels, new)?;
