@@ -13,7 +13,7 @@ INPUT = b"a\r\nb"
 NAMED = """
     start/hello start/script-name budget/one-too-few words/values-stay-one-word words/continued-in-braces escapes/letters
     variables/element variables/again variables/fault-no-element commands/unknown commands/set-many syntax/runs-before
-    puts/channels puts/order puts/unicode puts/long lines/cr-lf words/expansion session/texts session/input
+    puts/channels puts/order puts/unicode puts/long lines/cr-lf words/expansion session/texts session/input slices/bracket
     pages/dict/lappend-again pages/foreach/long-list pages/format/many-fields pages/split/many-parts
     pages/string/map-of-many-keys pages/switch/many-patterns
 """.split()

@@ -123,3 +123,22 @@ fn compiles_few(alloc: Global) -> Result<bool, Fault> {
 fn kept_codes_are_not_compiled_again(rt: HostRuntime) {
     assert!(rt; matches!(compiles_few(rt.alloc()), Ok(true)));
 }
+
+/// Is the body of each of 600 procedures compiled once, where all are called in turn, again and again?
+fn compiles_once(alloc: Global) -> Result<bool, Fault> {
+    let mut interp = fresh(alloc)?;
+    let script =
+        "for {set i 0} {$i < 600} {incr i} {proc p$i {} \"set x $i\"}; foreach r {1 2 3} {for {set i 0} {$i < 600} {incr i} {p$i}}; puts [p599]";
+    let end = evaluated(alloc, &mut interp, 4, script, 20000)?;
+    Ok(
+        is_done(&end.outcome, 0, "", 10985)
+            && end.out.bytes() == b"599\n".as_slice()
+            && interp.compiles() >= 600
+            && interp.compiles() < 700,
+    )
+}
+
+#[test]
+fn codes_of_many_procedures_are_kept(rt: HostRuntime) {
+    assert!(rt; matches!(compiles_once(rt.alloc()), Ok(true)));
+}

@@ -1,12 +1,24 @@
 //! Worked rows: scripts whose outputs, ends and costs were worked out by hand. It prints what the interpreter makes of
-//! them, and, where that is another thing, what it makes of them in parts of a few units; the gate compares.
+//! them, and, where that is another thing, what it makes of them in parts of a few units. Behind them stand runs that pause, and
+//! what becomes of them. The gate compares.
 #![tactic(auto)]
 
 mod parts;
 mod rows;
+mod runs;
+mod slices;
+mod topics;
 
 use std::process::ExitCode;
 use std::{env, fs, io};
+
+// Runs that pause, and budgets in slices.
+fn show_pauses(rt: &HostRuntime) -> io::Result<()> {
+    let mut shown = String::new(rt.alloc());
+    topics::show(rt.alloc(), &mut shown)?;
+    slices::show(rt.alloc(), &mut shown)?;
+    print!(rt; "{shown}")
+}
 
 // Every script that the program's words name, and then what stands in no script.
 fn show_all(rt: &HostRuntime) -> io::Result<()> {
@@ -20,7 +32,8 @@ fn show_all(rt: &HostRuntime) -> io::Result<()> {
     let shown = rows::show_failing(rt.alloc())?;
     println!(rt; "== an output that fails\n{shown}")?;
     let shown = rows::show_dialects(rt.alloc())?;
-    println!(rt; "== numbers in both dialects{shown}")
+    println!(rt; "== numbers in both dialects{shown}")?;
+    show_pauses(rt)
 }
 
 fn main(rt: HostRuntime) -> ExitCode {

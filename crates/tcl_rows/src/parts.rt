@@ -35,6 +35,14 @@ fn fresh(alloc: Global) -> Result<Interp, AllocError> {
     Interp::new(alloc, config).map_err(|_| AllocError)
 }
 
+/// A run of a script in an interpreter without variables.
+pub(crate) fn started(alloc: Global, script: &str) -> Result<Run, AllocError> {
+    match fresh(alloc)?.start(script) {
+        Ok(run) => Ok(run),
+        Err(_) => Err(AllocError),
+    }
+}
+
 // What was left of a script.
 fn leaves(
     alloc: Global,
@@ -101,9 +109,7 @@ fn go_on<R: Input, W: Output, E: Output>(
 
 // The same script in parts.
 fn in_parts(alloc: Global, script: &str, parts: &[u64]) -> Result<Left, AllocError> {
-    let Ok(mut run) = fresh(alloc)?.start(script) else {
-        return Err(AllocError);
-    };
+    let mut run = started(alloc, script)?;
     let mut input = MemoryInput::new(INPUT);
     let mut out = MemoryOutput::new(alloc, CAPACITY)?;
     let mut err = MemoryOutput::new(alloc, CAPACITY)?;
