@@ -149,6 +149,25 @@ def sweep_all(count, tested, room, words):
         count.of("refused growths, and all later ones", later, lambda: refusing.runs)
 
 
+def call_all(count, room, words):
+    """Single calls that are made again where they were refused: each growth of their program is refused in turn."""
+    name = "calls/growths"
+    if words and words[0] not in name:
+        return
+    tested = Program(os.environ.get("TCL_REFUSALS") or f"{TOP}/crates/tcl_refusals/out/tcl_refusals")
+    with ThreadPoolExecutor(PROCESSORS) as pool:
+        refusing = Refusing(tested.path, None, pool)
+
+        def test():
+            row = rows.calls_row()
+            row.settle(tested, room)
+            refusing.library = build(room)
+            refusing.sweep(row, False)
+            refusing.sweep(row, True)
+
+        count.of("single calls, refused and made again", [(name, test)], lambda: refusing.runs)
+
+
 def limit_all(count, tested, room, words):
     """All tests in limited memory, a few side by side."""
     word = words[0] if words else ""
@@ -168,6 +187,7 @@ def main(words):
         return 1
     with tempfile.TemporaryDirectory(prefix="tclint-hostile-") as room:
         sweep_all(count, tested, room, words)
+        call_all(count, room, words)
         limit_all(count, tested, room, words)
     print(f"{count.passed} passed, {count.failed} failed")
     return 0 if count.passed and not count.failed else 1

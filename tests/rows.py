@@ -14,6 +14,8 @@ NAMED = """
     start/hello start/script-name budget/one-too-few words/values-stay-one-word words/continued-in-braces escapes/letters
     variables/element variables/again variables/fault-no-element commands/unknown commands/set-many syntax/runs-before
     puts/channels puts/order puts/unicode puts/long lines/cr-lf words/expansion session/texts session/input slices/bracket
+    session/incomplete session/exit session/budget pages/read/some-characters pages/read/more-characters
+    pages/gets/ill-formed-byte pages/gets/ill-formed-parts
     pages/dict/lappend-again pages/foreach/long-list pages/format/many-fields pages/split/many-parts
     pages/string/map-of-many-keys pages/switch/many-patterns
 """.split()
@@ -21,7 +23,7 @@ NAMED = """
 LONG = "settings-read stacks-and-queues reverse-polish-calculator graph-search assembler netlist-in-levels".split()
 # worked rows that are also given to a session, and run in slices
 TYPED = "hello missing_brace caught copies dictionary uplevel renamed reading exit behind_brace finally_behind_handler".split()
-SLICED = "loop uplevel upvar reading patterns finally_behind_handler on_break break_of_caller".split()
+SLICED = "loop uplevel upvar reading patterns bracket_in_part finally_behind_handler on_break break_of_caller".split()
 
 SECTION = re.compile(r"^== (\w+)\.tcl\n(.*?)(?=^== )", re.MULTILINE | re.DOTALL)
 END = re.compile(r"(?:with (\d+) units:\n)?(.*?)(?:code (\d), result <(.*?)>|exit (\d+))\n", re.DOTALL)
@@ -101,6 +103,12 @@ def sliced_rows():
         for size in ("1", "3")
         for name in SLICED
     ]
+
+
+def calls_row():
+    """The program of single calls, which takes no words."""
+    with open(f"{TOP}/crates/tcl_refusals/stdout", "rb") as file:
+        return Row("calls", [], told=Result(0, file.read(), b""))
 
 
 def case_row(path):

@@ -5,3 +5,4 @@ mod devices;
 mod input;
 mod large;
 mod output;
+mod worn;

@@ -5,8 +5,9 @@ use std::alloc::{AllocError, Global};
 use tcl_chan::device::{Input, Output};
 use tcl_chan::faulty::{FaultyInput, FaultyOutput};
 use tcl_chan::memory::{MemoryInput, MemoryOutput};
+use tcl_chan::pieces::OneByte;
 use tcl_chars::Fault;
-use tcl_interp::{HostFault, Interp, Outcome};
+use tcl_interp::{HostFault, Interp, Outcome, run};
 
 /// How a script ends over an output whose first write fails, and how often it failed.
 fn broken(alloc: Global, interp: &mut Interp, script: &str) -> Result<(Outcome, u64), AllocError> {
@@ -60,4 +61,69 @@ fn a_failed_interpreter_tells_nothing(rt: HostRuntime) -> Result<(), Fault> {
     assert!(rt; matches!(interp.vars(), Err(HostFault::Failed)));
     assert!(rt; interp.set_var("x", "2") == Err(HostFault::Failed));
     Ok(())
+}
+
+/// A script, its input, the read, write and flush that fail, and what is written until then.
+struct Breaking {
+    script: &'static str,
+    input: &'static [u8],
+    fail_read: u64,
+    fail_write: u64,
+    fail_flush: u64,
+    out: &'static [u8],
+}
+
+static BREAKING: [Breaking; 3] = [
+    Breaking {
+        script: "puts a; puts b",
+        input: b"",
+        fail_read: 0,
+        fail_write: 4,
+        fail_flush: 0,
+        out: b"a\nb",
+    },
+    Breaking {
+        script: "puts a",
+        input: b"",
+        fail_read: 0,
+        fail_write: 0,
+        fail_flush: 1,
+        out: b"a\n",
+    },
+    Breaking {
+        script: "gets stdin l; puts $l",
+        input: b"x\n",
+        fail_read: 1,
+        fail_write: 0,
+        fail_flush: 0,
+        out: b"",
+    },
+];
+
+/// Has an interpreter failed, so that it evaluates nothing more?
+fn is_spent(alloc: Global, interp: Option<Interp>) -> Result<bool, AllocError> {
+    let Some(mut interp) = interp else {
+        return Ok(false);
+    };
+    let later = broken(alloc, &mut interp, "puts a")?;
+    Ok(interp.is_failed() && matches!(later, (Outcome::Failed, 0)))
+}
+
+/// Does a run over devices that take a byte a call break off so, and its interpreter with it?
+fn breaks_off(alloc: Global, row: &Breaking) -> Result<bool, AllocError> {
+    let inner = OneByte::new(MemoryInput::new(row.input));
+    let mut input = FaultyInput::new(inner, row.fail_read);
+    let inner = OneByte::new(MemoryOutput::new(alloc, 9)?);
+    let mut out = FaultyOutput::new(inner, row.fail_write, row.fail_flush);
+    let mut err = MemoryOutput::new(alloc, 9)?;
+    let report = run(alloc, row.script, &[], &mut input, &mut out, &mut err, 9);
+    let wrote = out.inner().inner().bytes() == row.out;
+    Ok(wrote && matches!(report.outcome, Outcome::Io) && is_spent(alloc, report.interp)?)
+}
+
+#[test]
+fn the_call_that_fails_ends_a_run(rt: HostRuntime) {
+    for row in &BREAKING {
+        assert!(rt; breaks_off(rt.alloc(), row) == Ok(true), "{}", row.script);
+    }
 }

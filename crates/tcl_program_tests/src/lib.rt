@@ -2,6 +2,8 @@
 #![tactic(auto)]
 
 #[cfg(test)]
+mod breaking;
+#[cfg(test)]
 mod session;
 #[cfg(test)]
 mod shell;

@@ -1,8 +1,9 @@
 //! Worked rows: scripts whose outputs, ends and costs were worked out by hand. It prints what the interpreter makes of
-//! them, and, where that is another thing, what it makes of them in parts of a few units. Behind them stand runs that pause, and
-//! what becomes of them. The gate compares.
+//! them, at how many calls of devices they can be broken off, and, where that is another thing, what it makes of them in
+//! parts of a few units. Behind them stand runs that pause, and what becomes of them. The gate compares.
 #![tactic(auto)]
 
+mod breaking;
 mod parts;
 mod rows;
 mod runs;
@@ -26,8 +27,9 @@ fn show_all(rt: &HostRuntime) -> io::Result<()> {
         let bytes = fs::read(rt, &name)?;
         let script = str::from_utf8(&bytes).unwrap_or("not UTF-8");
         let shown = rows::show(rt.alloc(), script)?;
+        let breaking = breaking::show_breaking(rt.alloc(), script)?;
         let parted = parts::show_parts(rt.alloc(), script)?;
-        println!(rt; "== {name}\n{shown}{parted}")?;
+        println!(rt; "== {name}\n{shown}{breaking}{parted}")?;
     }
     let shown = rows::show_failing(rt.alloc())?;
     println!(rt; "== an output that fails\n{shown}")?;

@@ -9,7 +9,7 @@ use tcl_chars::Dialect;
 use tcl_interp::{Config, Interp, Outcome, Report, run, run_with};
 
 /// More units than any row spends.
-pub(crate) const UNITS: u64 = 4000;
+pub(crate) const UNITS: u64 = 10_000;
 
 /// What a script finds on the input.
 pub(crate) const INPUT: &[u8] = b"a\r\nb";

@@ -1,0 +1,1 @@
+array set a {y 2 x 1}; puts [array get a]

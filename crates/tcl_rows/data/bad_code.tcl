@@ -1,1 +1,0 @@
-return -code 7 -level 0 r

@@ -1,0 +1,1 @@
+lindex a x

@@ -1,0 +1,1 @@
+dict exists {a 1} a b

@@ -1,0 +1,1 @@
+puts "[puts x][set y 2]"

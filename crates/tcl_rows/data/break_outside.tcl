@@ -1,0 +1,1 @@
+proc f {} {break}; f

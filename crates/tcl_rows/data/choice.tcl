@@ -1,0 +1,1 @@
+expr {1 ? 2 : [puts no]}

@@ -1,0 +1,1 @@
+upvar 0 a b; upvar 0 b a

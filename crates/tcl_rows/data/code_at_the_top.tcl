@@ -1,0 +1,1 @@
+return -code 7 -level 0 r

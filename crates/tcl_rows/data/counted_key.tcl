@@ -1,0 +1,1 @@
+dict incr e n; puts $e

@@ -1,0 +1,1 @@
+proc f {n} {if {$n > 0} {f [expr {$n - 1}]}}; f 499

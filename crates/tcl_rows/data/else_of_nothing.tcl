@@ -1,0 +1,1 @@
+if 0 {puts a} else

@@ -1,0 +1,1 @@
+switch -glob abc {a* - b {puts hit} default {puts d}}

@@ -1,0 +1,1 @@
+string first l hello 3

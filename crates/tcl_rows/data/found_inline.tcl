@@ -1,0 +1,1 @@
+lsearch -all -inline {ab cd ae} a*

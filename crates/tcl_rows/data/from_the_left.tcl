@@ -1,0 +1,1 @@
+set x 1; puts "$x;[set x 2]"

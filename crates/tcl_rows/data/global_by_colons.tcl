@@ -1,0 +1,1 @@
+proc q {} {set ::g 4}; q; puts $g

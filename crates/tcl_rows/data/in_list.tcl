@@ -1,0 +1,1 @@
+expr {"b" in {a b}}

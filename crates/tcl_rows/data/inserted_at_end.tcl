@@ -1,0 +1,1 @@
+linsert {a b} end x

@@ -1,0 +1,1 @@
+apply {x {set x}} 5

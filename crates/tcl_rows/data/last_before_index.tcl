@@ -1,0 +1,1 @@
+string last l hello 2

@@ -1,0 +1,1 @@
+proc p {} {set x 1; upvar 1 y x}; p

@@ -1,0 +1,1 @@
+string range hello 1 end-1

@@ -1,0 +1,1 @@
+catch {return -code 3 -level 2 v} m o; puts $o

@@ -1,0 +1,1 @@
+dict get {a 1} b
