@@ -22,7 +22,7 @@ from program import TOP, Program, Wrong
 from refusing import Refusing, build
 
 SPENT = b"budget spent\n"
-MOST_BUDGETS = 500
+MOST_BUDGETS = 1100
 KINDS = ("budgets", "devices", "growths", "growths-and-later")
 PROCESSORS = len(os.sched_getaffinity(0))
 
