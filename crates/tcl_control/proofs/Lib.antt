@@ -1,4 +1,5 @@
 pub mod AnswerLemmas
+pub mod ArmTexts
 pub mod ChoiceLemmas
 pub mod ExitLemmas
 pub mod HandlerLemmas

@@ -105,23 +105,26 @@ last_is (a ∷ b ∷ c ∷ d ∷ ws) (suc (suc n)) (suc k) h e = last_is (c ∷ 
 checked_is : (ws : List Text) (k : ℕ) → length ws ≡ 2 * k → checked ws ≡ last_checked (pairs_in ws)
 checked_is ws k h = ap (λ r. r >>= last_checked) (paired_even ws k h)
 
-pub pattern_left : (ws : List Text) → length ws ≢ 2 * (length ws / 2) → checked ws ≡ Err odd_pattern
-pattern_left ws h = ap (λ r. r >>= last_checked) (paired_odd ws (length ws / 2) (omega (arith, h)))
+-- of n words
 
-pub nothing_left : (ws : List Text) (k : ℕ) → length ws ≡ 2 * k → k ≡ 0 → checked ws ≡ Ok tt
-nothing_left ws k h e = checked_is ws k h ∙ ap last_checked (no_pairs ws (omega arith))
+pub pattern_left : (ws : List Text) (n : ℕ) → n ≡ length ws → n ≢ 2 * (n / 2) → checked ws ≡ Err odd_pattern
+pattern_left ws n e h = ap (λ r. r >>= last_checked) (paired_odd ws (n / 2) (omega (arith, e, h)))
 
-last_at : (ws : List Text) (k : ℕ) → length ws ≡ 2 * k → k ≢ 0 → checked ws ≡ last_by (is_dash (word ws (length ws - 1))) (word ws (length ws - 2))
-last_at ws k h e =
-    let size : length ws ≡ suc (suc (length ws - 2)) = omega (arith, h, e) in
-    let last : suc (length ws - 2) ≡ length ws - 1 = omega (arith, h, e) in
-    checked_is ws k h ∙ last_is ws (length ws - 2) k size h ∙ ap (λ i. last_by (is_dash (word ws i)) (word ws (length ws - 2))) last
+pub nothing_left : (ws : List Text) (n : ℕ) → n ≡ length ws → n ≡ 2 * (n / 2) → n / 2 ≡ 0 → checked ws ≡ Ok tt
+nothing_left ws n e h z = checked_is ws (n / 2) (sym e ∙ h) ∙ ap last_checked (no_pairs ws (omega (arith, e, h, z)))
 
-pub last_body : (ws : List Text) (k : ℕ) → length ws ≡ 2 * k → k ≢ 0 → is_word (literal "-") (word ws (length ws - 1)) ≡ false → checked ws ≡ Ok tt
-last_body ws k h e d = last_at ws k h e ∙ ap (λ b. last_by b (word ws (length ws - 2))) d
+last_at : (ws : List Text) (n : ℕ) → n ≡ length ws → n ≡ 2 * (n / 2) → n / 2 ≢ 0 → checked ws ≡ last_by (is_dash (word ws (n - 1))) (word ws (n - 2))
+last_at ws n e h z =
+    let size : length ws ≡ suc (suc (n - 2)) = omega (arith, e, h, z) in
+    let last : suc (n - 2) ≡ n - 1 = omega (arith, h, z) in
+    let even : length ws ≡ 2 * (n / 2) = sym e ∙ h in
+    checked_is ws (n / 2) even ∙ last_is ws (n - 2) (n / 2) size even ∙ ap (λ i. last_by (is_dash (word ws i)) (word ws (n - 2))) last
 
-pub last_dash : (ws : List Text) (k : ℕ) → length ws ≡ 2 * k → k ≢ 0 → is_word (literal "-") (word ws (length ws - 1)) ≡ true → checked ws ≡ Err (no_body (word ws (length ws - 2)))
-last_dash ws k h e d = last_at ws k h e ∙ ap (λ b. last_by b (word ws (length ws - 2))) d
+pub last_body : (ws : List Text) (n : ℕ) → n ≡ length ws → n ≡ 2 * (n / 2) → n / 2 ≢ 0 → is_word (literal "-") (word ws (n - 1)) ≡ false → checked ws ≡ Ok tt
+last_body ws n e h z d = last_at ws n e h z ∙ ap (λ b. last_by b (word ws (n - 2))) d
+
+pub last_dash : (ws : List Text) (n : ℕ) → n ≡ length ws → n ≡ 2 * (n / 2) → n / 2 ≢ 0 → is_word (literal "-") (word ws (n - 1)) ≡ true → checked ws ≡ Err (no_body (word ws (n - 2)))
+last_dash ws n e h z d = last_at ws n e h z ∙ ap (λ b. last_by b (word ws (n - 2))) d
 
 -- ---- among all
 

@@ -1,3 +1,4 @@
+pub mod Arms
 pub mod Choices
 pub mod Clauses
 pub mod Codes

@@ -4,6 +4,7 @@
 #![tactic(auto)]
 
 mod answers;
+mod arms;
 mod choices;
 mod codes;
 mod conditions;

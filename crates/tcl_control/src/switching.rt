@@ -7,20 +7,21 @@ ghost use Rattle.tcl_chars.specs.Texts.{literal, text_of};
 ghost use Rattle.tcl_steps.specs.Asked.{IsAsked};
 ghost use Rattle.tcl_arguments.specs.WordAt.{word};
 ghost use Rattle.tcl_steps.specs.Pairs.{pairs_in};
+ghost use Rattle.tcl_control.specs.Arms.{arm_texts};
 ghost use Rattle.tcl_control.specs.Switching.{checked};
 ghost use Rattle.tcl_control.specs.Switching as spec;
 ghost use Rattle.tcl_meaning.specs.Control as control;
 ghost use Rattle.tcl_meaning.specs.Shapes as shapes;
 
 use crate::answers::{word_at, words_behind};
+use crate::arms::Arms;
 use crate::conditions::body_asks;
 use crate::numbers::said_of;
 use std::alloc::{AllocError, Global};
 use std::rc::RcStr;
 use tcl_arguments::text_at;
 use tcl_chars::{Fault, about, begins, is_text, message};
-use tcl_glob::glob_match;
-use tcl_steps::{Completion, Loop, Owes, Scope, Step, is_word};
+use tcl_steps::{Completion, Loop, Owes, Scope, Step};
 use tcl_values::Value;
 
 // Are patterns read as `string match` reads them? Or what is said of a word that is no option.
@@ -61,88 +62,67 @@ fn options_of(alloc: Global, words: &mut [Value]) -> Result<(bool, usize), Fault
 }
 
 // What is wrong with patterns and bodies: one pattern has none, or the last body is `-`.
-fn checked(alloc: Global, words: &[Value]) -> Result<(), Fault>
-    ensures { Answers (λ _. tt) result (checked words.now) }
+fn checked(alloc: Global, arms: Arms<'_>) -> Result<(), Fault>
+    ensures { Answers (λ _. tt) result (checked (arm_texts arms.entry)) }
 {
-    let pairs = words.len() / 2;
-    if words.len() != 2 * pairs {
+    let count = arms.len();
+    let pairs = count / 2;
+    if count != 2 * pairs {
         let said = message(alloc, "extra switch pattern with no body")?;
         return Err(Fault::Error(said));
     }
     if pairs == 0 {
         return Ok(());
     }
-    let body = word_at(words, words.len() - 1)?;
-    let is_dash = is_word(alloc, &body, "-")?;
+    let is_dash = arms.is(alloc, count - 1, "-")?;
     if !is_dash {
         return Ok(());
     }
-    let mut pattern = word_at(words, words.len() - 2)?;
+    let mut pattern = arms.value(count - 2)?;
     let text = pattern.text(alloc)?;
     let said = said_of(alloc, "no body specified for pattern", text.as_str())?;
     Err(Fault::Error(said))
 }
 
-// Does a pattern match a text?
-fn matches_text(globs: bool, pattern: &str, text: &str) -> bool
-    ensures { result ≡ shapes.matches globs (chars pattern.now) (chars text.now) }
-{
-    if globs {
-        return glob_match(pattern, text);
-    }
-    is_text(pattern, text)
-}
-
-// The same of a word.
-fn matches(alloc: Global, globs: bool, pattern: &Value, text: &str) -> Result<bool, AllocError>
-    ensures { IfOk result (λ is. is ≡ shapes.matches globs pattern.now (chars text.now)) }
-{
-    if let Some(pattern) = pattern.shown() {
-        return Ok(matches_text(globs, pattern, text));
-    }
-    let mut copy = pattern.copy()?;
-    let pattern = copy.text(alloc)?;
-    Ok(matches_text(globs, pattern.as_str(), text))
-}
-
 // Is the first pattern of some `default` at the end?
-fn is_default(alloc: Global, words: &[Value]) -> Result<bool, AllocError>
-    requires { 2 ≤ length words.now }
-    ensures { IfOk result (λ is. is ≡ shapes.is_default (word words.now 0) (pairs_in (drop 2 words.now))) }
+fn is_default(alloc: Global, arms: Arms<'_>) -> Result<bool, AllocError>
+    requires { 2 ≤ length (arm_texts arms) }
+    ensures { IfOk result (λ is. is ≡ shapes.is_default (word (arm_texts arms.entry) 0) (pairs_in (drop 2 (arm_texts arms.entry)))) }
 {
-    if words.len() > 3 {
+    if arms.len() > 3 {
         return Ok(false);
     }
-    is_word(alloc, &words[0], "default")
+    arms.is(alloc, 0, "default")
 }
 
 // The first body that is none of `-`.
 #[tactic(auto, using(crate::proofs::SwitchPairs::body_here, crate::proofs::SwitchPairs::body_later, crate::proofs::SwitchPairs::body_nowhere))]
-fn body_from(alloc: Global, words: &[Value]) -> Result<Option<Value>, AllocError>
-    ensures { IfOk result (λ body. body ≡ shapes.body_from (pairs_in words.now)) }
+fn body_from(alloc: Global, arms: Arms<'_>) -> Result<Option<Value>, AllocError>
+    ensures { IfOk result (λ body. body ≡ shapes.body_from (pairs_in (arm_texts arms.entry))) }
 {
-    let mut rest = words;
+    let mut rest = arms;
     'pairs: while rest.len() > 1 {
-        let body = word_at(rest, 1)?;
-        let is_dash = is_word(alloc, &body, "-")?;
+        let is_dash = rest.is(alloc, 1, "-")?;
         if !is_dash {
+            let body = rest.value(1)?;
             return Ok(Some(body));
         }
-        let next = words_behind(rest, 2);
+        let next = rest.behind(2);
         rest = next;
     }
     Ok(None)
 }
 
 // Is the first pattern the one that is chosen?
-fn is_chosen(alloc: Global, globs: bool, text: &str, words: &[Value]) -> Result<bool, AllocError>
-    requires { 2 ≤ length words.now }
-    ensures { IfOk result (λ is. is ≡ (shapes.matches globs (word words.now 0) (chars text.now) || shapes.is_default (word words.now 0) (pairs_in (drop 2 words.now)))) }
+fn is_chosen(alloc: Global, globs: bool, text: &str, arms: Arms<'_>) -> Result<bool, AllocError>
+    requires { 2 ≤ length (arm_texts arms) }
+    ensures { IfOk result (λ is. is ≡ (shapes.matches globs (word (arm_texts arms.entry) 0) (chars text.now)
+        || shapes.is_default (word (arm_texts arms.entry) 0) (pairs_in (drop 2 (arm_texts arms.entry))))) }
 {
-    if matches(alloc, globs, &words[0], text)? {
+    if arms.matches(alloc, 0, globs, text)? {
         return Ok(true);
     }
-    is_default(alloc, words)
+    is_default(alloc, arms)
 }
 
 // The body of the first pattern that matches.
@@ -151,17 +131,17 @@ fn chosen(
     alloc: Global,
     globs: bool,
     text: &str,
-    words: &[Value],
+    arms: Arms<'_>,
 ) -> Result<Option<Value>, AllocError>
-    ensures { IfOk result (λ body. body ≡ shapes.chosen globs (chars text.now) (pairs_in words.now)) }
+    ensures { IfOk result (λ body. body ≡ shapes.chosen globs (chars text.now) (pairs_in (arm_texts arms.entry))) }
 {
-    let mut rest = words;
+    let mut rest = arms;
     'pairs: while rest.len() > 1 {
         let here = is_chosen(alloc, globs, text, rest)?;
         if here {
             return body_from(alloc, rest);
         }
-        let next = words_behind(rest, 2);
+        let next = rest.behind(2);
         rest = next;
     }
     Ok(None)
@@ -173,12 +153,12 @@ fn body_among(
     alloc: Global,
     globs: bool,
     text: &str,
-    words: &[Value],
+    arms: Arms<'_>,
 ) -> Result<Option<Value>, Fault>
-    ensures { Answers (λ body. body) result (spec.body_among globs (chars text.now) words.now) }
+    ensures { Answers (λ body. body) result (spec.body_among globs (chars text.now) (arm_texts arms.entry)) }
 {
-    checked(alloc, words)?;
-    Ok(chosen(alloc, globs, text, words)?)
+    checked(alloc, arms)?;
+    Ok(chosen(alloc, globs, text, arms)?)
 }
 
 // What is said of too few words.
@@ -211,11 +191,12 @@ fn body_behind(
     let text = text_at(alloc, words, first)?;
     if count == 2 {
         let mut list = word_at(words, first + 1)?;
-        let elements = list.list(alloc)?;
-        return body_among(alloc, globs, text.as_str(), &elements);
+        let row = list.row(alloc)?;
+        let arms = Arms::Elements(row.items());
+        return body_among(alloc, globs, text.as_str(), arms);
     }
     let pairs = words_behind(words, first + 1);
-    body_among(alloc, globs, text.as_str(), pairs)
+    body_among(alloc, globs, text.as_str(), Arms::Words(pairs))
 }
 
 // The body that is chosen.

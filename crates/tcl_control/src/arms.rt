@@ -1,0 +1,122 @@
+//! Patterns and bodies of switch(n), wherever they stand.
+ghost use Rattle.std.specs.Prelude.{◌≡◌, ◌<◌, ◌≤◌, drop, length, IfOk, IfSome};
+ghost use Rattle.std.specs.Str.{chars};
+ghost use Rattle.tcl_arguments.specs.WordAt.{word};
+ghost use Rattle.tcl_control.specs.Arms.{arm_texts};
+ghost use Rattle.tcl_meaning.specs.Shapes as shapes;
+ghost use Rattle.tcl_values.specs.Kept.{texts};
+
+use crate::answers::words_behind;
+use std::alloc::{AllocError, Global};
+use tcl_chars::is_text;
+use tcl_glob::glob_match;
+use tcl_steps::is_word;
+use tcl_values::{Element, Value};
+
+/// Patterns and bodies, one behind the other.
+#[derive(Clone, Copy)]
+pub(crate) enum Arms<'a> {
+    /// Words of the command.
+    Words(&'a [Value]),
+    /// Elements of its last word, a list, which are not copied.
+    Elements(&'a [Element]),
+}
+
+// Does a pattern match a text?
+fn matches_text(globs: bool, pattern: &str, text: &str) -> bool
+    ensures { result ≡ shapes.matches globs (chars pattern.now) (chars text.now) }
+{
+    if globs {
+        return glob_match(pattern, text);
+    }
+    is_text(pattern, text)
+}
+
+// The elements behind so many.
+#[tactic(auto, using(crate::proofs::ArmTexts::texts_length, crate::proofs::ArmTexts::texts_behind))]
+fn elements_behind(elements: &[Element], count: usize) -> &[Element]
+    requires { count ≤ length (texts elements.now) }
+    ensures { texts result.now ≡ drop count (texts elements.now) }
+{
+    &elements[count..]
+}
+
+impl<'a> Arms<'a> {
+    /// How many patterns and bodies these are.
+    #[tactic(auto, using(crate::proofs::ArmTexts::texts_length, crate::proofs::ArmTexts::text_at, crate::proofs::ArmTexts::texts_behind))]
+    pub(crate) fn len(self) -> usize
+        ensures { result ≡ length (arm_texts self.entry) }
+    {
+        match self {
+            Arms::Words(words) => words.len(),
+            Arms::Elements(elements) => elements.len(),
+        }
+    }
+
+    /// Those behind so many.
+    #[tactic(auto, using(crate::proofs::ArmTexts::texts_length, crate::proofs::ArmTexts::text_at, crate::proofs::ArmTexts::texts_behind))]
+    pub(crate) fn behind(self, count: usize) -> Arms<'a>
+        requires { count ≤ length (arm_texts self) }
+        ensures { arm_texts result ≡ drop count (arm_texts self.entry) }
+    {
+        match self {
+            Arms::Words(words) => Arms::Words(words_behind(words, count)),
+            Arms::Elements(elements) => Arms::Elements(elements_behind(elements, count)),
+        }
+    }
+
+    /// The text at a place, where it stands ready.
+    #[tactic(auto, using(crate::proofs::ArmTexts::texts_length, crate::proofs::ArmTexts::text_at, crate::proofs::ArmTexts::texts_behind))]
+    fn shown(self, place: usize) -> Option<&'a str>
+        requires { place < length (arm_texts self) }
+        ensures { IfSome result (λ t. chars t.now ≡ word (arm_texts self.entry) place) }
+    {
+        match self {
+            Arms::Words(words) => words[place].shown(),
+            Arms::Elements(elements) => Some(elements[place].text()),
+        }
+    }
+
+    /// The value of the text at a place. What is kept of it is shared.
+    #[tactic(auto, using(crate::proofs::ArmTexts::texts_length, crate::proofs::ArmTexts::text_at, crate::proofs::ArmTexts::texts_behind))]
+    pub(crate) fn value(self, place: usize) -> Result<Value, AllocError>
+        requires { place < length (arm_texts self) }
+        ensures { IfOk result (λ value. value ≡ word (arm_texts self.entry) place) }
+    {
+        match self {
+            Arms::Words(words) => words[place].copy(),
+            Arms::Elements(elements) => elements[place].copy(),
+        }
+    }
+
+    /// Is the text at a place this word?
+    pub(crate) fn is(self, alloc: Global, place: usize, known: &str) -> Result<bool, AllocError>
+        requires { place < length (arm_texts self) }
+        ensures { IfOk result (λ is. is ≡ shapes.is_word (chars known.now) (word (arm_texts self.entry) place)) }
+    {
+        if let Some(shown) = self.shown(place) {
+            return Ok(is_text(shown, known));
+        }
+        let value = self.value(place)?;
+        is_word(alloc, &value, known)
+    }
+
+    /// Does the pattern at a place match a text?
+    pub(crate) fn matches(
+        self,
+        alloc: Global,
+        place: usize,
+        globs: bool,
+        text: &str,
+    ) -> Result<bool, AllocError>
+        requires { place < length (arm_texts self) }
+        ensures { IfOk result (λ is. is ≡ shapes.matches globs (word (arm_texts self.entry) place) (chars text.now)) }
+    {
+        if let Some(pattern) = self.shown(place) {
+            return Ok(matches_text(globs, pattern, text));
+        }
+        let mut value = self.value(place)?;
+        let pattern = value.text(alloc)?;
+        Ok(matches_text(globs, pattern.as_str(), text))
+    }
+}
