@@ -6,7 +6,7 @@ use tcl_chan::device::{Input, Output};
 use tcl_chan::faulty::FaultyOutput;
 use tcl_chan::memory::{MemoryInput, MemoryOutput};
 use tcl_chan::world::World;
-use tcl_interp::{Interp, Outcome, Run};
+use tcl_interp::{HostFault, Interp, Outcome, Run};
 
 /// The bytes that an output may hold.
 pub(crate) const CAPACITY: usize = 64;
@@ -75,6 +75,25 @@ pub(crate) fn show_leg(
     show_put(out.inner(), shown)
 }
 
+// A run of a script in this interpreter, or why none is begun.
+fn begun(interp: Interp, script: &str) -> Result<Run, HostFault> {
+    match interp.start(script) {
+        Ok(run) => Ok(run),
+        Err((_, fault)) => Err(fault),
+    }
+}
+
+// Adds what a run comes to with some units.
+fn show_begun(alloc: Global, run: Run, lent: Lent, shown: &mut String) -> Result<(), AllocError> {
+    let mut run = run;
+    show_leg(alloc, &mut run, lent, &[9], shown)
+}
+
+// Adds why no run is begun.
+fn show_fault(fault: HostFault, shown: &mut String) -> Result<(), AllocError> {
+    writeln!(shown, "  not started: {fault:?}")
+}
+
 /// Runs a script in this interpreter with some units, and adds what it comes to.
 pub(crate) fn show_next(
     alloc: Global,
@@ -83,11 +102,8 @@ pub(crate) fn show_next(
     script: &str,
     shown: &mut String,
 ) -> Result<(), AllocError> {
-    match interp.start(script) {
-        Ok(started) => {
-            let mut run = started;
-            show_leg(alloc, &mut run, lent, &[9], shown)
-        }
-        Err((_, fault)) => writeln!(shown, "  not started: {fault:?}"),
+    match begun(interp, script) {
+        Ok(run) => show_begun(alloc, run, lent, shown),
+        Err(fault) => show_fault(fault, shown),
     }
 }
