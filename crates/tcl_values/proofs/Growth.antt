@@ -1,8 +1,8 @@
 -- Texts that are known to be ASCII.
-use Rattle.std.proofs.Common.{◌≡◌, Bool, true, false, ℕ, List, ◌++◌, sym, subst, ap₂, ◌∙◌}
+use Rattle.std.proofs.Common.{◌≡◌, Bool, true, false, ℕ, List, ◌++◌, refl, sym, subst, ap₂, ◌∙◌}
 use Rattle.std.specs.Bool.{OnTrue}
 use Rattle.std.specs.Str.{chars, IsAscii, IsUtf8}
-use Rattle.std.proofs.lemmas.Str.{chars-IsAscii, IsAscii-append, IsUtf8-from_ascii}
+use Rattle.std.proofs.lemmas.Str.{chars-IsAscii, IsAscii-append, IsUtf8-append, IsUtf8-from_ascii, chars-append}
 use Rattle.tcl_chars.proofs.Same.{same_chars}
 
 pub when_true : (b : Bool) (bs : List ℕ) → b ≡ true → OnTrue b (IsAscii bs) → IsAscii bs
@@ -20,6 +20,11 @@ both_known old more new u e h k =
     let same = same_chars new (old ++ more) u (IsUtf8-from_ascii (old ++ more) both) (e ∙ apart ∙ sym (chars-IsAscii (old ++ more) both)) in
     subst IsAscii (sym same) both
 
-pub known_behind : (b : Bool) (old more new : List ℕ) → IsUtf8 new → chars new ≡ chars old ++ chars more → OnTrue b (IsAscii old) → IsAscii more → OnTrue b (IsAscii new)
-known_behind true old more new u e h k = both_known old more new u e h k
-known_behind false old more new u e h k = h
+-- of a text that stays known to be ASCII
+pub known_behind : (b r : Bool) (old more new : List ℕ) → IsUtf8 new → chars new ≡ chars old ++ chars more → (r ≡ true → b ≡ true) → OnTrue r (IsAscii more) → OnTrue b (IsAscii old) → OnTrue r (IsAscii new)
+known_behind b true old more new u e was k h = both_known old more new u e (when_true b old (was refl) h) k
+known_behind b false old more new u e was k h = tt
+
+-- the bytes of what is written behind a text
+pub bytes_behind : (old more new : List ℕ) → IsUtf8 old → IsUtf8 more → IsUtf8 new → chars new ≡ chars old ++ chars more → new ≡ old ++ more
+bytes_behind old more new u v w e = same_chars new (old ++ more) w (IsUtf8-append old more u v) (e ∙ sym (chars-append old more u))

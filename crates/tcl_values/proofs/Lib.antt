@@ -1,9 +1,11 @@
+pub mod Beginnings
 pub mod Changed
 pub mod ChangedPairs
 pub mod Decimals
 pub mod Depths
 pub mod ElementPlaces
 pub mod Gathered
+pub mod Grown
 pub mod Growth
 pub mod Joined
 pub mod Lengthened

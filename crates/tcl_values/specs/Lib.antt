@@ -4,6 +4,7 @@ pub mod Falls
 pub mod Gathered
 pub mod Kept
 pub mod Lists
+pub mod Marks
 pub mod Numerals
 pub mod Paired
 pub mod Shape

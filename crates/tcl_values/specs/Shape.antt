@@ -18,6 +18,7 @@ use Rattle.tcl_list.specs.Elements.{elements_of}
 use Rattle.tcl_list.specs.Written.{written}
 use Rattle.tcl_list.specs.Texts.{text_of}
 use Rattle.tcl_values.specs.Kept.{Kept, texts, depth_over}
+use Rattle.tcl_values.specs.Marks.{AreMarks}
 use Rattle.tcl_values.specs.Numerals.{digits, AreDigits}
 use Rattle.tcl_values.specs.Paired.{zipped}
 use Rattle.tcl_pages.specs.Dictionaries.{pairs_of}
@@ -106,9 +107,10 @@ pub record AreSamePairs (p q : Pairs) : Type 0 where
 
 -- ---- elements and values
 
--- what is said to be ASCII is it
-abbrev pub IsGrown : Growing → Type 0
-IsGrown g = OnTrue g.ascii (IsAscii (string_bytes g.text))
+-- what is said to be ASCII is it, and the marks are the text's
+pub record IsGrown (g : Growing) : Type 0 where
+  pub ascii : OnTrue g.ascii (IsAscii (string_bytes g.text))
+  pub marks : AreMarks g.marks.before.items (string_bytes g.text)
 
 abbrev pub number_in : Dialect → Numbers → ℤ
 number_in Tcl86 ns = ns.tcl86
@@ -122,6 +124,7 @@ AreNumbers ns t = (dialect : Dialect) → whole_of dialect t ≡ Number (number_
 pub record IsLiteral (l : Literal) : Type 0 where
   pub ascii : OnTrue l.ascii (IsAscii (rc_str_bytes l.text))
   pub numbers : IfSome l.numbers (λ ns. AreNumbers ns (text_of l.text))
+  pub marks : AreMarks l.marks.before.items (rc_str_bytes l.text)
 
 -- a list without a text of its own, and how it is written
 pub record IsWritten (r : Items) (t : String Global) : Type 0 where
@@ -168,6 +171,7 @@ IsElement a = IsEntry a.entry
 pub record AreSameGrown (g h : Growing) : Type 0 where
   pub text : string_bytes g.text ≡ string_bytes h.text
   pub ascii : g.ascii ≡ h.ascii
+  pub marks : g.marks.before.items ≡ h.marks.before.items
 
 abbrev pub composed_text : Composed → List ℕ
 composed_text c = chars (string_bytes c.growing.text)

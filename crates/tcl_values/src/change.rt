@@ -14,12 +14,13 @@ ghost use Rattle.tcl_values.specs.Kept.{texts, depth_over};
 ghost use Rattle.tcl_values.specs.Lists.{lengthened, Leaves};
 ghost use Rattle.tcl_values.specs.Shape.{elements, pairs_in, pairs_text, ArePaired, IsWritten};
 
+use crate::composed::joined;
 use crate::dict::read_dict;
 use crate::element::{Element, Entry, Items, Lengthening, Pairs};
 use crate::items::{copy_elements, deepest, write_text};
 use crate::list::plain_elements;
 use crate::pairs::add_pair;
-use crate::value::{Growing, Held, Value, grow, joined};
+use crate::value::{Growing, Held, Value, grow};
 use std::alloc::{AllocError, Global};
 use std::rc::{Rc, RcStr};
 use tcl_chars::Fault;

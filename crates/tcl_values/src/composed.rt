@@ -1,14 +1,15 @@
 //! Texts that were composed, and may grow at their ends. What they are read as all their copies share.
 
-ghost use Rattle.std.specs.Prelude.{◌≡◌, ◌++◌, OnOk, OnErr};
+ghost use Rattle.std.specs.Prelude.{◌≡◌, ◌++◌, IfOk, OnOk, OnErr};
 ghost use Rattle.std.specs.Str.{chars};
 ghost use Rattle.std.specs.String.{string_bytes};
 ghost use Rattle.tcl_values.specs.Shape.{composed_text, IsGrown};
 
 use crate::readings::Readings;
 use crate::value::Growing;
-use std::alloc::AllocError;
+use std::alloc::{AllocError, Global};
 use std::rc::Rc;
+use tcl_chars::push_text;
 
 /// A text that grows at its end, and what it was read as since it grew.
 #[derive(Drop)]
@@ -56,7 +57,17 @@ impl Composed {
     }
 }
 
+/// The one text and the other behind it.
+pub(crate) fn joined(alloc: Global, text: &str, more: &str) -> Result<String, AllocError>
+    ensures { IfOk result (λ s. chars (string_bytes s) ≡ chars text.now ++ chars more.now) }
+{
+    let mut joined = String::from_str(alloc, text)?;
+    push_text(&mut joined, more)?;
+    Ok(joined)
+}
+
 /// Writes a text at the end of one, in place where nobody else holds it.
+#[tactic(auto, using(crate::proofs::Grown::composed_same))]
 pub(crate) fn extend(text: &mut Rc<Composed>, more: &str) -> Result<(), AllocError>
     requires { IsGrown text.old.value.growing }
     ensures done { OnOk result (composed_text text.new.value ≡ composed_text text.old.value ++ chars more.now) }

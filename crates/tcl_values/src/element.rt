@@ -6,6 +6,7 @@ ghost use Rattle.tcl_list.specs.Texts.{text_of};
 
 use crate::digits::Digits;
 use crate::literal::with_room;
+use crate::marks::Marks;
 use crate::value::{Growing, Held, Value};
 use indexmap::IndexSet;
 use std::alloc::{AllocError, Global};
@@ -141,7 +142,7 @@ impl Element {
     {
         match &self.entry {
             Entry::Text(text) => Ok(Value {
-                held: with_room(alloc, text.clone()?, false)?,
+                held: with_room(alloc, text.clone()?, false, Marks::new(alloc))?,
             }),
             _ => self.copy(),
         }

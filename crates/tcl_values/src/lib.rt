@@ -4,11 +4,13 @@
 //! What is kept is shared by copies of a value and copied where one of them is changed. A change of a value that has no copy is
 //! made in place.
 //!
-//! - [`Value`]: made by `of_text`, `of_shared`, `of_literal`, `of_string`, `of_int`, `of_list`; copied by `copy`. Read by `text`, `shown` and `ascii`, as a number by
-//!   `whole`, and without any reading by `number` and `known_number`, as a list by `count`, `item`, `row`, `list`, `range`. Changed by
+//! - [`Value`]: made by `of_text`, `of_shared`, `of_literal`, `of_string`, `of_int`, `of_list`; copied by `copy`. Read by `text`,
+//!   `shown`, `ascii` and `places`, as a number by `whole`, and without any reading by `number` and `known_number`, as a list by
+//!   `count`, `item`, `row`, `list`, `range`. Changed by
 //!   `append` at the end of the text, and as a list by `push`, `replace_item` and `splice`; `take_item` lends an element to a change.
 //!   As a dictionary made by `of_dict`, read by `dict_size`, `dict_get`, `dictionary`, changed by `dict_put`, `dict_remove` and
 //!   `dict_change`.
+//! - [`Places`]: the characters of a text, found by their places.
 //! - [`Change`]: what `dict_change` makes of the value under a key. A list or a text that has grown there once grows in place from then on.
 //! - [`Dictionary`]: the pairs of a value, to be looked at and to be changed into another dictionary; a share as a row is.
 //! - [`Row`]: the elements of a value, to be looked at as a slice of [`Element`]s. It is a share of the value's list: drop it
@@ -29,8 +31,10 @@ mod gathering;
 mod items;
 mod list;
 mod literal;
+mod marks;
 mod numerals;
 mod pairs;
+mod places;
 mod readings;
 mod row;
 mod single;
@@ -42,5 +46,6 @@ pub use change::Change;
 pub use dictionary::Dictionary;
 pub use element::Element;
 pub use gathering::Gathering;
+pub use places::Places;
 pub use row::Row;
 pub use value::Value;

@@ -6,8 +6,11 @@ ghost use Rattle.std.specs.Rc.{rc_str_bytes};
 ghost use Rattle.std.specs.Str.{chars, IsAscii};
 ghost use Rattle.tcl_chars.specs.Texts.{text_of};
 ghost use Rattle.tcl_chars.specs.Whole.{whole_of};
+ghost use Rattle.tcl_values.specs.Marks.{AreMarks};
 ghost use Rattle.tcl_values.specs.Shape.{held_text, number_in, AreNumbers, IsHeld, IsLiteral};
 
+use crate::marks::Marks;
+use crate::places::Places;
 use crate::readings::Readings;
 use crate::value::{Held, Value};
 use std::alloc::{AllocError, Global};
@@ -22,6 +25,8 @@ pub(crate) struct Literal {
     ascii: bool,
     /// The numbers that it is read as, where it begins as a number does and is one in each dialect.
     numbers: Option<Numbers>,
+    /// Where characters stand in a long text past ASCII.
+    marks: Marks,
     pub(crate) readings: Readings,
 }
 
@@ -62,23 +67,26 @@ impl Numbers {
 
 impl Literal {
     /// This text, which is looked at once.
-    pub(crate) fn new(text: RcStr) -> Literal
+    pub(crate) fn new(alloc: Global, text: RcStr) -> Literal
         ensures text { result.text ≡ text }
         ensures known { IsLiteral result }
     {
         let ascii = text.as_str().is_ascii();
         let numbers = Numbers::read(text.as_str());
+        let marks = Marks::of(alloc, text.as_str(), ascii);
         Literal {
             text,
             ascii,
             numbers,
+            marks,
             readings: Readings::new(),
         }
     }
 
     /// This text, which isn't read as a number.
-    fn unread(text: RcStr, ascii: bool) -> Literal
-        requires { OnTrue ascii (IsAscii (rc_str_bytes text)) }
+    fn unread(text: RcStr, ascii: bool, marks: Marks) -> Literal
+        requires ascii { OnTrue ascii (IsAscii (rc_str_bytes text)) }
+        requires marks { AreMarks marks.before.items (rc_str_bytes text) }
         ensures text { result.text ≡ text }
         ensures known { IsLiteral result }
     {
@@ -86,6 +94,7 @@ impl Literal {
             text,
             ascii,
             numbers: None,
+            marks,
             readings: Readings::new(),
         }
     }
@@ -101,6 +110,14 @@ impl Literal {
         } else {
             None
         }
+    }
+
+    /// Its characters by their places.
+    pub(crate) fn places(&self) -> Places<'_>
+        requires { IsLiteral self.now }
+        ensures { result ≡ text_of self.now.text }
+    {
+        Places::known(self.text.as_str(), self.ascii, &self.marks.before)
     }
 
     /// The number that the text is read as, where it was read when the literal was made.
@@ -119,13 +136,19 @@ impl Literal {
 const LONG: usize = 32;
 
 /// A text, which is said to be ASCII or of which that isn't known. A long one has room for what it is read as.
-pub(crate) fn with_room(alloc: Global, text: RcStr, ascii: bool) -> Result<Held, AllocError>
-    requires { OnTrue ascii (IsAscii (rc_str_bytes text)) }
+pub(crate) fn with_room(
+    alloc: Global,
+    text: RcStr,
+    ascii: bool,
+    marks: Marks,
+) -> Result<Held, AllocError>
+    requires ascii { OnTrue ascii (IsAscii (rc_str_bytes text)) }
+    requires marks { AreMarks marks.before.items (rc_str_bytes text) }
     ensures text { IfOk result (λ h. held_text h ≡ text_of text) }
     ensures kept { IfOk result (λ h. IsHeld h) }
 {
     if LONG <= text.len() {
-        return Ok(Held::Literal(Rc::new(alloc, Literal::unread(text, ascii))?));
+        return Ok(Held::Literal(Rc::new(alloc, Literal::unread(text, ascii, marks))?));
     }
     if ascii {
         return Ok(Held::Ascii(text));
@@ -139,8 +162,9 @@ impl Value {
         ensures { IfOk result (λ v. v ≡ text_of text) }
     {
         let ascii = text.as_str().is_ascii();
+        let marks = Marks::of(alloc, text.as_str(), ascii);
         Ok(Value {
-            held: with_room(alloc, text, ascii)?,
+            held: with_room(alloc, text, ascii, marks)?,
         })
     }
 }

@@ -8,10 +8,11 @@ ghost use Rattle.tcl_chars.specs.Whole.{whole_of};
 ghost use Rattle.tcl_list.specs.Texts.{text_of};
 ghost use Rattle.tcl_values.specs.Shape.{held_text, is_dict, is_row, IsGrown, IsHeld};
 
-use crate::composed::{Composed, extend};
+use crate::composed::{Composed, extend, joined};
 use crate::element::{Items, Pairs};
 use crate::items::{row_text, show};
 use crate::literal::Literal;
+use crate::marks::{Marks, stays_ascii};
 use crate::pairs::{dict_text, show_pairs};
 use itoa::Buffer;
 use std::alloc::{AllocError, Global};
@@ -52,6 +53,8 @@ pub(crate) struct Growing {
     pub(crate) text: String,
     /// Is it known to be ASCII?
     pub(crate) ascii: bool,
+    /// Where characters stand in a long text past ASCII.
+    pub(crate) marks: Marks,
 }
 
 impl Clone for Growing {
@@ -63,6 +66,7 @@ impl Clone for Growing {
         Ok(Growing {
             text: self.text.clone()?,
             ascii: self.ascii,
+            marks: self.marks.copy()?,
         })
     }
 }
@@ -74,7 +78,8 @@ impl Growing {
         ensures known { IsGrown result }
     {
         let ascii = text.as_str().is_ascii();
-        Growing { text, ascii }
+        let marks = Marks::of(*text.allocator(), text.as_str(), ascii);
+        Growing { text, ascii, marks }
     }
 
     /// The text, where it is known to be ASCII.
@@ -90,7 +95,8 @@ impl Growing {
         }
     }
 
-    /// Writes a text at its end. Of what stands there already nothing is looked at.
+    /// Writes a text at its end. Of what stands there already no more than a block is looked at.
+    #[tactic(auto, using(crate::proofs::Growth::known_behind))]
     pub(crate) fn push(&mut self, more: &str) -> Result<(), AllocError>
         requires { IsGrown self.old }
         ensures done { OnOk result (chars (string_bytes self.new.text)
@@ -99,9 +105,8 @@ impl Growing {
         ensures known { IsGrown self.new }
     {
         push_text(&mut self.text, more)?;
-        if !more.is_ascii() {
-            self.ascii = false;
-        }
+        self.ascii = stays_ascii(self.ascii, more);
+        self.marks.follow(self.text.as_str(), self.ascii);
         Ok(())
     }
 }
@@ -145,16 +150,8 @@ fn read_number(text: &str, dialect: Dialect) -> (Whole, Option<i64>)
     (whole, canonical(text, whole))
 }
 
-/// The one text and the other behind it.
-pub(crate) fn joined(alloc: Global, text: &str, more: &str) -> Result<String, AllocError>
-    ensures { IfOk result (λ s. chars (string_bytes s) ≡ chars text.now ++ chars more.now) }
-{
-    let mut joined = String::from_str(alloc, text)?;
-    push_text(&mut joined, more)?;
-    Ok(joined)
-}
-
 /// Writes a text at the end of one, in place where nobody else holds it.
+#[tactic(auto, using(crate::proofs::Grown::grown_same))]
 pub(crate) fn grow(text: &mut Rc<Growing>, more: &str) -> Result<(), AllocError>
     requires { IsGrown text.old.value }
     ensures done { OnOk result (chars (string_bytes text.new.value.text)
@@ -217,7 +214,7 @@ impl Value {
         ensures { IfOk result (λ v. v ≡ text_of text) }
     {
         Ok(Value {
-            held: Held::Literal(Rc::new(alloc, Literal::new(text))?),
+            held: Held::Literal(Rc::new(alloc, Literal::new(alloc, text))?),
         })
     }
 
