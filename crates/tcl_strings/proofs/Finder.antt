@@ -10,6 +10,7 @@ use Rattle.tcl_chars.specs.Truth.{is_beginning}
 use Rattle.tcl_pages.specs.Strings.{places_of, found_at, is_before, first_from, ends_by, last_until}
 use Rattle.tcl_pages.specs.Texts.{Text}
 use Rattle.tcl_pages.proofs.FirstPlace.{begins}
+use Rattle.tcl_strings.proofs.Bytes.{clamped_le}
 
 -- ---- where the needle begins what is left
 
@@ -161,16 +162,12 @@ occurs_whole hay needle e j w h =
     let by : j + length needle ≤ e = omega (arith, length-take-le e hay w) in
     (by, record { fits = omega arith; reads = λ i b. sym (get_or-take e hay (j + i) 0 (omega arith)) ∙ h.reads i b })
 
-clamped_within : (z : ℤ) (n : ℕ) → clamp z n ≤ n
-clamped_within (pos k) n = omega arith
-clamped_within (negsuc k) n = omega arith
-
 no_last : (needle hay : Text) (end : ℤ) → FindsLastNeedle (take (clamp (end +ℤ pos 1) (length hay)) hay) needle None
     → last_until (length needle) end None (found_at needle hay) ≡ None
 no_last [] hay end f = refl
 no_last (c ∷ cs) hay end f =
     let e = clamp (end +ℤ pos 1) (length hay) in
-    let w = clamped_within (end +ℤ pos 1) (length hay) in
+    let w = clamped_le (end +ℤ pos 1) (length hay) in
     last_none (c ∷ cs) hay (length (c ∷ cs)) end None 0 (λ j l b.
     let occurs = begins_occurs hay (c ∷ cs) j (omega arith) b in
     let same = ends_by_clamped (length (c ∷ cs)) end (length hay) j (omega arith) occurs.fits in
@@ -184,7 +181,7 @@ is_last : (needle hay : Text) (end : ℤ) (place : ℕ) → 0 < length needle �
 is_last [] hay end place n f = absurd (omega arith)
 is_last (c ∷ cs) hay end place n f =
     let e = clamp (end +ℤ pos 1) (length hay) in
-    let w = clamped_within (end +ℤ pos 1) (length hay) in
+    let w = clamped_le (end +ℤ pos 1) (length hay) in
     let whole = occurs_whole hay (c ∷ cs) e place w f.1 in
     let by = whole.0 in
     let same : 0 + place ≡ place = omega arith in
@@ -230,3 +227,46 @@ last_found hay needle bytes ours end behind r n b o f h =
     let part = ap (λ t. take behind t) b ∙ ap (λ n. take n hay) f in
     last_of_part needle hay end r (not_empty _ n)
     (subst (λ t. FindsLastNeedle (take (clamp (end +ℤ pos 1) (length hay)) hay) t r) o (subst (λ t. FindsLastNeedle t ours r) part h))
+
+-- ---- walks that begin at the start, and end at the end
+
+first_skip : (needle t : Text) (start : ℤ) (k j : ℕ) → j ≤ length t → ((i : ℕ) → i < j → is_before (k + i) start ≡ true)
+    → first_from start (places_of needle (k + j) (drop j t)) ≡ first_from start (places_of needle k t)
+first_skip needle t start k zero l h = let here : k + 0 ≡ k = omega arith in ap (λ n. first_from start (places_of needle n t)) here
+first_skip needle [] start k (suc j) l h = absurd (omega (arith, l))
+first_skip needle (c ∷ cs) start k (suc j) l h =
+    let there : k + suc j ≡ suc k + j = omega arith in
+    let here : k + 0 ≡ k = omega arith in
+    let later = ap (λ n. first_from start (places_of needle n (drop j cs))) there
+    ∙ first_skip needle cs start (suc k) j (omega (arith, l)) (λ i m. let one : k + suc i ≡ suc k + i = omega arith in subst (λ n. is_before n start ≡ true) one (h (suc i) (omega (arith, m)))) in
+    elim (cases_Bool (is_beginning needle (c ∷ cs))) [
+      | inl y ↦ later ∙ sym (ap (first_from start) (cond-true _ _ _ y) ∙ cond-true _ _ _ (subst (λ n. is_before n start ≡ true) here (h 0 (omega arith))))
+      | inr o ↦ later ∙ sym (ap (first_from start) (cond-false _ _ _ o))
+    ]
+
+-- no place before the start is one that is sought
+skipped : (needle t : Text) (start : ℤ) → first_from start (places_of needle (clamp start (length t)) (drop (clamp start (length t)) t)) ≡ first_from start (places_of needle 0 t)
+skipped needle t start =
+    let from = clamp start (length t) in
+    let whole : 0 + from ≡ from = omega arith in
+    let le : from ≤ length t = clamped_le start (length t) in
+    ap (λ n. first_from start (places_of needle n (drop from t))) (sym whole)
+    ∙ first_skip needle t start 0 from le (λ i l. let one : 0 + i ≡ i = omega arith in ap (λ n. is_before n start) one ∙ is_before_clamped start (length t) i (omega (arith, l, le)) ∙ lt-ltb i from l)
+
+pub from_start : (needle t rest : Text) (start : ℤ) (place : ℕ) → place ≡ clamp start (length t) → rest ≡ drop place t
+    → first_from start (places_of needle place rest) ≡ first_from start (places_of needle 0 t)
+from_start needle t rest start place p r =
+    ap (λ u. first_from start (places_of needle place u)) r ∙ ap (λ n. first_from start (places_of needle n (drop n t))) p ∙ skipped needle t start
+
+pub left_from_start : (t rest : Text) (start : ℤ) (place count : ℕ) → place ≡ clamp start (length t) → count ≡ length t → rest ≡ drop place t → place + length rest ≡ count
+left_from_start t rest start place count p n r =
+    let size : length rest ≡ length (drop place t) = ap length r in
+    omega (arith, p, n, size, length-drop place t, clamped_le start (length t))
+
+ends_later : (size : ℕ) (end : ℤ) (k j : ℕ) → ends_by size end k ≡ false → ends_by size end (k + j) ≡ false
+ends_later size (pos n) k j e = lt-leb (k + j + size) (suc n) (omega (arith, leb-false (k + size) (suc n) e))
+ends_later size (negsuc n) k j e = refl
+
+-- none that comes is one either
+pub none_ends_by : (needle t : Text) (size : ℕ) (end : ℤ) (found : Option ℕ) (k : ℕ) → ends_by size end k ≡ false → last_until size end found (places_of needle k t) ≡ found
+none_ends_by needle t size end found k e = last_none needle t size end found k (λ j l b. ends_later size end k j e)

@@ -1,26 +1,25 @@
 //! Characters by their places: string(n), length, index, range, replace.
 
-ghost use Rattle.std.specs.Prelude.{◌≡◌, ◌++◌, length, take, drop, [], option_map, slice_get, unwrap_or, IfOk};
+ghost use Rattle.std.specs.Prelude.{◌≡◌, ◌++◌, length, take, [], option_map, slice_get, unwrap_or, IfOk};
 ghost use Rattle.std.specs.Str.{chars};
 ghost use Rattle.std.specs.String.{string_bytes};
 ghost use Rattle.tcl_chars.specs.Answers.{Answers};
 ghost use Rattle.tcl_chars.specs.Texts.{text_of};
 ghost use Rattle.tcl_pages.specs.Strings as spec;
 
-use crate::ascii::{character_at, characters_between};
 use std::alloc::{AllocError, Global};
 use std::rc::RcStr;
 use tcl_arguments::{
     behind, index_of, one_text, text_at, three_or_four_texts, three_texts, two_texts,
 };
-use tcl_chars::{Dialect, Fault, before, clamp, push_text, split_first};
-use tcl_values::Value;
+use tcl_chars::{Dialect, Fault, clamp, push_text};
+use tcl_values::{Places, Value};
 
 /// How many characters the text has.
 pub(crate) fn count(text: &str) -> usize
     ensures { result ≡ length (chars text.now) }
 {
-    text.chars().count()
+    Places::of(text).len()
 }
 
 /// An empty text with room for `size` bytes.
@@ -31,42 +30,26 @@ pub(crate) fn room(alloc: Global, size: usize) -> Result<String, AllocError>
     String::with_capacity(alloc, size)
 }
 
-/// The text without its first `count` characters, or without all of them where there are fewer.
-pub(crate) fn rest(text: &str, count: usize) -> &str
-    ensures { chars result.now ≡ drop count (chars text.now) }
-{
-    let mut rest = text;
-    let mut left = count;
-    while left > 0 {
-        let Some((_, after)) = split_first(rest) else {
-            return rest;
-        };
-        rest = after;
-        left -= 1;
-    }
-    rest
-}
-
 /// The first `count` characters of the text, or all of them where there are fewer.
 pub(crate) fn front(text: &str, count: usize) -> &str
     ensures { chars result.now ≡ take count (chars text.now) }
 {
-    before(text, rest(text, count))
+    Places::of(text).front(count)
 }
 
 /// The character at a place, and nothing where the text has no such place.
-#[tactic(auto, using(crate::proofs::Empty::no_chars, crate::proofs::Empty::nothing_behind))]
-fn at_place(text: &str, place: i128, count: usize) -> &str
-    requires { count ≡ length (chars text.now) }
-    ensures { chars result.now ≡ spec.at_place (chars text.now) place }
+#[tactic(auto, using(crate::proofs::Empty::no_chars, crate::proofs::Empty::nothing_behind, crate::proofs::Bytes::one_between))]
+fn at_place<'a>(places: &Places<'a>, place: i128) -> &'a str
+    ensures { chars result.now ≡ spec.at_place places.now place }
 {
     if place < 0 {
         return "";
     }
-    if place >= i128::from(count as u64) {
+    if place >= i128::from(places.len() as u64) {
         return "";
     }
-    front(rest(text, place as usize), 1)
+    let place = place as usize;
+    places.part(place, place + 1)
 }
 
 /// Is first above last or past the end, or last below 0?
@@ -79,22 +62,22 @@ fn replaces_nothing(count: usize, first: i128, last: i128) -> bool
 /// The text with `new` in place of the characters from the first place to the last one.
 fn replaced(
     alloc: Global,
-    text: &str,
+    places: &Places<'_>,
     first: i128,
     last: i128,
     new: &str,
-    count: usize,
 ) -> Result<String, AllocError>
-    requires { count ≡ length (chars text.now) }
-    ensures { IfOk result (λ s. chars (string_bytes s) ≡ spec.replaced_text (chars text.now) first last (chars new.now)) }
+    ensures { IfOk result (λ s. chars (string_bytes s) ≡ spec.replaced_text places.now first last (chars new.now)) }
 {
+    let text = places.text();
+    let count = places.len();
     if replaces_nothing(count, first, last) {
         return String::from_str(alloc, text);
     }
     let mut changed = room(alloc, text.len())?;
-    push_text(&mut changed, front(text, clamp(first, count)))?;
+    push_text(&mut changed, places.front(clamp(first, count)))?;
     push_text(&mut changed, new)?;
-    push_text(&mut changed, rest(text, behind(last, count)))?;
+    push_text(&mut changed, places.rest(behind(last, count)))?;
     Ok(changed)
 }
 
@@ -121,6 +104,19 @@ pub(crate) fn value_of(alloc: Global, text: &str) -> Result<Value, AllocError>
     Ok(Value::of_text(RcStr::from_str(alloc, text)?))
 }
 
+/// The least bytes of a text that is given marks.
+const LONG: usize = 256;
+
+/// The value that is a text. A character of a long one is found without a walk.
+pub(crate) fn marked_value_of(alloc: Global, text: &str) -> Result<Value, AllocError>
+    ensures { IfOk result (λ v. v ≡ chars text.now) }
+{
+    if text.len() < LONG {
+        return value_of(alloc, text);
+    }
+    Value::of_shared(alloc, RcStr::from_str(alloc, text)?)
+}
+
 /// `string length string`: how many characters the text has.
 ///
 /// # Errors
@@ -132,8 +128,8 @@ pub fn string_length(alloc: Global, words: &mut [Value]) -> Result<Value, Fault>
     ensures same { words.new ≡ words.old }
 {
     if words.len() == 1 {
-        if let Some(text) = words[0].ascii() {
-            return Ok(Value::of_count(alloc, text.len() as u64)?);
+        if let Some(places) = words[0].places() {
+            return Ok(Value::of_count(alloc, places.len() as u64)?);
         }
     }
     let text = one_text(alloc, words, "string length string")?;
@@ -152,15 +148,15 @@ pub fn string_index(alloc: Global, words: &mut [Value], dialect: Dialect) -> Res
 {
     if words.len() == 2 {
         let index = text_at(alloc, words, 1)?;
-        if let Some(text) = words[0].ascii() {
-            let place = index_of(alloc, index.as_str(), text.len(), dialect)?;
-            return Ok(value_of(alloc, character_at(text, place))?);
+        if let Some(places) = words[0].places() {
+            let place = index_of(alloc, index.as_str(), places.len(), dialect)?;
+            return Ok(value_of(alloc, at_place(&places, place))?);
         }
     }
     let (text, index) = two_texts(alloc, words, "string index string charIndex")?;
-    let count = count(text.as_str());
-    let place = index_of(alloc, index.as_str(), count, dialect)?;
-    Ok(value_of(alloc, at_place(text.as_str(), place, count))?)
+    let places = Places::of(text.as_str());
+    let place = index_of(alloc, index.as_str(), places.len(), dialect)?;
+    Ok(value_of(alloc, at_place(&places, place))?)
 }
 
 /// `string range string first last`: the characters from the first place to the last one.
@@ -168,7 +164,7 @@ pub fn string_index(alloc: Global, words: &mut [Value], dialect: Dialect) -> Res
 /// # Errors
 ///
 /// `Fault::Error` with the usage or the first bad index, `Fault::Memory`.
-#[tactic(auto, using(tcl_arguments::proofs::Arguments::are_three, crate::proofs::Bytes::clamped_le))]
+#[tactic(auto, using(tcl_arguments::proofs::Arguments::are_three))]
 pub fn string_range(alloc: Global, words: &mut [Value], dialect: Dialect) -> Result<Value, Fault>
     ensures answer { Answers (λ v. v) result (spec.string_range dialect words.old) }
     ensures same { words.new ≡ words.old }
@@ -176,23 +172,21 @@ pub fn string_range(alloc: Global, words: &mut [Value], dialect: Dialect) -> Res
     if words.len() == 3 {
         let first = text_at(alloc, words, 1)?;
         let last = text_at(alloc, words, 2)?;
-        if let Some(text) = words[0].ascii() {
-            let count = text.len();
+        if let Some(places) = words[0].places() {
+            let count = places.len();
             let first = index_of(alloc, first.as_str(), count, dialect)?;
             let last = index_of(alloc, last.as_str(), count, dialect)?;
-            let part = characters_between(text, clamp(first, count), behind(last, count));
-            return Ok(value_of(alloc, part)?);
+            let part = places.part(clamp(first, count), behind(last, count));
+            return Ok(marked_value_of(alloc, part)?);
         }
     }
     let (text, first, last) = three_texts(alloc, words, "string range string first last")?;
-    let count = count(text.as_str());
+    let places = Places::of(text.as_str());
+    let count = places.len();
     let first = index_of(alloc, first.as_str(), count, dialect)?;
     let last = index_of(alloc, last.as_str(), count, dialect)?;
-    let part = rest(
-        front(text.as_str(), behind(last, count)),
-        clamp(first, count),
-    );
-    Ok(value_of(alloc, part)?)
+    let part = places.part(clamp(first, count), behind(last, count));
+    Ok(marked_value_of(alloc, part)?)
 }
 
 /// The text, or an empty one where there is none.
@@ -212,18 +206,32 @@ fn or_empty(text: &Option<RcStr>) -> &str
 /// # Errors
 ///
 /// `Fault::Error` with the usage or the first bad index, `Fault::Memory`.
+#[tactic(auto, using(tcl_arguments::proofs::Arguments::three_and_maybe))]
 pub fn string_replace(alloc: Global, words: &mut [Value], dialect: Dialect) -> Result<Value, Fault>
     ensures answer { Answers (λ v. v) result (spec.string_replace dialect words.old) }
     ensures same { words.new ≡ words.old }
 {
+    if words.len() == 3 || words.len() == 4 {
+        let first = text_at(alloc, words, 1)?;
+        let last = text_at(alloc, words, 2)?;
+        let new = text_if(alloc, words, 3)?;
+        if let Some(places) = words[0].places() {
+            let count = places.len();
+            let first = index_of(alloc, first.as_str(), count, dialect)?;
+            let last = index_of(alloc, last.as_str(), count, dialect)?;
+            let changed = replaced(alloc, &places, first, last, or_empty(&new))?;
+            return Ok(Value::of_string(alloc, changed)?);
+        }
+    }
     let (text, first, last, new) = three_or_four_texts(
         alloc,
         words,
         "string replace string first last ?string?",
     )?;
-    let count = count(text.as_str());
+    let places = Places::of(text.as_str());
+    let count = places.len();
     let first = index_of(alloc, first.as_str(), count, dialect)?;
     let last = index_of(alloc, last.as_str(), count, dialect)?;
-    let changed = replaced(alloc, text.as_str(), first, last, or_empty(&new), count)?;
+    let changed = replaced(alloc, &places, first, last, or_empty(&new))?;
     Ok(Value::of_string(alloc, changed)?)
 }

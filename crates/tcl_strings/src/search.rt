@@ -13,9 +13,9 @@ use std::alloc::{AllocError, Global};
 use std::cmp::Ordering;
 use std::rc::RcStr;
 use tcl_arguments::{index_of, two_or_three_texts, two_texts};
-use tcl_chars::{Dialect, Fault, compare, is_text, split_first};
+use tcl_chars::{Dialect, Fault, clamp, compare, is_text, split_first};
 use tcl_glob::glob_match;
-use tcl_values::Value;
+use tcl_values::{Places, Value};
 
 /// What an order is called.
 fn order_text(order: Ordering) -> &'static str
@@ -62,14 +62,15 @@ fn ends_by(size: usize, end: i128, place: usize) -> bool
     i128::from(place as u64) + i128::from(size as u64) - 1 <= end
 }
 
-/// The first place, not before the start, where the needle stands in a text of `count` characters.
-fn first_place(needle: &str, text: &str, count: usize, start: i128) -> Option<usize>
-    requires { count ≡ length (chars text.now) }
-    ensures { result ≡ spec.first_from start (spec.found_at (chars needle.now) (chars text.now)) }
+/// The first place, not before the start, where the needle stands.
+#[tactic(auto, using(crate::proofs::Finder::from_start, crate::proofs::Finder::left_from_start))]
+fn first_place(needle: &str, places: &Places<'_>, start: i128) -> Option<usize>
+    ensures { result ≡ spec.first_from start (spec.found_at (chars needle.now) places.now) }
 {
     split_first(needle)?;
-    let mut rest = text;
-    let mut place = 0;
+    let count = places.len();
+    let mut place = clamp(start, count);
+    let mut rest = places.rest(place);
     while let Some((_, after)) = split_first(rest) {
         if !is_before(place, start) && behind_front(needle, rest).is_some() {
             return Some(place);
@@ -80,18 +81,22 @@ fn first_place(needle: &str, text: &str, count: usize, start: i128) -> Option<us
     None
 }
 
-/// The last place where the needle stands in a text of `text_size` characters, and ends at `end` at the latest.
-fn last_place(needle: &str, text: &str, text_size: usize, end: i128) -> Option<usize>
-    requires { text_size ≡ length (chars text.now) }
-    ensures { result ≡ spec.last_until (length (chars needle.now)) end None (spec.found_at (chars needle.now) (chars text.now)) }
+/// The last place where the needle stands and ends at `end` at the latest. No place behind that is looked at.
+#[tactic(auto, using(crate::proofs::Finder::none_ends_by))]
+fn last_place(needle: &str, places: &Places<'_>, end: i128) -> Option<usize>
+    ensures { result ≡ spec.last_until (length (chars needle.now)) end None (spec.found_at (chars needle.now) places.now) }
 {
     split_first(needle)?;
     let size = count(needle);
+    let text_size = places.len();
     let mut found = None;
-    let mut rest = text;
+    let mut rest = places.text();
     let mut place = 0;
     while let Some((_, after)) = split_first(rest) {
-        if ends_by(size, end, place) && behind_front(needle, rest).is_some() {
+        if !ends_by(size, end, place) {
+            return found;
+        }
+        if behind_front(needle, rest).is_some() {
             found = Some(place);
         }
         place += 1;
@@ -195,15 +200,19 @@ pub fn string_first(alloc: Global, words: &mut [Value], dialect: Dialect) -> Res
             let start = start_of(alloc, &index, text.len(), dialect)?;
             return Ok(place_value(alloc, first_in_bytes(needle, text, start))?);
         }
+        if let (Some(needle), Some(places)) = (words[0].shown(), words[1].places()) {
+            let start = start_of(alloc, &index, places.len(), dialect)?;
+            return Ok(place_value(alloc, first_place(needle, &places, start))?);
+        }
     }
     let (needle, text, index) = two_or_three_texts(
         alloc,
         words,
         "string first needleString haystackString ?startIndex?",
     )?;
-    let size = count(text.as_str());
-    let start = start_of(alloc, &index, size, dialect)?;
-    let place = first_place(needle.as_str(), text.as_str(), size, start);
+    let places = Places::of(text.as_str());
+    let start = start_of(alloc, &index, places.len(), dialect)?;
+    let place = first_place(needle.as_str(), &places, start);
     Ok(place_value(alloc, place)?)
 }
 
@@ -224,14 +233,18 @@ pub fn string_last(alloc: Global, words: &mut [Value], dialect: Dialect) -> Resu
             let end = end_of(alloc, &index, text.len(), dialect)?;
             return Ok(place_value(alloc, last_in_bytes(needle, text, end))?);
         }
+        if let (Some(needle), Some(places)) = (words[0].shown(), words[1].places()) {
+            let end = end_of(alloc, &index, places.len(), dialect)?;
+            return Ok(place_value(alloc, last_place(needle, &places, end))?);
+        }
     }
     let (needle, text, index) = two_or_three_texts(
         alloc,
         words,
         "string last needleString haystackString ?lastIndex?",
     )?;
-    let size = count(text.as_str());
-    let end = end_of(alloc, &index, size, dialect)?;
-    let place = last_place(needle.as_str(), text.as_str(), size, end);
+    let places = Places::of(text.as_str());
+    let end = end_of(alloc, &index, places.len(), dialect)?;
+    let place = last_place(needle.as_str(), &places, end);
     Ok(place_value(alloc, place)?)
 }

@@ -9,7 +9,7 @@ abbrev pub invariant-loop-after : goal.invariant-loop-after
 invariant-loop-after l = record {
   text : shadow (Utf8 l.rest);
   place : l.place + length (chars l.rest) ≡ l.count;
-  same : first_from l.start (places_of (chars l.needle) l.place (chars l.rest)) ≡ first_from l.start (places_of (chars l.needle) 0 (chars l.text));
+  same : first_from l.start (places_of (chars l.needle) l.place (chars l.rest)) ≡ first_from l.start (places_of (chars l.needle) 0 l.places);
 }
 
 abbrev pub decreases-loop-after : goal.decreases-loop-after

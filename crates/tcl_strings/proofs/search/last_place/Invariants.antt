@@ -10,7 +10,7 @@ invariant-loop-after l = record {
   text : shadow (Utf8 l.rest);
   place : l.place + length (chars l.rest) ≡ l.text_size;
   same : last_until (length (chars l.needle)) l.end l.found (places_of (chars l.needle) l.place (chars l.rest))
-      ≡ last_until (length (chars l.needle)) l.end None (places_of (chars l.needle) 0 (chars l.text));
+      ≡ last_until (length (chars l.needle)) l.end None (places_of (chars l.needle) 0 l.places);
 }
 
 abbrev pub decreases-loop-after : goal.decreases-loop-after
