@@ -161,7 +161,7 @@ fn take<R: Input, W: Output, E: Output>(
 {
     let taken = world.read(read.count)?;
     let text = text_read(alloc, taken, read.newline)?;
-    Ok(Completion::normal(alloc, Value::of_text(text)))
+    Ok(Completion::normal(alloc, Value::of_shared(alloc, text)?))
 }
 
 /// `read channelId ?numChars?`, or `read -nonewline channelId`: takes characters of the input: read(n).

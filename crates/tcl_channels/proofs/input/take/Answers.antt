@@ -30,9 +30,15 @@ returns-in_err-text-clause-works g c =
     λ store units. rw (p.1, p.2) (broken_works g.R.Input.to_come g.W.Output.written g.E.Output.written c.args.world.now c.read.new.self c.in_ok-taken.ensures.outputs (read_from c.args.read.count c.args.read.newline)
     (over store (channels_of g.R.Input.to_come g.W.Output.written g.E.Output.written c.args.world.now) units) (over store (channels_of g.R.Input.to_come g.W.Output.written g.E.Output.written c.read.new.self) units) chan_fault.Memory refl refl)
 
+pub returns-in_err-of_shared-clause-works : goal.returns-in_err-of_shared-clause-works
+returns-in_err-of_shared-clause-works g c =
+    let p = err_from_is_err_and c.from_residual-in_err-of_shared.result c.from_residual-in_err-of_shared.ensures.1 in
+    λ store units. rw (p.1, p.2) (broken_works g.R.Input.to_come g.W.Output.written g.E.Output.written c.args.world.now c.read.new.self c.in_ok-taken.ensures.outputs (read_from c.args.read.count c.args.read.newline)
+    (over store (channels_of g.R.Input.to_come g.W.Output.written g.E.Output.written c.args.world.now) units) (over store (channels_of g.R.Input.to_come g.W.Output.written g.E.Output.written c.read.new.self) units) chan_fault.Memory refl refl)
+
 pub returns-clause-works : goal.returns-clause-works
 returns-clause-works g c =
     λ store units.
     subst (λ (k : Completion). Agrees (does (first_step (read_from c.args.read.count c.args.read.newline)) (over store (channels_of g.R.Input.to_come g.W.Output.written g.E.Output.written c.args.world.now) units)) (Gives (Done k) (over store (channels_of g.R.Input.to_come g.W.Output.written g.E.Output.written c.read.new.self) units)))
-    (sym (c.normal.ensures ∙ ap normal (c.of_text.ensures ∙ c.in_ok-text.ensures)))
+    (sym (c.normal.ensures ∙ ap normal (c.in_ok-of_shared.ensures ∙ c.in_ok-text.ensures)))
     (read_works g.R.Input.to_come g.W.Output.written g.E.Output.written c.args.world.now c.read.new.self c.in_ok-taken.ensures.outputs c.args.read.count c.args.read.newline (rc_str_bytes c.in_ok-taken.taken) store units c.in_ok-taken.ensures.text)
