@@ -6,10 +6,13 @@ use tcl_chan::device::{Input, Output};
 use tcl_chan::faulty::FaultyOutput;
 use tcl_chan::memory::{MemoryInput, MemoryOutput};
 use tcl_chan::world::World;
-use tcl_interp::{HostFault, Interp, Outcome, Run};
+use tcl_interp::{Interp, Outcome, Run};
 
 /// The bytes that an output may hold.
 pub(crate) const CAPACITY: usize = 64;
+
+// The units of a script that is evaluated behind a run that was stopped.
+const NEXT_UNITS: u64 = 9;
 
 /// The devices of a leg, the part of a run that goes on over the same ones: what is on the input, and which write to the output
 /// fails; 0 means none.
@@ -75,26 +78,22 @@ pub(crate) fn show_leg(
     show_put(out.inner(), shown)
 }
 
-// A run of a script in this interpreter, or why none is begun.
-fn begun(interp: Interp, script: &str) -> Result<Run, HostFault> {
-    match interp.start(script) {
-        Ok(run) => Ok(run),
-        Err((_, fault)) => Err(fault),
-    }
+// Evaluates a script in this interpreter over these devices, with some units, and adds how it ends.
+fn evaluate<R: Input, W: Output, E: Output>(
+    alloc: Global,
+    interp: &mut Interp,
+    input: &mut R,
+    out: &mut W,
+    err: &mut E,
+    script: &str,
+    shown: &mut String,
+) -> Result<(), AllocError> {
+    let mut world = World::new(alloc, input, out, err);
+    let outcome = interp.eval(&mut world, script, NEXT_UNITS);
+    show_end(alloc, &outcome, shown)
 }
 
-// Adds what a run comes to with some units.
-fn show_begun(alloc: Global, run: Run, lent: Lent, shown: &mut String) -> Result<(), AllocError> {
-    let mut run = run;
-    show_leg(alloc, &mut run, lent, &[9], shown)
-}
-
-// Adds why no run is begun.
-fn show_fault(fault: HostFault, shown: &mut String) -> Result<(), AllocError> {
-    writeln!(shown, "  not started: {fault:?}")
-}
-
-/// Runs a script in this interpreter with some units, and adds what it comes to.
+/// Evaluates a script in this interpreter over new devices, and adds how it ends and what was put out.
 pub(crate) fn show_next(
     alloc: Global,
     interp: Interp,
@@ -102,8 +101,20 @@ pub(crate) fn show_next(
     script: &str,
     shown: &mut String,
 ) -> Result<(), AllocError> {
-    match begun(interp, script) {
-        Ok(run) => show_begun(alloc, run, lent, shown),
-        Err(fault) => show_fault(fault, shown),
-    }
+    let mut interp = interp;
+    let mut input = MemoryInput::new(lent.input);
+    let mut out = FaultyOutput::new(MemoryOutput::new(alloc, CAPACITY)?, lent.failing, 0);
+    let mut err = MemoryOutput::new(alloc, CAPACITY)?;
+    write!(shown, "  eval {NEXT_UNITS}: ")?;
+    evaluate(
+        alloc,
+        &mut interp,
+        &mut input,
+        &mut out,
+        &mut err,
+        script,
+        shown,
+    )?;
+    shown.push_str(", ")?;
+    show_put(out.inner(), shown)
 }

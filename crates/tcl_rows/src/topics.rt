@@ -145,7 +145,7 @@ fn show_runs(
     Ok(())
 }
 
-// A script, and the parts in which its run goes on. Then the run is stopped, and another script begins in its interpreter.
+// A script, and the parts in which its run goes on. Then the run is stopped, and another script is evaluated in its interpreter.
 struct Stop {
     script: &'static str,
     parts: &'static [u64],
