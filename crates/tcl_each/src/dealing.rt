@@ -1,12 +1,14 @@
 //! The elements of lists, as the turns of a loop take them: foreach(n).
-ghost use Rattle.std.specs.Prelude.{◌≡◌, ◌++◌, drop, length, IfOk, OnOk};
+ghost use Rattle.std.specs.Prelude.{◌≡◌, ◌<◌, ◌++◌, drop, length, IfOk, OnOk};
+ghost use Rattle.tcl_arguments.specs.WordAt.{word};
 ghost use Rattle.tcl_chars.specs.Answers.{Answers};
 ghost use Rattle.tcl_code.specs.Dealing as spec;
 ghost use Rattle.tcl_code.specs.Dealing.{dealt_of, dealt_once, firsts};
+ghost use Rattle.tcl_each.specs.LoopLists.{counts_one};
 ghost use Rattle.tcl_steps.specs.Views.{loop_lists_of};
 
 use crate::moving::{has_more, move_lists};
-use crate::rows::loop_lists_among;
+use crate::rows::{list_at, loop_lists_among};
 use crate::setting::element_at;
 use std::alloc::{AllocError, Global};
 use tcl_chars::Fault;
@@ -60,6 +62,16 @@ fn deal(alloc: Global, lists: &mut [LoopList]) -> Result<Vec<Value>, AllocError>
     Ok(dealt)
 }
 
+// Has the list that the first word is one element?
+fn has_one_name(alloc: Global, words: &mut [Value]) -> Result<bool, Fault>
+    requires { 0 < length words.old }
+    ensures one { Answers (λ one. one) result (counts_one (word words.old 0)) }
+    ensures same { words.new ≡ words.old }
+{
+    let count = words[0].count(alloc)?;
+    Ok(count == 1)
+}
+
 /// The elements of the lists of a `foreach`, as its turns take them, by the words behind its name.
 ///
 /// # Errors
@@ -68,6 +80,10 @@ fn deal(alloc: Global, lists: &mut [LoopList]) -> Result<Vec<Value>, AllocError>
 pub fn dealt(alloc: Global, words: &mut [Value]) -> Result<Vec<Value>, Fault>
     ensures { Answers (λ dealt. dealt.items) result (dealt_of words.old) }
 {
+    // each turn takes one element of a lone list
+    if words.len() == 3 && has_one_name(alloc, words)? {
+        return list_at(alloc, words, 1);
+    }
     let mut lists = loop_lists_among(alloc, words, "foreach varlist is empty")?;
     let dealt = deal(alloc, lists.as_mut_slice())?;
     Ok(dealt)
