@@ -65,6 +65,15 @@ class Script:
     def body(self, depth, inner):
         return "; ".join(self.command(depth, inner) for _ in range(self.random.randint(0, 3)))
 
+    def elements(self):
+        return self.pick("{1 2 3}", "{1 2 3 4 5}", "$l", "$l", "{}", "$n", "[list a b]", "[set@ l {4 5}]", "[incr@ n]", f"[{self.changed()}]", '"\\{ $a"')
+
+    def lists(self, count):
+        """Several lists with their names."""
+        names = [count, self.pick("j", f"{{j {count}}}", "{j k}"), self.pick("b", "x(y)", "::g", "{a n}", "l", "{}")]
+        self.random.shuffle(names)
+        return " ".join(f"{name} {self.elements()}" for name in names[: self.pick(2, 2, 3)])
+
     def loop(self, depth):
         count, body = f"i{depth}", self.body(depth + 1, True)
         return self.pick(
@@ -73,6 +82,8 @@ class Script:
             f"for@ {{set@ {count} 0}} {{${count} < 3}} {{incr@ {count}; {self.pick('', 'break@', 'continue@', 'incr@ a')}}} {{{body}}}",
             f"foreach@ {count} {self.pick('{1 2 3}', '$l', '{}', '[list a b]')} {{{body}}}",
             f"foreach@ {{{count} a}} {{1 2 3}} {{{body}}}",
+            f"foreach@ {self.lists(count)} {{{body}}}",
+            f"foreach@ {self.lists(count)} {{puts $j/$a/$b; {body}}}",
         )
 
     def choice(self, depth, inner):

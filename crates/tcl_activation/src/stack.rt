@@ -40,6 +40,16 @@ impl Words {
         }
     }
 
+    /// These words.
+    pub fn of(words: Vec<Value>) -> Words
+        ensures { result ≡ words.items }
+    {
+        Words {
+            items: words,
+            taken: 0,
+        }
+    }
+
     /// Is there no word?
     #[inline(always)]
     pub fn is_empty(&self) -> bool

@@ -4,7 +4,7 @@ use Rattle.std.specs.Prelude.{slice_get}
 use Rattle.std.proofs.lemmas.Option.{slice_get_within}
 use Rattle.tcl_code.specs.Instructions.{Instruction}
 use Rattle.tcl_code.specs.Parts.{Fits}
-use Rattle.tcl_code.specs.Valid.{Shape, Target, target, IsFine, IsInside, EachWay, ways_of}
+use Rattle.tcl_code.specs.Valid.{Shape, target, IsFine, IsInside, EachWay, ways_of}
 use Rattle.tcl_code.proofs.Shapes.{each_weaker, inside_le, inside_behind, target_behind}
 
 module _ (table : ℕ → Shape) (count : ℕ) where

@@ -25,6 +25,7 @@ module _ (ts us : List Text) where
   same_ways instr.Add s = refl
   same_ways instr.AddAll s = refl
   same_ways instr.CallGathered s = refl
+  same_ways (instr.Deal n) s = refl
   same_ways instr.TakeFirst s = refl
   same_ways (instr.SkipEmpty n) s = refl
   same_ways instr.DropList s = refl
@@ -62,6 +63,7 @@ module _ (ts us : List Text) where
   same_fine instr.Add s h = h
   same_fine instr.AddAll s h = h
   same_fine instr.CallGathered s h = h
+  same_fine (instr.Deal n) s h = h
   same_fine instr.TakeFirst s h = h
   same_fine (instr.SkipEmpty n) s h = h
   same_fine instr.DropList s h = h

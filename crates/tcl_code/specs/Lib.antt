@@ -1,5 +1,6 @@
 pub mod Build
 pub mod Caught
+pub mod Dealing
 pub mod Guards
 pub mod Instructions
 pub mod Machine

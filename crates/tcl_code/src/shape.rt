@@ -153,6 +153,11 @@ impl Shape {
             | Instr::Again
             | Instr::Break
             | Instr::Continue => Ok(self),
+            Instr::Deal(n) => Ok(Shape {
+                height: self.height.saturating_sub(n),
+                lists: one_more(self.lists)?,
+                ..self
+            }),
             Instr::DropList => Ok(Shape {
                 lists: self.lists.saturating_sub(1),
                 ..self
@@ -219,7 +224,7 @@ impl Shape {
             | Instr::Under(_)
             | Instr::Write(_)
             | Instr::Bump(_) => self.height >= 1,
-            Instr::Join(n) | Instr::Apply(_, n) => self.height >= n,
+            Instr::Join(n) | Instr::Apply(_, n) | Instr::Deal(n) => self.height >= n,
             Instr::Leave | Instr::Become => self.depth >= 1,
             Instr::Call(n) => self.height >= n && self.paid >= 1,
             Instr::Add | Instr::AddAll => self.height >= 1 && self.lists >= 1,

@@ -30,6 +30,9 @@ fn loops_turn_in_place(rt: HostRuntime) {
         ("foreach x {1 2} {incr \\\n x}", 1, 2),
         ("while $t {incr i}", 0, 0),
         ("for {} $t {} {}", 0, 0),
+        ("foreach x {1 2} y $l {z w} [set l] {}", 1, 1),
+        ("foreach x {1 2} $names $l {}", 0, 0),
+        ("foreach x {1 2} {} $l {}", 0, 0),
         ("foreach x {1 2} $body", 0, 0),
         ("puts [while 1 {}]", 1, 1),
     ] {

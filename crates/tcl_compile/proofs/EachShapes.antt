@@ -2,7 +2,7 @@
 use Rattle.std.proofs.Common.{◌≡◌, ℕ, ◌+◌, ◌-◌, ◌<◌, ◌≤◌, List, [], ◌∷◌, ◌++◌, length, refl, sym, ap, ◌∙◌, subst, arith, append_assoc, length-append, ⊎_elim}
 use Rattle.std.proofs.lemmas.Bool.{cases_lt}
 use Rattle.tcl_pages.specs.Texts.{Text}
-use Rattle.tcl_code.specs.Instructions.{Instruction, Push, Gather, AddAll, TakeFirst, SkipEmpty, DropList, Write, Answer, Skip, Turn}
+use Rattle.tcl_code.specs.Instructions.{Instruction, Push, Deal, TakeFirst, SkipEmpty, DropList, Write, Answer, Skip, Turn}
 use Rattle.tcl_code.specs.Parts.{Fits}
 use Rattle.tcl_code.specs.Valid.{shape}
 use Rattle.tcl_code.specs.declared.shape.Shape.{Shape as Standing}
@@ -105,12 +105,10 @@ module _ (ts c : List Instruction) (h l d p o : ℕ) (x : Fits ts (shape h (l + 
   joined : turns_code ts c ++ ends ≡ behind_list
   joined = ap (λ z. Skip (length ts + length c + 1) ∷ z) (append_assoc ts (c ++ Tail) ends ∙ ap (λ z. ts ++ z) (append_assoc c Tail ends))
 
-  pub each_fits : Fits (each_code ts c) (shape (h + 1) l d p o) Less
-  each_fits =
-      fits_joined (Gather ∷ []) (AddAll ∷ behind_list) (shape (h + 1) l d p o) (shape (h + 1) (l + 1) d p o) Less
-      (fits_one Gather (shape (h + 1) l d p o) (shape (h + 1) (l + 1) d p o) _ tt refl refl)
-      (fits_joined (AddAll ∷ []) behind_list (shape (h + 1) (l + 1) d p o) Base Less
-      (fits_one AddAll (shape (h + 1) (l + 1) d p o) Base _ (omega arith, omega arith) refl (ap (λ m. shape m (l + 1) d p o) (omega arith)))
+  pub each_fits : (n : ℕ) → Fits (each_code n ts c) (shape (h + n) l d p o) Less
+  each_fits n =
+      fits_joined (Deal n ∷ []) behind_list (shape (h + n) l d p o) Base Less
+      (fits_one (Deal n) (shape (h + n) l d p o) Base _ (omega arith) refl (ap (λ m. shape m (l + 1) d p o) (omega arith)))
       (subst (λ c. Fits c Base Less) joined
       (fits_joined (turns_code ts c) ends Base Less Less turns_fit
-      (fits_joined (Push [] ∷ []) (Answer ∷ []) Less (shape (h + 1) l d p o) Less (fits_one (Push []) Less (shape (h + 1) l d p o) _ tt refl (ap (λ m. shape m l d p o) (omega arith))) (fits_one Answer (shape (h + 1) l d p o) Less _ (omega arith) refl (ap (λ m. shape m l d p o) (omega arith)))))))
+      (fits_joined (Push [] ∷ []) (Answer ∷ []) Less (shape (h + 1) l d p o) Less (fits_one (Push []) Less (shape (h + 1) l d p o) _ tt refl (ap (λ m. shape m l d p o) (omega arith))) (fits_one Answer (shape (h + 1) l d p o) Less _ (omega arith) refl (ap (λ m. shape m l d p o) (omega arith))))))

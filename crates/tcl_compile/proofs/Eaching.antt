@@ -1,11 +1,10 @@
--- `foreach` over one list, inlined.
-use Rattle.std.proofs.Common.{◌≡◌, ℕ, zero, suc, ◌+◌, ◌-◌, ◌<◌, false, not, ◌||◌, List, [], ◌∷◌, ◌++◌, length, take, drop, None, Some, Result, Ok, Err, refl, sym, ap, ◌∙◌, subst, arith, length-append}
+-- `foreach`, inlined.
+use Rattle.std.proofs.Common.{◌≡◌, ℕ, zero, suc, ◌+◌, ◌-◌, ◌<◌, Bool, true, false, List, [], ◌∷◌, ◌++◌, length, take, drop, None, Some, Result, Ok, Err, refl, sym, ap, ◌∙◌, subst, arith, length-append}
 use Rattle.std.specs.Prelude.{slice_get}
-use Rattle.std.proofs.Math.Dec.{eqb-suc-zero}
 use Rattle.tcl_chars.specs.declared.numbers.Dialect.{Dialect}
 use Rattle.tcl_chars.specs.Texts.{literal}
-use Rattle.tcl_list.specs.Elements.{elements_of}
 use Rattle.tcl_pages.specs.Answers.{Answer, ◌>>=◌ as answering}
+use Rattle.tcl_pages.specs.Dictionaries.{pairs}
 use Rattle.tcl_pages.specs.Texts.{Text}
 use Rattle.tcl_meaning.specs.declared.code.Code.{Code}
 use Rattle.tcl_meaning.specs.declared.code.Code.TheVariants as ending
@@ -13,34 +12,42 @@ use Rattle.tcl_meaning.specs.declared.refusal.Refusal.{Refusal}
 use Rattle.tcl_meaning.specs.Asking.{Asks, answered, all_answered, asked, done, ask}
 use Rattle.tcl_meaning.specs.Beginnings.{units_of}
 use Rattle.tcl_meaning.specs.Completions.{Completion, normal, nothing, code_now}
-use Rattle.tcl_meaning.specs.Control.{ask_if, after_each, each_next, foreach_page, turned}
+use Rattle.tcl_meaning.specs.Control.{ask_if, after_each, behind_turns, each_next, each_set, each_shaped, foreach_page, has_more, turned}
 use Rattle.tcl_meaning.specs.Effects.{Here, Prog, exec, does, paid, made}
 use Rattle.tcl_meaning.specs.Pages.{owed, page_asks}
 use Rattle.tcl_meaning.specs.Script.{Run, page_in}
-use Rattle.tcl_meaning.specs.Shapes.{some_names}
+use Rattle.tcl_meaning.specs.Shapes.{loop_lists_of}
 use Rattle.tcl_meaning.specs.State.{State, Change, with_units}
-use Rattle.tcl_meaning.specs.Tasks.{Task, Script, Run as Runs_script, Pay, ForEach, Each, EachBody}
+use Rattle.tcl_meaning.specs.Tasks.{Task, Script, Run as Runs_script, Pay, ForEach, Each, EachBody, LoopList}
 use Rattle.tcl_meaning.specs.Value.{◌>>=◌, judged}
 use Rattle.tcl_meaning.specs.VariablePages.{set_page}
-use Rattle.tcl_meaning.specs.Variables.{put_change, set_all, set_result}
+use Rattle.tcl_meaning.specs.Variables.{put_change, set, set_all, set_result}
 use Rattle.tcl_meaning.proofs.ScriptRules.{run_onward}
-use Rattle.tcl_code.specs.Instructions.{Instruction, Push, Gather, AddAll, TakeFirst, SkipEmpty, DropList, Write, Answer as AnswerTop, Skip, Turn}
-use Rattle.tcl_code.specs.Machine.{Stack, with_text, with_result, result_at, Spot, spot, on_answer, on_page, landed, spend, follow}
+use Rattle.tcl_code.specs.Instructions.{Instruction, Push, Deal, TakeFirst, SkipEmpty, DropList, Write, Answer as AnswerTop, Skip, Turn}
+use Rattle.tcl_code.specs.Dealing.{dealt, dealt_of, dealt_once, firsts, longest}
+use Rattle.tcl_code.specs.Machine.{Stack, stack_of, with_text, with_result, result_at, Spot, spot, Move, move, on_answer, on_page, on_taken, landed, spend, follow}
 use Rattle.tcl_code.specs.Parts.{HasAt, Lands}
 use Rattle.tcl_code.specs.declared.inlined.Inlined.TheVariants as inlined
 use Rattle.tcl_code.proofs.Place.{has_front, has_back}
 use Rattle.tcl_code.proofs.Steps.{one_done, final_done, here_done, same_done}
-use Rattle.tcl_compile.specs.Fragments.{Follows, gathered}
-use Rattle.tcl_compile.specs.Eaches.{takes}
+use Rattle.tcl_compile.specs.Fragments.{Follows, gathered, onto, stacked}
+use Rattle.tcl_compile.specs.Eaches.{takes, AreEachTexts}
 use Rattle.tcl_compile.specs.Forms.{page_does, bodied}
 use Rattle.tcl_compile.specs.Inlining.{asking}
 use Rattle.tcl_compile.proofs.Bodies.{goes_on, bodied_lands}
+use Rattle.tcl_compile.proofs.Dealing.{Left, drop_both, firsts_long, firsts_parts, left_dealt, names_of}
+use Rattle.tcl_compile.proofs.Listing.{lists_named, shape_is}
 use Rattle.tcl_compile.proofs.Looping.{turn_is}
+use Rattle.tcl_compile.proofs.Pieces.{taken_all}
 
--- The elements of the text on top, and on to where it is seen whether one is left; the names, the body, and behind it what follows a
--- `break`; a turn back to the names where an element is left; an empty result.
-abbrev pub each_code : List Instruction → List Instruction → List Instruction
-each_code ts c = Gather ∷ AddAll ∷ Skip (length ts + length c + 1) ∷ (ts ++ (c ++ Skip 2 ∷ SkipEmpty 1 ∷ Turn (length ts + length c + 2) ∷ DropList ∷ Push [] ∷ AnswerTop ∷ []))
+-- The elements of the lists, and on to where it is seen whether one is left; the names, the body, and behind it what follows a `break`; a
+-- turn back to the names where an element is left; an empty result.
+abbrev pub each_code : ℕ → List Instruction → List Instruction → List Instruction
+each_code n ts c = Deal n ∷ Skip (length ts + length c + 1) ∷ (ts ++ (c ++ Skip 2 ∷ SkipEmpty 1 ∷ Turn (length ts + length c + 2) ∷ DropList ∷ Push [] ∷ AnswerTop ∷ []))
+
+pub takes_parts : (ns ms : List Text) → takes (ns ++ ms) ≡ takes ns ++ takes ms
+takes_parts [] ms = refl
+takes_parts (n ∷ ns) ms = ap (λ c. TakeFirst ∷ Write n ∷ c) (takes_parts ns ms)
 
 take_none : (n : ℕ) → take {A = Text} n [] ≡ []
 take_none zero = refl
@@ -50,12 +57,24 @@ drop_none : (n : ℕ) → drop {A = Text} n [] ≡ []
 drop_none zero = refl
 drop_none (suc n) = refl
 
+all_firsts : {T : Type 0} (ns es : List Text) → set_all {T = T} ns (take (length ns) es) ≡ set_all ns (firsts (length ns) es)
+all_firsts [] es = refl
+all_firsts {T} (n ∷ ns) [] = ap (λ m. set {T = T} n [] >>= λ z. m) (ap (λ ts. set_all ns ts) (sym (take_none (length ns))) ∙ all_firsts ns [])
+all_firsts {T} (n ∷ ns) (e ∷ es) = ap (λ m. set {T = T} n e >>= λ z. m) (all_firsts ns es)
+
 module _ (dialect : Dialect) where
   -- ---- names get elements
 
   -- texts for names, and then a page
   abbrev setting : List Text → List Text → Asks → ℕ → Prog Task Completion
   setting ns ts page d = page_in dialect d (set_all ns ts >>= λ z. page)
+
+  -- texts that are missing are empty
+  same_set : (page : Asks) (d : ℕ) (ns es us : List Text) → firsts (length ns) es ≡ firsts (length ns) us → setting ns (take (length ns) es) page d ≡ setting ns (take (length ns) us) page d
+  same_set page d ns es us e =
+      ap (λ m. page_in dialect d (m >>= λ z. page)) (all_firsts ns es)
+      ∙ ap (λ ts. setting ns ts page d) e
+      ∙ sym (ap (λ m. page_in dialect d (m >>= λ z. page)) (all_firsts ns us))
 
   module _ (code : List Instruction) (page : Asks) (d : ℕ) {r : Completion → Spot} where
     assigned : (at : ℕ) (n t : Text) (ns ts : List Text) (last : Completion) (stack : Stack) (s : State) → slice_get code at ≡ Some (Write n) → ((c : Completion) (u : State) → u.units ≡ s.units → Lands dialect code stack.loops (spot (at + 1) (with_result c stack) d) u r (exec (Run dialect) (setting ns ts page d) u))
@@ -93,37 +112,59 @@ module _ (dialect : Dialect) where
         (λ c v j. let e : at + length (takes (n ∷ ns)) ≡ at + 1 + 1 + length (takes ns) = omega arith in
         subst (λ m. Lands dialect code stack.loops (spot m (with_result c (gathered (drop (length ns) es) stack)) d) v r (exec (Run dialect) (page_in dialect d page) v)) e (next c v (j ∙ k)))))
 
+  -- the elements of all lists, from the front of one
+  sets_all : (code : List Instruction) (e : Each) (d : ℕ) {r : Completion → Spot} (ls : List LoopList) (es : List Text) (at : ℕ) (last : Completion) (stack : Stack) (s : State) → firsts (length (names_of ls)) es ≡ dealt_once ls → HasAt code at (takes (names_of ls))
+      → ((c : Completion) (u : State) → u.units ≡ s.units → Lands dialect code stack.loops (spot (at + length (takes (names_of ls))) (with_result c (gathered (drop (length (names_of ls)) es) stack)) d) u r (exec (Run dialect) (page_in dialect d (each_set e [])) u))
+      → Lands dialect code stack.loops (spot at (with_result last (gathered es stack)) d) s r (exec (Run dialect) (page_in dialect d (each_set e ls)) s)
+  sets_all code e d {r} [] es at last stack s same has next =
+      let none : at + 0 ≡ at = omega arith in
+      subst (λ n. Lands dialect code stack.loops (spot n (with_result last (gathered es stack)) d) s r (exec (Run dialect) (page_in dialect d (each_set e [])) s)) none (next last s refl)
+  sets_all code e d {r} (l ∷ ls) es at last stack s same has next =
+      let ns = l.names in
+      let ms = names_of ls in
+      let parts = firsts_parts (length ns) (length ms) (length (ns ++ ms)) es (firsts (length ns) l.elements) (dealt_once ls) (length-append ns ms) (firsts_long (length ns) l.elements) same in
+      let both : HasAt code at (takes ns ++ takes ms) = subst (λ c. HasAt code at c) (takes_parts ns ms) has in
+      let long : length (takes (ns ++ ms)) ≡ length (takes ns) + length (takes ms) = ap length (takes_parts ns ms) ∙ length-append (takes ns) (takes ms) in
+      same_done dialect code (ap (λ m. exec (Run dialect) m s) (same_set (each_set e ls) d ns es l.elements parts.0))
+      (sets code (each_set e ls) d ns es at last stack s (has_front code at (takes ns) (takes ms) both)
+      (λ c u k. sets_all code e d ls (drop (length ns) es) (at + length (takes ns)) c stack u parts.1 (has_back code at (takes ns) (takes ms) both)
+      (λ c v j.
+      let place : at + length (takes (ns ++ ms)) ≡ at + length (takes ns) + length (takes ms) = omega (arith, long) in
+      let left : drop (length (ns ++ ms)) es ≡ drop (length ms) (drop (length ns) es) = drop_both (length ns) (length ms) (length (ns ++ ms)) es (length-append ns ms) in
+      subst (λ m. Lands dialect code stack.loops (spot m (with_result c (gathered (drop (length ms) (drop (length ns) es)) stack)) d) v r (exec (Run dialect) (page_in dialect d (each_set e [])) v)) place
+      (subst (λ us. Lands dialect code stack.loops (spot (at + length (takes (ns ++ ms))) (with_result c (gathered us stack)) d) v r (exec (Run dialect) (page_in dialect d (each_set e [])) v)) left (next c v (j ∙ k))))))
+
   -- ---- foreach
 
   module _ (names : List Text) (body : Text) where
-    -- the loop where these elements are left
-    abbrev each : List Text → Each
-    each es = record { lists = record { names = names; elements = es } ∷ []; body = body; results = None }
+    -- the loop where these lists are left
+    abbrev each : List LoopList → Each
+    each ls = record { lists = ls; body = body; results = None }
 
-    abbrev next_turn : List Text → ℕ → Prog Task Completion
-    next_turn es d = asking dialect 0 (each_next (each es)) d
+    abbrev next_turn : List LoopList → ℕ → Prog Task Completion
+    next_turn ls d = asking dialect 0 (each_next (each ls)) d
 
-    after_is : (es : List Text) (k : Code) (c : Completion) → after_each (each es) k c ≡ goes_on false k c (each_next (each es)) (done nothing)
-    after_is es ending.Ok c = refl
-    after_is es ending.Error c = refl
-    after_is es ending.Return c = refl
-    after_is es ending.Break c = refl
-    after_is es ending.Continue c = refl
-    after_is es (ending.Other z) c = refl
+    after_is : (ls : List LoopList) (k : Code) (c : Completion) → after_each (each ls) k c ≡ goes_on false k c (each_next (each ls)) (done nothing)
+    after_is ls ending.Ok c = refl
+    after_is ls ending.Error c = refl
+    after_is ls ending.Return c = refl
+    after_is ls ending.Break c = refl
+    after_is ls ending.Continue c = refl
+    after_is ls (ending.Other z) c = refl
 
-    owe : (es : List Text) (c : Completion) → owed dialect (EachBody (each es)) c ≡ goes_on false (code_now c) c (each_next (each es)) (done nothing)
+    owe : (ls : List LoopList) (c : Completion) → owed dialect (EachBody (each ls)) c ≡ goes_on false (code_now c) c (each_next (each ls)) (done nothing)
     unfolding owed
-    owe es c = after_is es (code_now c) c
+    owe ls c = after_is ls (code_now c) c
 
-    more_is : (w : Text) (es : List Text) → each_next (each (w ∷ es)) ≡ ask (Pay (ForEach (each (w ∷ es))))
-    more_is w es = ap (λ b. ask_if (not b || false) (ask (Pay (ForEach (each (w ∷ es))))) (done nothing)) (eqb-suc-zero (length es))
-
-    begins_is : (es : List Text) (d : ℕ) (s : State) → exec (Run dialect) (page_in dialect d (each_next (each es))) s ≡ exec (Run dialect) (next_turn es d) s
+    begins_is : (ls : List LoopList) (d : ℕ) (s : State) → exec (Run dialect) (page_in dialect d (each_next (each ls))) s ≡ exec (Run dialect) (next_turn ls d) s
     unfolding asked all_answered
-    begins_is [] d s = refl
-    begins_is (w ∷ es) d s = ap (λ page. exec (Run dialect) (page_in dialect d page) s) (more_is w es) ∙ sym (ap (λ page. exec (Run dialect) (asking dialect 0 page d) s) (more_is w es))
+    begins_is ls d s = go (has_more ls)
+      where
+        go : (b : Bool) → exec (Run dialect) (page_in dialect d (ask_if b (ask (Pay (ForEach (each ls)))) (done nothing))) s ≡ exec (Run dialect) (asking dialect 0 (ask_if b (ask (Pay (ForEach (each ls)))) (done nothing)) d) s
+        go true = refl
+        go false = refl
 
-    module _ (b : List Instruction) (f : Follows dialect b body) (code : List Instruction) (at : ℕ) (stack : Stack) (d : ℕ) (has : HasAt code at (each_code (takes names) (bodied false b))) where
+    module _ (count : ℕ) (b : List Instruction) (f : Follows dialect b body) (code : List Instruction) (at : ℕ) (stack : Stack) (d : ℕ) (has : HasAt code at (each_code count (takes names) (bodied false b))) where
       abbrev ts : List Instruction
       ts = takes names
 
@@ -135,7 +176,7 @@ module _ (dialect : Dialect) where
 
       -- where a turn begins, where its body stands, and where it is seen whether an element is left
       abbrev turn : ℕ
-      turn = at + 1 + 1 + 1
+      turn = at + 1 + 1
 
       abbrev place : ℕ
       place = turn + length ts
@@ -144,15 +185,15 @@ module _ (dialect : Dialect) where
       more = place + length c + 1
 
       abbrev end : Completion → Spot
-      end = result_at (at + length (each_code ts c)) stack d
+      end = result_at (at + length (each_code count ts c)) stack d
 
       of_body : HasAt code place (c ++ Tail)
-      of_body = has_back code turn ts (c ++ Tail) has.1.1.1
+      of_body = has_back code turn ts (c ++ Tail) has.1.1
 
       behind_body : HasAt code (place + length c) Tail
       behind_body = has_back code place c Tail of_body
 
-      long : length (each_code ts c) ≡ length ts + length c + 9
+      long : length (each_code count ts c) ≡ length ts + length c + 8
       long = omega (arith, length-append ts (c ++ Tail), length-append c Tail)
 
       out : (es : List Text) (last : Completion) (u : State) (p : ℕ) → p ≡ more + 1 + 1 → Lands dialect code stack.loops (spot p (with_result last (gathered es stack)) d) u end (exec (Run dialect) (asking dialect 0 (done nothing) d) u)
@@ -162,69 +203,88 @@ module _ (dialect : Dialect) where
           one_done dialect code DropList h.0 refl (one_done dialect code (Push []) h.1.0 refl (one_done dialect code AnswerTop h.1.1.0 refl (here_done dialect code (omega (arith, e, long)) refl)))
 
       abbrev Turns : ℕ → Type 0
-      Turns n = (es : List Text) (last : Completion) (s : State) → s.units < n → Lands dialect code stack.loops (spot more (with_result last (gathered es stack)) d) s end (exec (Run dialect) (next_turn es d) s)
+      Turns n = (ls : List LoopList) (es : List Text) (last : Completion) (s : State) → Left n names ls es → s.units < n → Lands dialect code stack.loops (spot more (with_result last (gathered es stack)) d) s end (exec (Run dialect) (next_turn ls d) s)
 
-      body_turns : (n : ℕ) → Turns n → (es : List Text) (last : Completion) (u : State) → u.units < n → Lands dialect code stack.loops (spot place (with_result last (gathered es stack)) d) u end (exec (Run dialect) (page_in dialect d (ask (Runs_script Here body (EachBody (each es))))) u)
+      body_turns : (n : ℕ) → Turns n → (ls : List LoopList) (es : List Text) (last : Completion) (u : State) → Left n names ls es → u.units < n → Lands dialect code stack.loops (spot place (with_result last (gathered es stack)) d) u end (exec (Run dialect) (page_in dialect d (ask (Runs_script Here body (EachBody (each ls))))) u)
       unfolding asked all_answered
-      body_turns n ih es last u lt =
-          bodied_lands dialect code place false body b f (has_front code place c Tail of_body) last (gathered es stack) d 0 (EachBody (each es)) (each_next (each es)) (done nothing) (owe es) end u
-          (λ r v k. ih es last v (omega (arith, (run_onward dialect (Script (suc d) nothing body) u).spends, ap units_of k, lt)))
+      body_turns n ih ls es last u left lt =
+          bodied_lands dialect code place false body b f (has_front code place c Tail of_body) last (gathered es stack) d 0 (EachBody (each ls)) (each_next (each ls)) (done nothing) (owe ls) end u
+          (λ r v k. ih ls es last v left (omega (arith, (run_onward dialect (Script (suc d) nothing body) u).spends, ap units_of k, lt)))
           (λ v. one_done dialect code (Skip 2) behind_body.0 refl (out es last v _ (omega arith)))
 
-      turned_body : (n : ℕ) → Turns n → (es : List Text) (last : Completion) (u : State) → u.units < n → Lands dialect code stack.loops (spot turn (with_result last (gathered es stack)) d) u end (exec (Run dialect) (page_in dialect d (turned (ForEach (each es)))) u)
-      turned_body n ih es last u lt =
-          sets code (ask (Runs_script Here body (EachBody (each (drop (length names) es))))) d names es turn last stack u (has_front code turn ts (c ++ Tail) has.1.1.1)
-          (λ r v k. body_turns n ih (drop (length names) es) r v (omega (arith, k, lt)))
+      turned_body : (n : ℕ) → Turns n → (ls : List LoopList) (es : List Text) (last : Completion) (u : State) → names_of ls ≡ names → firsts (length names) es ≡ dealt_once ls → Left n names (behind_turns ls) (drop (length names) es) → u.units < n
+          → Lands dialect code stack.loops (spot turn (with_result last (gathered es stack)) d) u end (exec (Run dialect) (page_in dialect d (turned (ForEach (each ls)))) u)
+      turned_body n ih ls es last u e same left lt =
+          sets_all code (each ls) d ls es turn last stack u (subst (λ ns. firsts (length ns) es ≡ dealt_once ls) (sym e) same) (subst (λ ns. HasAt code turn (takes ns)) (sym e) (has_front code turn ts (c ++ Tail) has.1.1))
+          (λ r v k. subst (λ ns. Lands dialect code stack.loops (spot (turn + length (takes ns)) (with_result r (gathered (drop (length ns) es) stack)) d) v end (exec (Run dialect) (page_in dialect d (each_set (each ls) [])) v)) (sym e)
+          (body_turns n ih (behind_turns ls) (drop (length names) es) r v left (omega (arith, k, lt))))
 
-      turned_back : (n : ℕ) → Turns n → (es : List Text) (last : Completion) (u : State) → u.units < suc n → (m : ℕ) → u.units ≡ m → Lands dialect code stack.loops (spot (more + 1) (with_result last (gathered es stack)) d) u end (exec (Run dialect) (asking dialect 0 (ask (Pay (ForEach (each es)))) d) u)
-      turned_back n ih es last u lt zero z =
+      turned_back : (n : ℕ) → Turns n → (ls : List LoopList) (es : List Text) (last : Completion) (u : State) → names_of ls ≡ names → firsts (length names) es ≡ dealt_once ls → Left n names (behind_turns ls) (drop (length names) es) → u.units < suc n → (m : ℕ) → u.units ≡ m
+          → Lands dialect code stack.loops (spot (more + 1) (with_result last (gathered es stack)) d) u end (exec (Run dialect) (asking dialect 0 (ask (Pay (ForEach (each ls)))) d) u)
+      turned_back n ih ls es last u e same left lt zero z =
           final_done dialect code (Turn (length ts + length c + 2)) behind_body.1.1.0
           (λ next. ap (λ k. follow dialect next stack.loops (spend k (spot (more + 1 - (length ts + length c + 2)) (with_result last (gathered es stack)) d) u)) z
-          ∙ ap (landed next stack.loops end) (sym (turn_is dialect d (ForEach (each es)) u ∙ ap (paid (Run dialect) (page_in dialect d (turned (ForEach (each es)))) u) z)))
-      turned_back n ih es last u lt (suc m) z =
-          let e : turn ≡ more + 1 - (length ts + length c + 2) = omega arith in
+          ∙ ap (landed next stack.loops end) (sym (turn_is dialect d (ForEach (each ls)) u ∙ ap (paid (Run dialect) (page_in dialect d (turned (ForEach (each ls)))) u) z)))
+      turned_back n ih ls es last u e same left lt (suc m) z =
+          let back : turn ≡ more + 1 - (length ts + length c + 2) = omega arith in
           one_done dialect code (Turn (length ts + length c + 2)) behind_body.1.1.0 (ap (λ k. spend k (spot (more + 1 - (length ts + length c + 2)) (with_result last (gathered es stack)) d) u) z)
-          (same_done dialect code (sym (turn_is dialect d (ForEach (each es)) u ∙ ap (paid (Run dialect) (page_in dialect d (turned (ForEach (each es)))) u) z))
-          (subst (λ p. Lands dialect code stack.loops (spot p (with_result last (gathered es stack)) d) (with_units m u) end (exec (Run dialect) (page_in dialect d (turned (ForEach (each es)))) (with_units m u))) e
-          (turned_body n ih es last (with_units m u) (omega (arith, lt, z)))))
+          (same_done dialect code (sym (turn_is dialect d (ForEach (each ls)) u ∙ ap (paid (Run dialect) (page_in dialect d (turned (ForEach (each ls)))) u) z))
+          (subst (λ p. Lands dialect code stack.loops (spot p (with_result last (gathered es stack)) d) (with_units m u) end (exec (Run dialect) (page_in dialect d (turned (ForEach (each ls)))) (with_units m u))) back
+          (turned_body n ih ls es last (with_units m u) e same left (omega (arith, lt, z)))))
 
       turns : (n : ℕ) → Turns n
-      turns zero es last s lt = absurd (omega (arith, lt))
-      turns (suc n) [] last s lt = one_done dialect code (SkipEmpty 1) behind_body.1.0 refl (out [] last s _ refl)
-      turns (suc n) (w ∷ es) last s lt =
-          one_done dialect code (SkipEmpty 1) behind_body.1.0 refl
-          (same_done dialect code (sym (ap (λ page. exec (Run dialect) (asking dialect 0 page d) s) (more_is w es))) (turned_back n (turns n) (w ∷ es) last s lt s.units refl))
+      turns zero ls es last s left lt = absurd (omega (arith, lt))
+      turns (suc n) ls [] last s left lt =
+          same_done dialect code (sym (ap (λ b. exec (Run dialect) (asking dialect 0 (ask_if b (ask (Pay (ForEach (each ls)))) (done nothing)) d) s) left.0))
+          (one_done dialect code (SkipEmpty 1) behind_body.1.0 refl (out [] last s _ refl))
+      turns (suc n) ls (w ∷ es) last s left lt =
+          let now = left.1 left.0 in
+          same_done dialect code (sym (ap (λ b. exec (Run dialect) (asking dialect 0 (ask_if b (ask (Pay (ForEach (each ls)))) (done nothing)) d) s) left.0))
+          (one_done dialect code (SkipEmpty 1) behind_body.1.0 refl
+          (turned_back n (turns n) ls (w ∷ es) last s now.0 now.1 now.2 lt s.units refl))
 
       -- from where it is seen whether an element is left
-      turns_land : (es : List Text) (last : Completion) (s : State) (p : ℕ) → p ≡ more → Lands dialect code stack.loops (spot p (with_result last (gathered es stack)) d) s end (exec (Run dialect) (page_in dialect d (each_next (each es))) s)
-      turns_land es last s p e =
-          same_done dialect code (sym (begins_is es d s))
-          (subst (λ q. Lands dialect code stack.loops (spot q (with_result last (gathered es stack)) d) s end (exec (Run dialect) (next_turn es d) s)) (sym e) (turns (suc s.units) es last s (omega arith)))
+      turns_land : (ls : List LoopList) (es : List Text) (last : Completion) (s : State) (p : ℕ) → p ≡ more → Left (suc s.units) names ls es → Lands dialect code stack.loops (spot p (with_result last (gathered es stack)) d) s end (exec (Run dialect) (page_in dialect d (each_next (each ls))) s)
+      turns_land ls es last s p e left =
+          same_done dialect code (sym (begins_is ls d s))
+          (subst (λ q. Lands dialect code stack.loops (spot q (with_result last (gathered es stack)) d) s end (exec (Run dialect) (next_turn ls d) s)) (sym e) (turns (suc s.units) ls es last s left (omega arith)))
 
-  -- ---- the elements of a text
+  -- ---- the lists of texts
 
-  pub each_lands : (list n : Text) (ns : List Text) (body : Text) (b : List Instruction) → elements_of list ≡ Ok (n ∷ ns) → Follows dialect b body → (code : List Instruction) (at : ℕ) (t : Text) (last : Completion) (stack : Stack) (d : ℕ) (s : State) → HasAt code at (each_code (takes (n ∷ ns)) (bodied false b))
-      → Lands dialect code stack.loops (spot at (with_text t (with_result last stack)) d) s (result_at (at + length (each_code (takes (n ∷ ns)) (bodied false b))) stack d) (exec (Run dialect) (page_does dialect inlined.Foreach (list ∷ t ∷ body ∷ []) d) s)
+  pub each_lands : (names : List Text) (body : Text) (b : List Instruction) → Follows dialect b body → (count : ℕ) (code : List Instruction) (at : ℕ) (us : List Text) (last : Completion) (stack : Stack) (d : ℕ) (s : State) → AreEachTexts names body us → length us ≡ count → HasAt code at (each_code count (takes names) (bodied false b))
+      → Lands dialect code stack.loops (spot at (stacked us (with_result last stack)) d) s (result_at (at + length (each_code count (takes names) (bodied false b))) stack d) (exec (Run dialect) (page_does dialect inlined.Foreach (drop 1 us) d) s)
   unfolding page_asks foreach_page asked all_answered answered
-  each_lands list n ns body b e f code at t last stack d s has = same_done dialect code (sym (named s)) (one_done dialect code Gather has.0 refl (go (elements_of t) refl))
+  each_lands names body b f count code at [] last stack d s are e has = absurd are
+  each_lands names body b f count code at (u ∷ us) last stack d s are e has =
+      same_done dialect code (sym (named s)) (go (loop_lists_of empty (pairs us)) refl)
     where
+      empty : Text
+      empty = literal "foreach varlist is empty"
+
       end : Completion → Spot
-      end = result_at (at + length (each_code (takes (n ∷ ns)) (bodied false b))) stack d
+      end = result_at (at + length (each_code count (takes names) (bodied false b))) stack d
 
-      -- the page, by names and elements
-      page : Answer (List Text) → Answer (List Text) → Asks
-      page x y = judged (answering x (λ ns. answering (some_names (literal "foreach varlist is empty") ns) (λ names. answering y (λ es. Ok (record { names = names; elements = es } ∷ []))))) >>= λ lists. each_next (record { lists = lists; body = body; results = None })
+      -- the page, by its lists
+      page : Answer (List LoopList) → Asks
+      page x = judged x >>= λ lists. each_next (record { lists = lists; body = body; results = None })
 
-      named : (s : State) → exec (Run dialect) (page_does dialect inlined.Foreach (list ∷ t ∷ body ∷ []) d) s ≡ exec (Run dialect) (page_in dialect d (page (Ok (n ∷ ns)) (elements_of t))) s
-      named s = ap (λ x. exec (Run dialect) (page_in dialect d (page x (elements_of t))) s) e
+      named : (s : State) → exec (Run dialect) (page_does dialect inlined.Foreach us d) s ≡ exec (Run dialect) (page_in dialect d (page (loop_lists_of empty (pairs us)))) s
+      named s = ap (λ x. exec (Run dialect) (page_in dialect d (each_shaped None (literal "foreach varList list ?varList list ...? command") empty x)) s) (shape_is names body us are.1 are.2)
 
-      go : (x : Answer (List Text)) → elements_of t ≡ x → Lands dialect code stack.loops (spot (at + 1) (with_text t (with_result last (gathered [] stack))) d) s end (exec (Run dialect) (page_in dialect d (page (Ok (n ∷ ns)) (elements_of t))) s)
-      go (Ok es) k =
-          one_done dialect code AddAll has.1.0 (ap (λ x. on_answer x (λ us. spot (at + 1 + 1) (with_result last (gathered us stack)) d) s) k)
-          (same_done dialect code (sym (ap (λ x. exec (Run dialect) (page_in dialect d (page (Ok (n ∷ ns)) x)) s) k))
-          (one_done dialect code (Skip (length (takes (n ∷ ns)) + length (bodied false b) + 1)) has.1.1.0 refl
-          (turns_land (n ∷ ns) body b f code at stack d has es last s _ (omega arith))))
+      dealt_to : Answer (List LoopList) → Move
+      dealt_to x = on_answer (answering x (λ ls. Ok (dealt ls))) (λ es. spot (at + 1) (with_result last (gathered es stack)) d) s
+
+      moves : move dialect (Some (Deal count)) at (onto (u ∷ us) stack.texts) stack.lists (last ∷ stack.results) stack.loops d s ≡ dealt_to (loop_lists_of empty (pairs us))
+      moves = ap (λ x. on_taken x (λ words below. on_answer (dealt_of (drop 1 words)) (λ es. spot (at + 1) (stack_of below (es ∷ stack.lists) (last ∷ stack.results) stack.loops) d) s)) (taken_all count (u ∷ us) stack.texts (omega (arith, e)))
+
+      go : (x : Answer (List LoopList)) → loop_lists_of empty (pairs us) ≡ x → Lands dialect code stack.loops (spot at (stacked (u ∷ us) (with_result last stack)) d) s end (exec (Run dialect) (page_in dialect d (page (loop_lists_of empty (pairs us)))) s)
+      go (Ok ls) k =
+          let known = lists_named empty names body us are.2 ls k in
+          one_done dialect code (Deal count) has.0 (moves ∙ ap dealt_to k)
+          (same_done dialect code (sym (ap (λ x. exec (Run dialect) (page_in dialect d (page x)) s) k))
+          (one_done dialect code (Skip (length (takes names) + length (bodied false b) + 1)) has.1.0 refl
+          (turns_land names body count b f code at stack d has ls (dealt ls) last s _ (omega arith) (left_dealt (suc s.units) (longest ls) names ls known.0 known.1 (omega arith)))))
       go (Err m) k =
-          final_done dialect code AddAll has.1.0
-          (λ next. ap (λ x. follow dialect next stack.loops (on_answer x (λ us. spot (at + 1 + 1) (with_result last (gathered us stack)) d) s)) k
-          ∙ ap (λ x. landed next stack.loops end (exec (Run dialect) (page_in dialect d (page (Ok (n ∷ ns)) x)) s)) (sym k))
+          final_done dialect code (Deal count) has.0
+          (λ next. ap (follow dialect next stack.loops) (moves ∙ ap dealt_to k)
+          ∙ ap (λ x. landed next stack.loops end (exec (Run dialect) (page_in dialect d (page x)) s)) (sym k))

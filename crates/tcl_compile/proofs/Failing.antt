@@ -114,15 +114,20 @@ module _ (dialect : Dialect) where
   -- ---- landing
 
   module _ (code : List Instruction) {os : List Loop} where
-    pub after_value : {A : Type 0} {p : Spot} {s : State} {q : A → Spot} {r : Completion → Spot} (g : Got (Value A)) (f : A → Prog Task Completion) → FailsBadly g → LandsValue dialect code os p s q g → ((a : A) (u : State) → Lands dialect code os (q a) u r (exec (Run dialect) (f a) u))
+    pub after_value : {A : Type 0} {p : Spot} {s : State} {q : A → Spot} {r : Completion → Spot} (g : Got (Value A)) (f : A → Prog Task Completion) → FailsBadly g → LandsValue dialect code os p s q g → ((a : A) (u : State) → g ≡ Gives (Has a) u → Lands dialect code os (q a) u r (exec (Run dialect) (f a) u))
         → Lands dialect code os p s r (on_got g (λ v u. exec (Run dialect) (finishing f v) u))
-    after_value (Gives (Has t) u) f h l n = record { by = λ k. let b = (n t u).by k in let a = l.by b.0 in (a.0, omega (arith, a.1, b.1), a.2 ∙ b.2) }
+    after_value (Gives (Has t) u) f h l n = record { by = λ k. let b = (n t u refl).by k in let a = l.by b.0 in (a.0, omega (arith, a.1, b.1), a.2 ∙ b.2) }
     after_value {r = r} (Gives (Fails c) u) f h l n = record { by = λ k. let a = l.by k in (a.0, a.1, a.2 ∙ sym (landed_stops (exec_code dialect code k) os r (code_now c) c u h)) }
     after_value (Broke u) f h l n = record { by = l.by }
     after_value (Exits m u) f h l n = record { by = l.by }
     after_value (Untold c) f h l n = record { by = l.by }
 
+    -- a value, which is known, and then a command's completion
+    pub then_known : {A : Type 0} {p : Spot} {s : State} {q : A → Spot} {r : Completion → Spot} (m : Prog Task (Value A)) (f : A → Prog Task Completion) → NeverOk m → LandsValue dialect code os p s q (exec (Run dialect) m s)
+        → ((a : A) (u : State) → exec (Run dialect) m s ≡ Gives (Has a) u → Lands dialect code os (q a) u r (exec (Run dialect) (f a) u)) → Lands dialect code os p s r (exec (Run dialect) (andthen m (finishing f)) s)
+    then_known {A} {p} {s} {q} {r} m f h l n = subst (Lands dialect code os p s r) (sym (exec_bind (Run dialect) m (finishing f) s)) (after_value (exec (Run dialect) m s) f (h.fails s) l n)
+
     -- a value, and then a command's completion
     pub then_done : {A : Type 0} {p : Spot} {s : State} {q : A → Spot} {r : Completion → Spot} (m : Prog Task (Value A)) (f : A → Prog Task Completion) → NeverOk m → LandsValue dialect code os p s q (exec (Run dialect) m s) → ((a : A) (u : State) → Lands dialect code os (q a) u r (exec (Run dialect) (f a) u))
         → Lands dialect code os p s r (exec (Run dialect) (andthen m (finishing f)) s)
-    then_done {A} {p} {s} {q} {r} m f h l n = subst (Lands dialect code os p s r) (sym (exec_bind (Run dialect) m (finishing f) s)) (after_value (exec (Run dialect) m s) f (h.fails s) l n)
+    then_done m f h l n = then_known m f h l (λ a u e. n a u)

@@ -3,6 +3,7 @@ pub mod Changing
 pub mod Clauses
 pub mod Commands
 pub mod Conditions
+pub mod Dealing
 pub mod EachEmits
 pub mod EachRuns
 pub mod EachShapes
@@ -17,6 +18,7 @@ pub mod Forming
 pub mod Inlined
 pub mod KeptLemmas
 pub mod Leaves
+pub mod Listing
 pub mod LiteralWords
 pub mod Looping
 pub mod Operators

@@ -140,6 +140,9 @@ changes_no_loop : (k : Change) → inlined_of k ≡ inlined.While → ⊥
 changes_no_loop change.Set e = cc
 changes_no_loop change.Incr e = cc
 
+each_no_loop : inlined.Foreach ≡ inlined.While → ⊥
+each_no_loop e = cc
+
 pub no_change : (k : Change) (name : Text) (ws : List Shape) → IsChange k name ws → IsWhile ws → ⊥
 no_change k name [] c h = c
 no_change k name (w0 ∷ []) c h = c
@@ -147,13 +150,9 @@ no_change k name (w0 ∷ w1 ∷ []) c h = c
 no_change k name (w0 ∷ w1 ∷ w2 ∷ []) c h = changes_no_loop k (loop_named (inlined_of k) w0 (w1 ∷ w2 ∷ []) c.0 h)
 no_change k name (w0 ∷ w1 ∷ w2 ∷ w ∷ ws) c h = c
 
-pub no_each : (list body : Text) (ws : List Shape) → AreEachWords list body ws → IsWhile ws → ⊥
-no_each list body [] e h = e
-no_each list body (w0 ∷ []) e h = e
-no_each list body (w0 ∷ w1 ∷ []) e h = e
-no_each list body (w0 ∷ w1 ∷ w2 ∷ []) e h = e
-no_each list body (w0 ∷ w1 ∷ w2 ∷ w3 ∷ []) e h = h.3.1.1.1
-no_each list body (w0 ∷ w1 ∷ w2 ∷ w3 ∷ w ∷ ws) e h = e
+pub no_each : (names : List Text) (body : Text) (ws : List Shape) → AreEachWords names body ws → IsWhile ws → ⊥
+no_each names body [] e h = e
+no_each names body (w ∷ ws) e h = each_no_loop (loop_named inlined.Foreach w ws e.0 h)
 
 all_long : (ws : List Shape) (ts : List Text) → AllLiteral ws ts → length ts ≡ length ws
 all_long [] [] h = refl

@@ -1,21 +1,22 @@
-//! `foreach` over one list, inlined.
+//! `foreach`, inlined.
 
-ghost use Rattle.std.specs.Prelude.{◌≡◌, ◌-◌, ◌<◌, ◌++◌, IfOk, IfSome, OnOk, length, map};
+ghost use Rattle.std.specs.Prelude.{◌≡◌, ◌-◌, ◌<◌, ◌++◌, ◌∷◌, [], IfOk, IfSome, OnOk, length, map};
 ghost use Rattle.std.specs.Str.{chars};
 ghost use Rattle.tcl_list.specs.Texts.{text_of};
 ghost use Rattle.tcl_words.specs.First.{most_levels};
 ghost use Rattle.tcl_words.specs.Parts.{shape_of};
 ghost use Rattle.tcl_meaning.specs.Nesting.{WordsNest};
-ghost use Rattle.tcl_compile.specs.Eaches.{AreEachWords, AreNames, EachCode, IsEach, calling, takes};
+ghost use Rattle.tcl_code.specs.Instructions.{Deal};
+ghost use Rattle.tcl_compile.specs.Eaches.{AreListWords, AreNames, EachCode, IsEach, IsNameList, takes};
 ghost use Rattle.tcl_compile.specs.Emitted.{CommandCode};
-ghost use Rattle.tcl_compile.specs.Fragments.{Grown};
+ghost use Rattle.tcl_compile.specs.Fragments.{Grown, Plain};
 ghost use Rattle.tcl_compile.specs.Literals as literals;
 ghost use Rattle.tcl_compile.specs.Within.{ArgumentsAreShort, WordsWithin};
 
 use crate::context::Context;
 use crate::literals::{Literal, literal_of, stretch};
 use crate::pages::{emit_looped, emit_nothing, emit_turn};
-use crate::script::emit_word;
+use crate::script::{emit_call, emit_word};
 use crate::skips::lead_here;
 use std::alloc::{AllocError, Global};
 use std::rc::RcStr;
@@ -24,10 +25,9 @@ use tcl_code::{CodeBuilder, Inlined, Instr};
 use tcl_list::split;
 use tcl_words::Word;
 
-/// A `foreach` over one list: the list of its variables' names, the names, and the body.
+/// A `foreach`: the names of all its lists, and the body.
 #[derive(Drop)]
 pub(crate) struct EachForm<'a> {
-    pub(crate) list: Literal<'a>,
     pub(crate) names: Vec<RcStr>,
     pub(crate) body: Literal<'a>,
 }
@@ -50,45 +50,58 @@ fn names_of(alloc: Global, list: &str) -> Result<Option<Vec<RcStr>>, AllocError>
     Ok(Some(names))
 }
 
-// The list of names and the body, where they are literal, of a `foreach` over one list.
-fn each_words<'a>(
-    alloc: Global,
-    words: &[Word<'a>],
-) -> Result<Option<(Literal<'a>, Literal<'a>)>, AllocError>
-    ensures { IfOk result (λ found. IfSome found (λ x. AreEachWords (literals.text_of x.0) (literals.text_of x.1) (map shape_of words.now))) }
+// The names of a word that is a literal list of them.
+fn named_by(alloc: Global, word: &Word<'_>) -> Result<Option<Vec<RcStr>>, AllocError>
+    ensures { IfOk result (λ names. IfSome names (λ ns. IsNameList (shape_of word.now) (map text_of ns.items))) }
 {
-    if words.len() != 4 || words[2].expands {
-        return Ok(None);
+    match literal_of(alloc, word)? {
+        Some(list) => names_of(alloc, list.as_str()),
+        None => Ok(None),
     }
-    match stretch(&words[0]) {
-        Some(head) if head == "foreach" => (),
-        _ => return Ok(None),
-    }
-    let Some(list) = literal_of(alloc, &words[1])? else {
-        return Ok(None);
-    };
-    let Some(body) = literal_of(alloc, &words[3])? else {
-        return Ok(None);
-    };
-    Ok(Some((list, body)))
 }
 
-// A `foreach` over one list that is inlined.
+// The names of all lists and the body, where they are literal, of the words behind the command's name.
+fn each_words<'a>(alloc: Global, words: &[Word<'a>]) -> Result<Option<EachForm<'a>>, AllocError>
+    ensures { IfOk result (λ form. IfSome form (λ f. AreListWords (map text_of f.names.items) (literals.text_of f.body) (map shape_of words.now))) }
+{
+    let mut names = Vec::new(alloc);
+    let mut rest = words;
+    'lists: while rest.len() > 1 {
+        let Some(mut more) = named_by(alloc, &rest[0])? else {
+            return Ok(None);
+        };
+        names.append(&mut more)?;
+        if names.len() > MOST_NAMES {
+            return Ok(None);
+        }
+        rest = &rest[2..];
+    }
+    if rest.len() != 1 {
+        return Ok(None);
+    }
+    match literal_of(alloc, &rest[0])? {
+        Some(body) => Ok(Some(EachForm { names, body })),
+        None => Ok(None),
+    }
+}
+
+// A `foreach` that is inlined.
 pub(crate) fn each_of<'a>(
     context: Context,
     words: &[Word<'a>],
 ) -> Result<Option<EachForm<'a>>, AllocError>
     ensures { IfOk result (λ form. IfSome form (λ f. IsEach f (map shape_of words.now))) }
 {
-    if !context.inlines() {
+    if words.is_empty() || !context.inlines() {
         return Ok(None);
     }
-    let Some((list, body)) = each_words(context.alloc, words)? else {
-        return Ok(None);
-    };
-    match names_of(context.alloc, list.as_str())? {
-        Some(names) => Ok(Some(EachForm { list, names, body })),
-        None => Ok(None),
+    match stretch(&words[0]) {
+        Some(head) if head == "foreach" => (),
+        _ => return Ok(None),
+    }
+    match each_words(context.alloc, &words[1..])? {
+        Some(each) if !each.names.is_empty() => Ok(Some(each)),
+        _ => Ok(None),
     }
 }
 
@@ -103,28 +116,25 @@ fn emit_names(code: &mut CodeBuilder, names: &[RcStr]) -> Result<(), AllocError>
     Ok(())
 }
 
-// The call of the command, where the text of the list is there.
-fn emit_calling(code: &mut CodeBuilder, list: &str, body: &str) -> Result<(), AllocError>
-    ensures { OnOk result (code.new ≡ code.old ++ calling (chars list.now) (chars body.now)) }
+// Emits that the elements of the lists among the texts of `count` words are dealt.
+fn emit_deal(code: &mut CodeBuilder, count: usize) -> Result<(), AllocError>
+    ensures { OnOk result (code.new ≡ code.old ++ Deal count ∷ []) }
 {
-    code.under("foreach")?;
-    code.under(list)?;
-    code.push(body)?;
-    code.emit(Instr::Call(4))
+    let count = u32::try_from(count).map_err(|_| AllocError)?;
+    code.emit(Instr::Deal(count))
 }
 
-// The elements of the text on top, and the turns.
+// The turns, where the texts of the command's words, as many as `count` says, are there.
 #[cycle(emitting)]
 fn emit_turns(
     code: &mut CodeBuilder,
     context: Context,
+    count: usize,
     each: &EachForm<'_>,
 ) -> Result<(), AllocError>
-    requires { AreNames (literals.text_of each.now.list) (map text_of each.now.names.items) }
-    ensures { OnOk result (Grown (EachCode context.dialect (literals.text_of each.now.list) (literals.text_of each.now.body)) code.old code.new) }
+    ensures { OnOk result (Grown (EachCode context.dialect count (map text_of each.now.names.items) (literals.text_of each.now.body)) code.old code.new) }
 {
-    code.emit(Instr::Gather)?;
-    code.emit(Instr::AddAll)?;
+    emit_deal(code, count)?;
     let to_more = code.len();
     code.emit(Instr::Skip(0))?;
     let begin = code.len();
@@ -139,7 +149,7 @@ fn emit_turns(
     emit_nothing(code)
 }
 
-// A `foreach` over one list: the word, a guard, the turns, and the general call beside them.
+// A `foreach`: the words, a guard, the turns, and the general call beside them.
 #[cycle(emitting)]
 pub(crate) fn emit_each(
     code: &mut CodeBuilder,
@@ -149,19 +159,22 @@ pub(crate) fn emit_each(
     words: &[Word<'_>],
 ) -> Result<(), AllocError>
     requires each { IsEach each.now (map shape_of words.now) }
+    requires plain { Plain (map shape_of words.now) }
     requires some { 0 < length (chars whole.now) }
     requires nests { WordsNest most_levels (map shape_of words.now) }
     requires within { WordsWithin (length (chars whole.now) - 1) (map shape_of words.now) }
     requires short { ArgumentsAreShort (length (chars whole.now) - 1) (map shape_of words.now) }
     ensures { OnOk result (Grown (CommandCode context.dialect (map shape_of words.now)) code.old code.new) }
 {
-    emit_word(code, context, whole, &words[2])?;
+    'words: for word in words {
+        emit_word(code, context, whole, word)?;
+    }
     let guard = code.len();
     code.emit(Instr::Guard(Inlined::Foreach, 0))?;
-    emit_turns(code, context, each)?;
+    emit_turns(code, context, words.len(), each)?;
     let past = code.len();
     code.emit(Instr::Skip(0))?;
     lead_here(code, guard)?;
-    emit_calling(code, each.list.as_str(), each.body.as_str())?;
+    emit_call(code, words.len())?;
     lead_here(code, past)
 }

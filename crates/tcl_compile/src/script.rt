@@ -182,7 +182,7 @@ fn emit_join(code: &mut CodeBuilder, count: usize) -> Result<(), AllocError>
 }
 
 // Emits the call of a command of `count` words.
-fn emit_call(code: &mut CodeBuilder, count: usize) -> Result<(), AllocError>
+pub(crate) fn emit_call(code: &mut CodeBuilder, count: usize) -> Result<(), AllocError>
     ensures { OnOk result (code.new ≡ code.old ++ Call count ∷ []) }
 {
     let count = u32::try_from(count).map_err(|_| AllocError)?;

@@ -1,3 +1,4 @@
+pub mod DealingLemmas
 pub mod ElementLemmas
 pub mod LoopListLemmas
 pub mod MovingLemmas

@@ -1,5 +1,5 @@
 -- Lists with the names of their variables: foreach(n), lmap(n), `dict for` of dict(n).
-use Rattle.std.specs.Prelude.{List, ◌++◌, Ok}
+use Rattle.std.specs.Prelude.{Bool, ◌==◌, List, ◌++◌, length, Ok}
 use Rattle.tcl_list.specs.Elements.{elements_of}
 use Rattle.tcl_meaning.specs.Control.{gathered, two_names}
 use Rattle.tcl_meaning.specs.Shapes.{some_names}
@@ -32,3 +32,9 @@ pairs_read names dictionary = do
 -- lists in front of others
 abbrev pub in_front : List LoopList → Answer (List LoopList) → Answer (List LoopList)
 in_front ls more = more >>= λ others. Ok (ls ++ others)
+
+-- has the list that a text is one element
+abbrev pub counts_one : Text → Answer Bool
+counts_one t = do
+  ts ← elements_of t
+  Ok (length ts == 1)

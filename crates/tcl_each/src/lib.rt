@@ -2,6 +2,7 @@
 #![tactic(auto)]
 
 mod answers;
+mod dealing;
 mod moving;
 mod next;
 mod pages;
@@ -9,6 +10,7 @@ mod rows;
 mod setting;
 mod turning;
 
+pub use dealing::dealt;
 pub use next::after_each;
 pub use pages::{dict_for_page, foreach_page, lmap_page};
 pub use turning::turned;

@@ -16,10 +16,14 @@ use tcl_chars::{Fault, message};
 use tcl_steps::LoopList;
 use tcl_values::{Dictionary, Row, Value};
 
-// The names that the word at a place is a list of.
-fn names_at(alloc: Global, words: &mut [Value], place: usize) -> Result<Vec<Value>, Fault>
+/// The elements of the word at a place.
+///
+/// # Errors
+///
+/// `Fault::Error` with the list's fault, `Fault::Memory`.
+pub(crate) fn list_at(alloc: Global, words: &mut [Value], place: usize) -> Result<Vec<Value>, Fault>
     requires { place < length words.old }
-    ensures names { Answers (λ names. names.items) result (elements_of (word words.old place)) }
+    ensures list { Answers (λ list. list.items) result (elements_of (word words.old place)) }
     ensures same { words.new ≡ words.old }
 {
     words[place].list(alloc)
@@ -56,7 +60,7 @@ fn loop_list_at(
     ensures list { Answers loop_list_of result (loop_list_read (chars empty.now) (word words.old place) (word words.old (place + 1))) }
     ensures same { words.new ≡ words.old }
 {
-    let list = names_at(alloc, words, place)?;
+    let list = list_at(alloc, words, place)?;
     let names = some_names(alloc, list, empty)?;
     let elements = row_at(alloc, words, place + 1)?;
     Ok(LoopList {
@@ -134,7 +138,7 @@ pub(crate) fn pairs_at(alloc: Global, words: &mut [Value]) -> Result<LoopList, F
     ensures list { Answers loop_list_of result (pairs_read (word words.old 0) (word words.old 1)) }
     ensures same { words.new ≡ words.old }
 {
-    let list = names_at(alloc, words, 0)?;
+    let list = list_at(alloc, words, 0)?;
     let names = two_names(alloc, list)?;
     let pairs = words[1].dictionary(alloc)?;
     let values = flat_values(alloc, &pairs)?;

@@ -34,8 +34,13 @@ fn element_behind(
     elements[gone + place].value(alloc)
 }
 
-// The same of a list that is shared.
-fn element_at(alloc: Global, elements: &Row, gone: usize, place: usize) -> Result<Value, AllocError>
+/// The same of a list that is shared.
+pub(crate) fn element_at(
+    alloc: Global,
+    elements: &Row,
+    gone: usize,
+    place: usize,
+) -> Result<Value, AllocError>
     ensures { IfOk result (λ value. value ≡ get_or elements.now (gone + place) []) }
 {
     element_behind(alloc, elements.items(), gone, place)

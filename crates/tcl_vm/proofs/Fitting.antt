@@ -1,5 +1,5 @@
 -- An instruction of valid code finds what it needs, and what it leads to fits.
-use Rattle.std.proofs.Common.{◌≡◌, ◌⊎◌, inl, inr, ℕ, zero, suc, ◌+◌, ◌-◌, ◌≤◌, ◌<◌, cond, Bool, true, false, List, [], ◌∷◌, ◌++◌, length, Option, Some, None, Result, Ok, Err, refl, sym, ap, subst, arith}
+use Rattle.std.proofs.Common.{◌≡◌, ◌⊎◌, inl, inr, ℕ, zero, suc, ◌+◌, ◌-◌, ◌≤◌, ◌<◌, cond, Bool, true, false, List, [], ◌∷◌, ◌++◌, length, Option, Some, None, Result, Ok, Err, refl, sym, ap, subst, arith, drop}
 use Rattle.std.specs.Prelude.{slice_get, nat_lt}
 use Rattle.std.proofs.lemmas.Bool.{ltb-false}
 use Rattle.std.proofs.lemmas.Option.{slice_get_within}
@@ -30,7 +30,8 @@ use Rattle.tcl_meaning.proofs.Plain.{plain_free}
 use Rattle.tcl_pages.specs.declared.pages.UpdatePage.TheVariants as update
 use Rattle.tcl_code.specs.Caught.{caught}
 use Rattle.tcl_code.specs.Guards.{stands}
-use Rattle.tcl_code.specs.Instructions.{Instruction, Push, Read, ReadElement, Join, Spend, Enter, Leave, Call, Gather, Add, AddAll, CallGathered, TakeFirst, SkipEmpty, DropList, Raise, Guard, Under, Write, Bump, Become, Body, Again, Break, Continue, Skip, SkipWhen, Turn, Unary, Binary, Power, Apply, Truth, Final, Answer as AnswerTop}
+use Rattle.tcl_code.specs.Dealing.{dealt_of}
+use Rattle.tcl_code.specs.Instructions.{Instruction, Push, Read, ReadElement, Join, Spend, Enter, Leave, Call, Gather, Add, AddAll, CallGathered, Deal, TakeFirst, SkipEmpty, DropList, Raise, Guard, Under, Write, Bump, Become, Body, Again, Break, Continue, Skip, SkipWhen, Turn, Unary, Binary, Power, Apply, Truth, Final, Answer as AnswerTop}
 use Rattle.tcl_code.specs.Machine.{Loop, Texts, Taken, taken, on_taken, on_read, on_answer, on_operator, on_step, on_page, spend, Spot, spot, stack_of, behind_loop, Move, To, Fails, Ends, Calls, Wrong, move}
 use Rattle.tcl_code.specs.Open.{IsShaped, LoopFits, LoopsFit}
 use Rattle.tcl_code.specs.Running.{running}
@@ -229,6 +230,9 @@ module _ (dialect : Dialect) (code : List Instruction) (shape : Shape) (at d p :
   move_fits CallGathered ts [] rs e f h = absurd (let q = h.lists in omega arith)
   move_fits CallGathered ts (l ∷ ls) [] e f h = absurd (let q = h.results in omega arith)
   move_fits CallGathered ts (l ∷ ls) (r ∷ rs) e f h = call_fits CallGathered e (record shape { lists = shape.lists - 1; paid = shape.paid - 1 }) (inl (refl, refl)) l ts ls rs (λ c. record { texts = h.texts; lists = let q = h.lists in omega arith; results = h.results; brackets = h.brackets }) loops (let q = f.1 in omega arith)
+  move_fits (Deal n) ts ls rs e f h = taken_some n [] ts (λ x. GoesOn (Deal n) (on_taken x (λ us below. on_answer (dealt_of (drop 1 us)) (λ vs. spot (at + 1) (stack_of below (vs ∷ ls) rs os) d) s))) (let q = h.texts in omega arith)
+      (λ us below k. answer_fits (Deal n) (dealt_of (drop 1 us)) _
+      (λ vs. next_fits (Deal n) e (record shape { height = shape.height - n; lists = shape.lists + 1 }) (inl (refl, refl)) below (vs ∷ ls) rs d (record { texts = let q = h.texts in omega arith; lists = let q = h.lists in omega arith; results = h.results; brackets = h.brackets }) deep loops paid_for))
   move_fits TakeFirst ts [] rs e f h = absurd (let q = h.lists in omega arith)
   move_fits TakeFirst ts ([] ∷ ls) rs e f h = texts_fit TakeFirst e 0 1 (inl (refl, refl)) ts ([] ∷ ts) ([] ∷ ls) rs h (let q = h.texts in omega arith)
   move_fits TakeFirst ts ((w ∷ ws) ∷ ls) rs e f h = next_fits TakeFirst e (with_texts 0 1 shape) (inl (refl, refl)) (w ∷ ts) (ws ∷ ls) rs d (record { texts = let q = h.texts in omega arith; lists = h.lists; results = h.results; brackets = h.brackets }) deep loops paid_for

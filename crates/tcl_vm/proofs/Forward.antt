@@ -1,5 +1,5 @@
 -- From one instruction to the next.
-use Rattle.std.proofs.Common.{◌≡◌, ℕ, zero, suc, cond, Bool, true, false, List, [], ◌∷◌, Option, Some, None, Result, Ok, Err, refl, sym, ap, ◌∙◌, subst}
+use Rattle.std.proofs.Common.{◌≡◌, ℕ, zero, suc, cond, Bool, true, false, List, [], ◌∷◌, Option, Some, None, Result, Ok, Err, refl, sym, ap, ◌∙◌, subst, drop}
 use Rattle.std.specs.Prelude.{slice_get, nat_lt}
 use Rattle.std.proofs.lemmas.Bool.{cond_both}
 use Rattle.tcl_chars.specs.declared.numbers.Dialect.{Dialect}
@@ -26,7 +26,8 @@ use Rattle.tcl_meaning.specs.Variables.{get}
 use Rattle.tcl_pages.specs.declared.pages.UpdatePage.TheVariants as update
 use Rattle.tcl_meaning.proofs.Onward.{onward_same, outputs_trans}
 use Rattle.tcl_meaning.proofs.Runs.{IsOnward, exec_goes, outcome_goes}
-use Rattle.tcl_code.specs.Instructions.{Instruction, Push, Read, ReadElement, Join, Spend, Enter, Leave, Call, Gather, Add, AddAll, CallGathered, TakeFirst, SkipEmpty, DropList, Raise, Guard, Under, Write, Bump, Become, Body, Again, Break, Continue, Skip, SkipWhen, Turn, Unary, Binary, Power, Apply, Truth, Final, Answer as AnswerTop}
+use Rattle.tcl_code.specs.Dealing.{dealt_of}
+use Rattle.tcl_code.specs.Instructions.{Instruction, Push, Read, ReadElement, Join, Spend, Enter, Leave, Call, Gather, Add, AddAll, CallGathered, Deal, TakeFirst, SkipEmpty, DropList, Raise, Guard, Under, Write, Bump, Become, Body, Again, Break, Continue, Skip, SkipWhen, Turn, Unary, Binary, Power, Apply, Truth, Final, Answer as AnswerTop}
 use Rattle.tcl_code.specs.Caught.{caught}
 use Rattle.tcl_code.specs.Machine.{Loop, Texts, Taken, taken, on_taken, on_read, on_answer, on_operator, on_code, on_step, on_page, spend, Spot, result_at, Move, To, Fails, Ends, Calls, Wrong, move, Ended, Unfinished, Stuck, thrown_by, landed_by, landed, follow, exec_code}
 use Rattle.tcl_code.specs.Running.{running}
@@ -144,6 +145,7 @@ module _ (dialect : Dialect) (s : State) (os : List Loop) where
   keeps (Some CallGathered) at ts [] rs d = tt
   keeps (Some CallGathered) at ts (l ∷ ls) [] d = tt
   keeps (Some CallGathered) at ts (l ∷ ls) (r ∷ rs) d = (refl, refl)
+  keeps (Some (Deal n)) at ts ls rs d = keeps_taken (taken n [] ts) _ (λ us below. keeps_answer (dealt_of (drop 1 us)) _)
   keeps (Some TakeFirst) at ts [] rs d = tt
   keeps (Some TakeFirst) at ts ([] ∷ ls) rs d = refl
   keeps (Some TakeFirst) at ts ((w ∷ ws) ∷ ls) rs d = refl

@@ -1,5 +1,5 @@
 -- With more units the same is done.
-use Rattle.std.proofs.Common.{◌≡◌, ℕ, zero, suc, ◌+◌, true, List, [], ◌∷◌, Option, Some, None, Result, Ok, Err, refl, sym, ap, subst, arith, ⊎_elim, inl, inr}
+use Rattle.std.proofs.Common.{◌≡◌, ℕ, zero, suc, ◌+◌, true, List, [], ◌∷◌, Option, Some, None, Result, Ok, Err, refl, sym, ap, subst, arith, ⊎_elim, inl, inr, drop}
 use Rattle.std.specs.Prelude.{nat_lt}
 use Rattle.tcl_chars.specs.declared.numbers.Dialect.{Dialect}
 use Rattle.tcl_chars.specs.Messages.{truth_value}
@@ -27,7 +27,8 @@ use Rattle.tcl_meaning.specs.VariablePages.{set_page, update_page}
 use Rattle.tcl_meaning.specs.Variables.{get}
 use Rattle.tcl_pages.specs.declared.pages.UpdatePage.TheVariants as update
 use Rattle.tcl_code.specs.Caught.{caught, caught_by}
-use Rattle.tcl_code.specs.Instructions.{Instruction, Push, Read, ReadElement, Join, Spend, Enter, Leave, Call as CallWords, Gather, Add, AddAll, CallGathered, TakeFirst, SkipEmpty, DropList, Raise, Guard, Under, Write as WriteName, Bump, Become, Body, Again, Break, Continue, Skip, SkipWhen, Turn, Unary, Binary, Power, Apply, Truth, Final, Answer as AnswerTop}
+use Rattle.tcl_code.specs.Dealing.{dealt_of}
+use Rattle.tcl_code.specs.Instructions.{Instruction, Push, Read, ReadElement, Join, Spend, Enter, Leave, Call as CallWords, Gather, Add, AddAll, CallGathered, Deal, TakeFirst, SkipEmpty, DropList, Raise, Guard, Under, Write as WriteName, Bump, Become, Body, Again, Break, Continue, Skip, SkipWhen, Turn, Unary, Binary, Power, Apply, Truth, Final, Answer as AnswerTop}
 use Rattle.tcl_code.specs.Machine.{Loop, Texts, Taken, taken, on_taken, on_read, on_answer, on_operator, on_code, on_step, on_page, spend, Spot, Move, To, Fails, Ends, Calls, Wrong, move}
 use Rattle.std.specs.Prelude.{slice_get}
 use Rattle.tcl_vm.specs.Engines.{Views, Answers, Position, IsFree, PaysHere, MovesOn, CallsOn, LeadsOn, WalksIn, Walks, Spent}
@@ -177,6 +178,7 @@ module _ (b : ℕ) where
     so os (Some CallGathered) at ts [] rs d = refl
     so os (Some CallGathered) at ts (l ∷ ls) [] d = refl
     so os (Some CallGathered) at ts (l ∷ ls) (r ∷ rs) d = refl
+    so os (Some (Deal n)) at ts ls rs d = so_taken (taken n [] ts) _ _ (λ us below. so_answer (dealt_of (drop 1 us)) _)
     so os (Some TakeFirst) at ts [] rs d = refl
     so os (Some TakeFirst) at ts ([] ∷ ls) rs d = refl
     so os (Some TakeFirst) at ts ((w ∷ ws) ∷ ls) rs d = refl

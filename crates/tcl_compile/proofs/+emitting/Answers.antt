@@ -12,7 +12,7 @@ use Rattle.tcl_compile.specs.Within.{PartWithin, PartsWithin, WordsWithin}
 use Rattle.tcl_compile.proofs.Within.{first_shorter, parts_within_at, words_within_at}
 use Rattle.tcl_compile.proofs.Emits.{grown_one, grown_text, grown_escape, grown_var, grown_elem, grown_bracket, grown_deeper, grown_word, grown_command, grown_gathered, piece_leads, word_leads, gather_leads, leads_start, plain_at}
 use Rattle.tcl_compile.proofs.Paging.{are_none, are_some, behind_first, behind_less, first_split, grown_break, grown_continue, grown_increment, grown_expr, grown_if, grown_while, grown_body, grown_none, grown_last, grown_clause, grown_looped, grown_turns, grown_loop, grown_whole_for}
-use Rattle.tcl_compile.proofs.EachEmits.{each_short, grown_each, grown_each_turns}
+use Rattle.tcl_compile.proofs.EachEmits.{each_short, grown_each, grown_each_turns, told_leads}
 use Rattle.tcl_compile.proofs.Forming.{grown_changed, change_long, form_plain, form_short, grown_guarded}
 use Rattle.tcl_compile.proofs.Parsing.{parsed_end, parsed_bad, parsed_command, map_at, part-text, part-escape, part-var, part-elem, part-bracket}
 use Rattle.tcl_expr.specs.View.{fault_view, leaf_of, step_of, view}
@@ -530,30 +530,56 @@ pages::emit_loop-returns t c =
 pub pages::emit_for-returns : goal.pages::emit_for-returns
 pages::emit_for-returns t c = on_ok_weaker c.emit_loop.result (λ h. grown_whole_for c.args.context.dialect _ _ _ c.args.texts.now c.in_ok-emit_body.ensures h) c.emit_loop.ensures
 
+pub each::emit_each-words-preserved : goal.each::emit_each-words-preserved
+each::emit_each-words-preserved t c =
+    let ws = map shape_of c.args.words.now in
+    let lt : c.words.word-index < length ws = omega (arith, length-map c.args.words.now shape_of) in
+    let at = map_at shape_of c.args.words.now c.words.word-index c.word-item.result c.word-item.is in
+    let i = c.words.invariant in
+    record {
+      leads = told_leads c.args.context.dialect ws c.words.word-index (shape_of c.word-item.result) _ c.words.code _ (plain_at ws c.words.word-index (shape_of c.word-item.result) i.plain lt at) lt at i.leads c.in_ok-emit_word.ensures;
+      each = i.each;
+      plain = i.plain;
+      some = i.some;
+      nests = i.nests;
+      within = i.within;
+      short = i.short;
+    }
+
+pub each::emit_each-emit_word-requires : goal.each::emit_each-emit_word-requires
+each::emit_each-emit_word-requires t c =
+    let ws = map shape_of c.args.words.now in
+    let lt : c.words.word-index < length ws = omega (arith, length-map c.args.words.now shape_of) in
+    let at = map_at shape_of c.args.words.now c.words.word-index c.word-item.result c.word-item.is in
+    let nests : PartsNest most_levels (parts_of (map part_of c.word-item.result.pieces.items)) = words_nest_at most_levels ws c.words.word-index (shape_of c.word-item.result) c.words.invariant.nests lt at in
+    let within : PartsWithin (length (chars c.args.whole.now) - 1) (parts_of (map part_of c.word-item.result.pieces.items)) = words_within_at (length (chars c.args.whole.now) - 1) ws c.words.word-index (shape_of c.word-item.result) c.words.invariant.within lt at in
+    search rules
+
 pub each::emit_each-emit_turns-requires : goal.each::emit_each-emit_turns-requires
 each::emit_each-emit_turns-requires t c =
     let whole = chars c.args.whole.now in
     let body = text_of c.args.each.now.body in
-    let is = c.requires.1.1.0 in
-    let some = c.requires.1.1.1.0 in
-    let short = each_short (length whole - 1) (text_of c.args.each.now.list) body (map shape_of c.args.words.now) is.0 c.requires.1.1.1.1.1.1 in
+    let i = c.words.invariant in
+    let some = i.some in
+    let short = each_short (length whole - 1) (map texts.text_of c.args.each.now.names.items) body (map shape_of c.args.words.now) i.each i.short in
     let falls : reach (length body) + 902 < reach (length whole) + 404 = omega (arith, reach_more (length body) (length whole) (omega (arith, some, short))) in
-    (search rules, is.1)
+    search rules
 
 pub each::emit_each-returns : goal.each::emit_each-returns
 each::emit_each-returns t c =
-    let at = map_at shape_of c.args.words.now 2 c.index-words-2.result c.index-words-2.is in
+    let ws = map shape_of c.args.words.now in
+    let n = length-map c.args.words.now shape_of in
     on_ok_weaker c.lead_here-2.result
-    (λ h. grown_each c.args.context.dialect c.args.each.now (map shape_of c.args.words.now) (shape_of c.index-words-2.result) _ _ _ _ _ _ _ _ c.requires.1.1.0 at c.in_ok-emit_word.ensures c.in_ok-emit.ensures.done c.in_ok-emit_turns.ensures c.in_ok-emit-2.ensures.done
-    (λ front back i e p. c.in_ok-lead_here.ensures front back i e (c.len-guard.ensures ∙ p)) (rw c.as_str-2.ensures at (rw c.as_str.ensures at c.in_ok-emit_calling.ensures)) (λ front back i e p. h front back i e (c.len-past.ensures ∙ p))) c.lead_here-2.ensures
+    (λ h. grown_each c.args.context.dialect c.args.each.now ws c.words.word-index _ _ c.words.code _ _ _ _ _ _ c.words.invariant.each (omega (arith, n)) (sym n) c.words.invariant.leads c.in_ok-emit.ensures.done c.in_ok-emit_turns.ensures c.in_ok-emit-2.ensures.done
+    (λ front back i e p. c.in_ok-lead_here.ensures front back i e (c.len-guard.ensures ∙ p)) c.in_ok-emit_call.ensures (λ front back i e p. h front back i e (c.len-past.ensures ∙ p))) c.lead_here-2.ensures
 
 pub each::emit_turns-returns : goal.each::emit_turns-returns
 each::emit_turns-returns t c =
     let each = c.args.each.now in
     on_ok_weaker c.emit_nothing.result
-    (λ h. grown_each_turns c.args.context.dialect _ _ _ _ _ _ _ _ _ _ _ _ _ (text_of each.list) (map texts.text_of each.names.items) (text_of each.body) c.requires c.in_ok-emit.ensures.done c.in_ok-emit-2.ensures.done c.in_ok-emit-3.ensures.done (rw c.as_slice.ensures.value at c.in_ok-emit_names.ensures)
-    (rw c.as_str.ensures at c.in_ok-emit_looped.ensures) c.in_ok-emit-4.ensures.done (λ front back i e p. c.in_ok-lead_here.ensures front back i e (c.len-to_more.ensures ∙ p)) c.in_ok-emit-5.ensures.done c.in_ok-emit_turn.ensures
-    (ap (λ n. n - c.len-begin.result) c.len.ensures ∙ ap (λ n. length c.emit-5.new.self - n) c.len-begin.ensures) c.in_ok-emit-6.ensures.done h) c.emit_nothing.ensures
+    (λ h. grown_each_turns c.args.context.dialect _ _ _ _ _ _ _ _ _ _ _ c.args.count _ (map texts.text_of each.names.items) (text_of each.body) c.in_ok-emit_deal.ensures c.in_ok-emit.ensures.done (rw c.as_slice.ensures.value at c.in_ok-emit_names.ensures)
+    (rw c.as_str.ensures at c.in_ok-emit_looped.ensures) c.in_ok-emit-2.ensures.done (λ front back i e p. c.in_ok-lead_here.ensures front back i e (c.len-to_more.ensures ∙ p)) c.in_ok-emit-3.ensures.done c.in_ok-emit_turn.ensures
+    (ap (λ n. n - c.len-begin.result) c.len.ensures ∙ ap (λ n. length c.emit-3.new.self - n) c.len-begin.ensures) c.in_ok-emit-4.ensures.done h) c.emit_nothing.ensures
 
 pub script::emit_command-returns-then-any_expands : goal.script::emit_command-returns-then-any_expands
 script::emit_command-returns-then-any_expands t c =
@@ -570,7 +596,7 @@ pub script::emit_command-returns-in-Some-2 : goal.script::emit_command-returns-i
 script::emit_command-returns-in-Some-2 t c =
     let ws = map shape_of c.args.words.now in
     let is = of_some (λ f. IsEach f ws) c.in_ok-each.field-0 c.in-Some-2.each c.in-Some-2.is c.in_ok-each.ensures in
-    on_ok_weaker c.emit_each.result (λ g. made_without c.args.context.dialect c.args.context.outermost ws _ _ (λ o. no_each (text_of c.in-Some-2.each.list) (text_of c.in-Some-2.each.body) ws is.0) g) c.emit_each.ensures
+    on_ok_weaker c.emit_each.result (λ g. made_without c.args.context.dialect c.args.context.outermost ws _ _ (λ o. no_each (map texts.text_of c.in-Some-2.each.names.items) (text_of c.in-Some-2.each.body) ws is) g) c.emit_each.ensures
 
 pub script::emit_named-returns-in-Some : goal.script::emit_named-returns-in-Some
 script::emit_named-returns-in-Some t c =

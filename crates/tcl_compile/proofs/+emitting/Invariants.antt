@@ -7,12 +7,13 @@ use Rattle.tcl_expr.specs.View.{step_of, view}
 use Rattle.tcl_words.specs.Parts.{shape_of, part_of, parts_of}
 use Rattle.tcl_meaning.specs.Nesting.{PartsNest, WordsNest}
 use Rattle.tcl_words.specs.First.{most_levels}
+use Rattle.tcl_compile.specs.Eaches.{IsEach, TextsLeft}
 use Rattle.tcl_compile.specs.Emitted.{PiecesLeft, WordsLeft, GatheredLeft}
 use Rattle.tcl_compile.specs.Fragments.{Leads, Plain, Begun}
 use Rattle.tcl_compile.specs.Literals.{text_of}
 use Rattle.tcl_compile.specs.Trees.{ArgsLeft, RestCode, ArgsAreRead, RestIsRead}
 use Rattle.tcl_compile.specs.Whiles.{ScriptMade}
-use Rattle.tcl_compile.specs.Within.{PartsWithin, WordsWithin}
+use Rattle.tcl_compile.specs.Within.{ArgumentsAreShort, PartsWithin, WordsWithin}
 use Rattle.tcl_compile.proofs.Weights.{reach, weight, weight_args, weight_rest}
 use Rattle.tcl_compile.proofs.+emitting.Given as goal
 
@@ -117,6 +118,17 @@ invariant-script::emit_plain-words l = record {
   some : 0 < length (chars l.whole);
   nests : WordsNest most_levels (map shape_of l.words);
   within : WordsWithin (length (chars l.whole) - 1) (map shape_of l.words);
+}
+
+abbrev pub invariant-each::emit_each-words : goal.invariant-each::emit_each-words
+invariant-each::emit_each-words l = record {
+  leads : Leads (TextsLeft l.fn.context.dialect (map shape_of l.words) (drop l.word-index (map shape_of l.words))) (TextsLeft l.fn.context.dialect (map shape_of l.words) (map shape_of l.words)) l.fn.code l.code;
+  each : IsEach l.each (map shape_of l.words);
+  plain : Plain (map shape_of l.words);
+  some : 0 < length (chars l.whole);
+  nests : WordsNest most_levels (map shape_of l.words);
+  within : WordsWithin (length (chars l.whole) - 1) (map shape_of l.words);
+  short : ArgumentsAreShort (length (chars l.whole) - 1) (map shape_of l.words);
 }
 
 abbrev pub invariant-script::emit_gathered-words : goal.invariant-script::emit_gathered-words

@@ -10,6 +10,9 @@ returns-in-Call c ts = acts_as c.args.dialect ts c.args.instr (instr.Call c.in-C
 pub returns-in-AddAll : goal.returns-in-AddAll
 returns-in-AddAll c ts = acts_as c.args.dialect ts c.args.instr instr.AddAll c.args.self.now c.add_all.new.self c.add_all.result c.in-AddAll.is (c.add_all.ensures c.args.dialect)
 
+pub returns-in-Deal : goal.returns-in-Deal
+returns-in-Deal c ts = acts_as c.args.dialect ts c.args.instr (instr.Deal c.in-Deal.count) c.args.self.now c.deal.new.self c.deal.result c.in-Deal.is (c.deal.ensures c.args.dialect)
+
 pub returns-in-CallGathered : goal.returns-in-CallGathered
 returns-in-CallGathered c ts = acts_as c.args.dialect ts c.args.instr instr.CallGathered c.args.self.now c.call_gathered.new.self c.call_gathered.result c.in-CallGathered.is (c.call_gathered.ensures c.args.dialect)
 
