@@ -1,5 +1,5 @@
 -- What commands do, each by the form of its contract, is what the machine wants of them.
-use Rattle.std.proofs.Common.{◌≡◌, ℕ, suc, ◌≤◌, List, [], ◌∷◌, length, refl, sym, ap, ◌∙◌, subst, inl, arith, Option, Some, None, Result, Ok, Err, IfOk}
+use Rattle.std.proofs.Common.{◌≡◌, ℕ, ◌≤◌, length, refl, sym, ◌∙◌, subst, inl, arith, Some, Result, Ok, Err, IfOk}
 use Rattle.std.specs.FinMap as map
 use Rattle.std.specs.declared.alloc.AllocError.{AllocError}
 use Rattle.tcl_activation.proofs.Pages.{from_first}
@@ -9,15 +9,14 @@ use Rattle.tcl_steps.specs.Asked.{at_once, IsAsked, IsAskedOrExits}
 use Rattle.tcl_frames.specs.Standing.{Standing}
 use Rattle.tcl_meaning.specs.Agreement.{Agrees, IsPart}
 use Rattle.tcl_meaning.specs.Asking.{Asks, questions, questions_owed, value_step}
-use Rattle.tcl_meaning.specs.Beginnings.{channels_of, OutputsBegin, Goes, FramesStay, calls, Called}
+use Rattle.tcl_meaning.specs.Beginnings.{channels_of, OutputsBegin, Goes}
 use Rattle.tcl_meaning.specs.Completions.{Completion}
-use Rattle.tcl_meaning.specs.Effects.{Plain, Prog, Give, Look, Make, Link, Write, Take, HasEnded, Exit, Call, ◌>>=◌, Got, Gives, Broke, Exits, Untold, on_got, nothing_runs, does}
-use Rattle.tcl_meaning.specs.Frames.{Frame}
+use Rattle.tcl_meaning.specs.Effects.{Plain, Give, Look, Make, Link, Write, Take, HasEnded, Exit, Call, ◌>>=◌, Got, Gives, Broke, Exits, Untold, on_got, nothing_runs, does}
 use Rattle.tcl_meaning.specs.State.{Commands, Channels, State, Store, remains}
 use Rattle.tcl_meaning.specs.Tasks as tasks
 use Rattle.tcl_meaning.specs.Value.{Value, Has, Fails}
 use Rattle.tcl_meaning.specs.Pages.{owed}
-use Rattle.tcl_meaning.proofs.Onward.{outputs_same, onward_stops}
+use Rattle.tcl_meaning.proofs.Onward.{outputs_same}
 use Rattle.tcl_meaning.proofs.Questions.{owed_asks}
 use Rattle.tcl_meaning.proofs.Runs.{exec_bind, exec_goes}
 use Rattle.tcl_steps.specs.Views as views
@@ -35,8 +34,10 @@ use Rattle.tcl_vm.specs.declared.engine.Stop.{Stop}
 use Rattle.tcl_vm.specs.declared.engine.Stop.TheVariants as stop
 use Rattle.tcl_steps.proofs.FrameCounts.{given_count}
 use Rattle.tcl_steps.specs.Comes.{state_of}
-use Rattle.tcl_steps.specs.Ends.{first_step, Does, DoesAsk, DoesIn}
+use Rattle.tcl_steps.specs.Ends.{Does, DoesAsk, DoesIn}
 use Rattle.tcl_engine.specs.Answered.{host_views, Answered}
+use Rattle.tcl_engine.specs.AsStep.{as_step, told_step}
+use Rattle.tcl_engine.specs.declared.told.Told.{Told}
 use Rattle.tcl_engine.proofs.Scoping.{no_channels}
 
 abbrev Asked : Type 0
@@ -125,6 +126,17 @@ broken_as result page s t is same free = subst (λ r. Answered page s r t) (sym 
 
 pub asked_as : (r : Result Asked AllocError) (a : Asked) (page : Asks) (s : State) → r ≡ Ok a → IsAsked r page → Answered page s (Ok a) s
 asked_as r a page s is asks = asked_answers page a s (subst (λ x. IsAsked x page) is asks)
+
+-- the same, told without a step
+pub told_as : (r : Result Told AllocError) (x : Told) (page : Asks) (s : State) → r ≡ Ok x → IsAsked (as_step r) page → Answered page s (Ok (told_step x)) s
+told_as r x page s is asks = asked_answers page (told_step x) s (subst (λ y. IsAsked (as_step y) page) is asks)
+
+pub told_broken : (result : Result Told Stop) (page : Asks) (s t : State) → result ≡ Err stop.Memory → t.channels ≡ s.channels → t.units ≡ s.units → Answered page s (as_step result) t
+told_broken result page s t is same free = subst (λ r. Answered page s (as_step r) t) (sym is) (broken_answers page s t same free)
+
+-- what is told is what was asked
+pub told_answers : (page : Asks) (s : State) (x y : Result Asked Stop) (t : State) → x ≡ y → Answered page s y t → Answered page s x t
+told_answers page s x y t is h = subst (λ r. Answered page s r t) (sym is) h
 
 pub asked_over_as : (r : Result Asked AllocError) (a : Asked) (page : Asks) (f g : Standing) → r ≡ Ok a → DoesAsk page f r g
     → (cs : Commands) (channels : Channels) (units : ℕ) → Answered page (state_of cs channels units f) (Ok a) (state_of cs channels units g)

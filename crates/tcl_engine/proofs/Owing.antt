@@ -1,10 +1,9 @@
 -- What is owed, by the command that owes it.
-use Rattle.std.proofs.Common.{◌≡◌, List, Option, Result, sym, subst}
+use Rattle.std.proofs.Common.{◌≡◌, Option, Result, sym, subst}
 use Rattle.std.specs.declared.alloc.AllocError.{AllocError}
 use Rattle.tcl_chars.specs.declared.numbers.Dialect.{Dialect}
 use Rattle.tcl_steps.specs.Asked.{IsAsked}
 use Rattle.tcl_frames.specs.Standing.{Standing}
-use Rattle.tcl_meaning.specs.Asking.{Asks}
 use Rattle.tcl_meaning.specs.Completions.{Completion, code_now}
 use Rattle.tcl_meaning.specs.Control.{after_if_test, after_while_body, after_for_start, after_for_body, after_for_next}
 use Rattle.tcl_meaning.specs.Pages.{owed}

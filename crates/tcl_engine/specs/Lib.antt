@@ -1,4 +1,5 @@
 pub mod Answered
+pub mod AsStep
 pub mod Hosts
 pub mod Hurried
 pub mod Kinds

@@ -1,37 +1,43 @@
 //! Commands that are called.
-ghost use Rattle.std.specs.Prelude.{◌≡◌, ◌≤◌, ◌∷◌, [], List, None, length};
+ghost use Rattle.std.specs.Prelude.{◌≡◌, ◌≤◌, ◌∷◌, [], List, None, false, length};
 ghost use Rattle.std.specs.Str.{chars};
 ghost use Rattle.tcl_activation.specs.Called.{words_of, without_words};
 ghost use Rattle.tcl_chars.specs.declared.numbers.Dialect.{Dialect as Numbers};
 ghost use Rattle.tcl_steps.specs.Asked.{IsAsked};
 ghost use Rattle.tcl_engine.specs.Answered.{Answered};
+ghost use Rattle.tcl_engine.specs.AsStep.{as_step, told_step};
 ghost use Rattle.tcl_engine.specs.Hosts.{shown, HostLeaves};
 ghost use Rattle.tcl_meaning.specs.Asking as asking;
 ghost use Rattle.tcl_meaning.specs.Completions.{nothing};
+ghost use Rattle.tcl_meaning.specs.State.{State};
+ghost use Rattle.tcl_meaning.specs.VariablePages as spec;
 ghost use Rattle.tcl_meaning.specs.Pages.{page_asks, command_asks, built_in_asks, ensemble_asks, subcommand_asks, invoked};
 ghost use Rattle.tcl_pages.specs.Texts.{Text};
 ghost use Rattle.tcl_vm.specs.Engines.{is_io};
 
 use crate::channels::over_channels;
 use crate::control::at_once;
-use crate::frames::over_frames;
+use crate::frames::{done, over_frames};
 use crate::host::Host;
 use crate::lifts::{asked, asked_over, done_in, exited};
 use crate::looking::seen;
 use crate::pages::over_commands;
+use crate::told::Told;
 use std::alloc::{AllocError, Global};
 use tcl_activation::Activation;
 use tcl_arguments::text_at;
 use tcl_channels::Devices;
-use tcl_chars::Dialect;
+use tcl_chars::{Dialect, Fault};
 use tcl_control::exit_page;
 use tcl_frames::without_colons;
 use tcl_meaning::{BuiltIn, Ensemble, Page};
+use tcl_pages::PurePage;
 use tcl_procs::call_procedure;
-use tcl_pure::{subcommand, subcommand_usage, unknown_subcommand};
+use tcl_pure::{pure_page, subcommand, subcommand_usage, unknown_subcommand};
 use tcl_steps::{Completion, Loop, Owes, Scope, Step};
 use tcl_table::Meaning;
 use tcl_values::Value;
+use tcl_vars::{lassign, set, update};
 use tcl_vm::Stop;
 
 // A command without words.
@@ -64,6 +70,56 @@ fn unknown_word(
     ensures { (dialect : Numbers) (words : List Text) → IsAsked result (subcommand_asks dialect ensemble (chars word.now) None words) }
 {
     Ok(Step::Done(unknown_subcommand(alloc, ensemble, word)?))
+}
+
+// What a command asks for, or how it is done.
+#[inline(always)]
+fn told_by(step: Step<Scope, Owes, Loop>) -> Told
+    ensures { told_step result ≡ step }
+{
+    match step {
+        Step::Done(completion) => Told::Done(completion),
+        step => Told::Asks(step),
+    }
+}
+
+// The same, unless it was broken off.
+#[inline(always)]
+fn told(step: Result<Step<Scope, Owes, Loop>, Stop>) -> Result<Told, Stop>
+    ensures same { as_step result ≡ step }
+    ensures io { is_io result ≡ is_io step }
+{
+    match step {
+        Ok(step) => Ok(told_by(step)),
+        Err(stop) => Err(stop),
+    }
+}
+
+// A command whose answer its words alone decide.
+#[inline(always)]
+#[tactic(auto, unfolding(tcl_meaning::specs::VariablePages::pure_page))]
+fn pure_told(
+    alloc: Global,
+    dialect: Dialect,
+    page: PurePage,
+    words: &mut [Value],
+) -> Result<Told, AllocError>
+    ensures { IsAsked (as_step result) (spec.pure_page dialect page words.old) }
+{
+    match pure_page(alloc, dialect, page, words) {
+        Ok(value) => Ok(Told::Value(value)),
+        Err(Fault::Error(message)) => Ok(Told::Done(Completion::failure(alloc, message))),
+        Err(Fault::Memory) => Err(AllocError),
+    }
+}
+
+// A command that asks at once.
+#[inline(always)]
+fn asked_told(told: Result<Told, AllocError>) -> Result<Told, Stop>
+    ensures answered { (page : asking.Asks) (s : State) → IsAsked (as_step told) page → Answered page s (as_step result) s }
+    ensures quiet { is_io result ≡ false }
+{
+    Ok(told?)
 }
 
 impl<V: Devices> Host<'_, '_, '_, '_, V> {
@@ -103,6 +159,27 @@ impl<V: Devices> Host<'_, '_, '_, '_, V> {
         }
     }
 
+    // A command, or a subcommand, by its page. Those that scripts call most, and that ask for nothing, are done without a step.
+    #[inline(always)]
+    fn page_told(&mut self, dialect: Dialect, page: Page, words: &mut [Value]) -> Result<Told, Stop>
+        ensures answered { Answered (page_asks dialect page words.old) (shown V.channels self.old) (as_step result) (shown V.channels self.new) }
+        ensures leaves { HostLeaves V.leaves (is_io result) self.old self.new }
+    {
+        match page {
+            Page::Pure(page) => asked_told(pure_told(self.alloc, dialect, page, words)),
+            Page::Update(page) => told(asked_over(done(update(
+                self.alloc,
+                dialect,
+                self.frames,
+                page,
+                words,
+            )))),
+            Page::Set => told(asked_over(done(set(self.alloc, self.frames, words)))),
+            Page::Lassign => told(asked_over(done(lassign(self.alloc, self.frames, words)))),
+            _ => told(self.page(dialect, page, words)),
+        }
+    }
+
     // The subcommand of a command that a word names.
     fn subcommand(
         &mut self,
@@ -110,13 +187,13 @@ impl<V: Devices> Host<'_, '_, '_, '_, V> {
         ensemble: Ensemble,
         word: &str,
         words: &mut [Value],
-    ) -> Result<Step<Scope, Owes, Loop>, Stop>
-        ensures answered { Answered (ensemble_asks dialect ensemble (chars word.now ∷ words.old)) (shown V.channels self.old) result (shown V.channels self.new) }
+    ) -> Result<Told, Stop>
+        ensures answered { Answered (ensemble_asks dialect ensemble (chars word.now ∷ words.old)) (shown V.channels self.old) (as_step result) (shown V.channels self.new) }
         ensures leaves { HostLeaves V.leaves (is_io result) self.old self.new }
     {
         match subcommand(ensemble, word) {
-            None => asked(unknown_word(self.alloc, ensemble, word)),
-            Some(page) => self.page(dialect, page, words),
+            None => told(asked(unknown_word(self.alloc, ensemble, word))),
+            Some(page) => self.page_told(dialect, page, words),
         }
     }
 
@@ -126,12 +203,12 @@ impl<V: Devices> Host<'_, '_, '_, '_, V> {
         dialect: Dialect,
         ensemble: Ensemble,
         words: &mut [Value],
-    ) -> Result<Step<Scope, Owes, Loop>, Stop>
-        ensures answered { Answered (ensemble_asks dialect ensemble words.old) (shown V.channels self.old) result (shown V.channels self.new) }
+    ) -> Result<Told, Stop>
+        ensures answered { Answered (ensemble_asks dialect ensemble words.old) (shown V.channels self.old) (as_step result) (shown V.channels self.new) }
         ensures leaves { HostLeaves V.leaves (is_io result) self.old self.new }
     {
         if words.len() == 0 {
-            return asked(no_subcommand(self.alloc, ensemble));
+            return told(asked(no_subcommand(self.alloc, ensemble)));
         }
         let word = text_at(self.alloc, words, 0)?;
         self.subcommand(dialect, ensemble, word.as_str(), &mut words[1..])
@@ -143,48 +220,39 @@ impl<V: Devices> Host<'_, '_, '_, '_, V> {
         dialect: Dialect,
         built_in: BuiltIn,
         words: &mut [Value],
-    ) -> Result<Step<Scope, Owes, Loop>, Stop>
-        ensures answered { Answered (built_in_asks dialect built_in words.old) (shown V.channels self.old) result (shown V.channels self.new) }
+    ) -> Result<Told, Stop>
+        ensures answered { Answered (built_in_asks dialect built_in words.old) (shown V.channels self.old) (as_step result) (shown V.channels self.new) }
         ensures leaves { HostLeaves V.leaves (is_io result) self.old self.new }
     {
         match built_in {
-            BuiltIn::Page(page) => self.page(dialect, page, words),
+            BuiltIn::Page(page) => self.page_told(dialect, page, words),
             BuiltIn::Ensemble(ensemble) => self.ensemble(dialect, ensemble, words),
         }
     }
 
     // The command that a word stands for now.
-    fn command(
-        &mut self,
-        dialect: Dialect,
-        word: &str,
-        words: &mut [Value],
-    ) -> Result<Step<Scope, Owes, Loop>, Stop>
-        ensures answered { Answered (invoked dialect (chars word.now ∷ words.old)) (shown V.channels self.old) result (shown V.channels self.new) }
+    fn command(&mut self, dialect: Dialect, word: &str, words: &mut [Value]) -> Result<Told, Stop>
+        ensures answered { Answered (invoked dialect (chars word.now ∷ words.old)) (shown V.channels self.old) (as_step result) (shown V.channels self.new) }
         ensures leaves { HostLeaves V.leaves (is_io result) self.old self.new }
     {
         match self.table.find(without_colons(word)) {
-            None => asked(unknown(self.alloc, word)),
+            None => told(asked(unknown(self.alloc, word))),
             Some(command) => match command.meaning() {
                 Meaning::BuiltIn(built_in) => self.built_in(dialect, built_in, words),
                 Meaning::Procedure(procedure) => {
-                    asked(call_procedure(self.alloc, word, procedure, words))
+                    told(asked(call_procedure(self.alloc, word, procedure, words)))
                 }
             },
         }
     }
 
     // Calls a command: the first of its words is looked up now.
-    fn invoke(
-        &mut self,
-        dialect: Dialect,
-        words: &mut [Value],
-    ) -> Result<Step<Scope, Owes, Loop>, Stop>
-        ensures answered { Answered (invoked dialect words.old) (shown V.channels self.old) result (shown V.channels self.new) }
+    fn invoke(&mut self, dialect: Dialect, words: &mut [Value]) -> Result<Told, Stop>
+        ensures answered { Answered (invoked dialect words.old) (shown V.channels self.old) (as_step result) (shown V.channels self.new) }
         ensures leaves { HostLeaves V.leaves (is_io result) self.old self.new }
     {
         if words.len() == 0 {
-            return asked(no_words(self.alloc));
+            return told(asked(no_words(self.alloc)));
         }
         let word = text_at(self.alloc, words, 0)?;
         self.command(dialect, word.as_str(), &mut words[1..])
@@ -196,14 +264,14 @@ impl<V: Devices> Host<'_, '_, '_, '_, V> {
         dialect: Dialect,
         activation: &mut Activation,
         count: usize,
-    ) -> Result<Step<Scope, Owes, Loop>, Stop>
+    ) -> Result<Told, Stop>
         requires { count ≤ length activation.old.spot.stack.texts }
         ensures taken { activation.new ≡ without_words count activation.old }
-        ensures answered { Answered (invoked dialect (words_of count activation.old.spot)) (shown V.channels self.old) result (shown V.channels self.new) }
+        ensures answered { Answered (invoked dialect (words_of count activation.old.spot)) (shown V.channels self.old) (as_step result) (shown V.channels self.new) }
         ensures leaves { HostLeaves V.leaves (is_io result) self.old self.new }
     {
-        let step = self.invoke(dialect, activation.words(count));
+        let told = self.invoke(dialect, activation.words(count));
         activation.drop_words(count);
-        step
+        told
     }
 }

@@ -19,6 +19,7 @@ use tcl_values::Value;
 use tcl_vars::{lassign, set, unset, update};
 
 /// A command is done: it asks for nothing more.
+#[inline(always)]
 pub(crate) fn done(
     completion: Result<Completion, AllocError>,
 ) -> Result<Step<Scope, Owes, Loop>, AllocError>

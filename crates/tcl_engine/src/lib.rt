@@ -15,6 +15,7 @@ mod owed;
 mod pages;
 mod scopes;
 mod stride;
+mod told;
 mod undone;
 
 pub use host::{Host, host_over};

@@ -28,6 +28,7 @@ pub(crate) fn asked(
 }
 
 /// A command over frames asks.
+#[inline(always)]
 pub(crate) fn asked_over(
     step: Result<Step<Scope, Owes, Loop>, AllocError>,
 ) -> Result<Step<Scope, Owes, Loop>, Stop>

@@ -18,9 +18,9 @@ use Rattle.tcl_vm.specs.declared.engine.Progress.{Progress}
 use Rattle.tcl_vm.specs.declared.engine.Progress.TheVariants as progress
 use Rattle.tcl_vm.specs.declared.machine.Machine.{Machine as RealMachine}
 use Rattle.tcl_vm.specs.declared.machine.Made.{Made}
-use Rattle.tcl_vm.proofs.Turning.{config, on_turned, on_over, on_paused, called_paid, on_called, on_called_exit, on_called_broken, refused}
-use Rattle.tcl_vm.proofs.Walking.{machine_at, config_at, Walked, walked, onward_then, then_turned, then_stops}
-use Rattle.tcl_vm.proofs.Later.{plus_at, to_later, ends_later, calls_later, does_later, onward_later, walks_later}
+use Rattle.tcl_vm.proofs.Turning.{config, on_over, on_paused, called_paid, on_called, on_called_exit, on_called_broken, refused}
+use Rattle.tcl_vm.proofs.Walking.{machine_at, config_at, Walked, walked, onward_then, LeavesLess, then_turned, then_stops}
+use Rattle.tcl_vm.proofs.Later.{plus_at, ends_later, calls_later, does_later, onward_later, walks_later}
 
 -- a machine that rests where a unit is wanting
 pub record Rests (dialect : Dialect) (c d : Config) : Type 0 where
@@ -50,12 +50,6 @@ module _ {A U S O L : Type 0} (dialect : Dialect) (views : Views A U S O L) (ws 
 
     abbrev there : Machine
     there = machine_at at.running ws
-
-    step_turned : q.running.code ≡ at.running.code → (x : Progress S O L) → x ≡ progress.Turned → steps_to (Ok x) → Turned dialect Used (config_at at ws) (after Next at.paid)
-    step_turned e x is h =
-        let k = subst (λ y. steps_to (Ok y)) is h in
-        with_code e (λ b. Turned dialect Used (config_at at ws) (config Next (machine_at b ws) at.paid q.state))
-        (on_turned dialect there at.paid at.state q.state q.running.spot k.0 g.adds k.1.0 k.1.1 k.2)
 
     step_asks : q.running.code ≡ at.running.code → (x : Progress S O L) (asked : Asked S O L) → x ≡ progress.Asks asked → steps_to (Ok x) → Turned dialect Used (config_at at ws) (after (Asking (step_of views asked)) (at.paid - 1))
     step_asks e x asked is h =
@@ -95,9 +89,9 @@ module _ {A U S O L : Type 0} (dialect : Dialect) (views : Views A U S O L) (ws 
     way : Walked dialect before (config_at h.at ws)
     way = walked dialect ws p h.at h.walks
 
-    turned_by : (kind : Kind) (turn : Turn) (left : ℕ → ℕ) → Turned dialect kind (config_at h.at ws) (after turn (left h.at.paid)) → Turned dialect kind before (after turn (left q.paid))
-    turned_by kind turn left t =
-        subst (λ n. Turned dialect kind before (after turn (left n))) (sym h.paid) (then_turned dialect kind before (config_at h.at ws) (after turn (left h.at.paid)) way t)
+    turned_by : (kind : Kind) (turn : Turn) (left : ℕ → ℕ) → LeavesLess dialect kind before (after turn (left h.at.paid)) → Turned dialect kind (config_at h.at ws) (after turn (left h.at.paid)) → Turned dialect kind before (after turn (left q.paid))
+    turned_by kind turn left k t =
+        subst (λ n. Turned dialect kind before (after turn (left n))) (sym h.paid) (then_turned dialect kind before (config_at h.at ws) (after turn (left h.at.paid)) k way t)
 
     steps_as : (r : Result (Progress S O L) Stop) → result ≡ r → Steps dialect views r h.at.running q.running h.at.state q.state
     steps_as r is = subst (λ y. Steps dialect views y h.at.running q.running h.at.state q.state) is h.steps
@@ -105,17 +99,14 @@ module _ {A U S O L : Type 0} (dialect : Dialect) (views : Views A U S O L) (ws 
     code_as : (x : Progress S O L) → result ≡ Ok x → q.running.code ≡ h.at.running.code
     code_as x is = subst (λ y. IfOk y (λ _. q.running.code ≡ h.at.running.code)) is h.code
 
-    pub strides_turned : (x : Progress S O L) → result ≡ Ok x → x ≡ progress.Turned → Turned dialect Used before (after Next q.paid)
-    strides_turned x was is = turned_by Used Next (λ n. n) (step_turned h.at h.onward (code_as x was) x is (steps_as (Ok x) was))
-
     pub strides_asks : (x : Progress S O L) (asked : Asked S O L) → result ≡ Ok x → x ≡ progress.Asks asked → Turned dialect Used before (after (Asking (step_of views asked)) (q.paid - 1))
-    strides_asks x asked was is = turned_by Used (Asking (step_of views asked)) (λ n. n - 1) (step_asks h.at h.onward (code_as x was) x asked is (steps_as (Ok x) was))
+    strides_asks x asked was is = turned_by Used (Asking (step_of views asked)) (λ n. n - 1) tt (step_asks h.at h.onward (code_as x was) x asked is (steps_as (Ok x) was))
 
     pub strides_paid : (x : Progress S O L) (asked : Asked S O L) → result ≡ Ok x → x ≡ progress.Asks asked → Fits before → 1 ≤ q.paid
     strides_paid x asked was is f = subst (λ n. 1 ≤ n) (sym h.paid) (step_paid h.at h.onward x asked is (steps_as (Ok x) was) (way.fits f))
 
     pub strides_over : (x : Progress S O L) (c : Completion) → result ≡ Ok x → x ≡ progress.Over c → Turned dialect On before (after (Ending (completion_of c)) q.paid)
-    strides_over x c was is = turned_by On (Ending (completion_of c)) (λ n. n) (step_over h.at h.onward x c is (steps_as (Ok x) was))
+    strides_over x c was is = turned_by On (Ending (completion_of c)) (λ n. n) (omega arith) (step_over h.at h.onward x c is (steps_as (Ok x) was))
 
     pub strides_stop : (x : Stop) → result ≡ Err x → Stops dialect x before q.state
     strides_stop x was = then_stops dialect x before (config_at h.at ws) q way (step_stops h.at h.onward x (steps_as (Err x) was))
@@ -136,11 +127,6 @@ module _ {A U S O L : Type 0} (dialect : Dialect) (views : Views A U S O L) (ws 
 
     -- what stands by then
     module _ (b : ℕ) where
-      turned_more : (x : Progress S O L) → result ≡ Ok x → x ≡ progress.Turned → Strides dialect views (Ok progress.Turned) (plus_at b p) (plus_at b q)
-      turned_more x was is =
-          let k = steps_as h (Ok progress.Turned) (was ∙ ap Ok is) in
-          strides_more progress.Turned (was ∙ ap Ok is) b (to_later b dialect h.at.running h.at.state q.state q.running.spot k.0, k.1, let u = k.2 in omega arith)
-
       asks_more : (x : Progress S O L) (asked : Asked S O L) → result ≡ Ok x → x ≡ progress.Asks asked → Strides dialect views (Ok (progress.Asks asked)) (plus_at b p) (plus_at b q)
       asks_more x asked was is =
           let k = steps_as h (Ok (progress.Asks asked)) (was ∙ ap Ok is) in
@@ -154,9 +140,6 @@ module _ {A U S O L : Type 0} (dialect : Dialect) (views : Views A U S O L) (ws 
           strides_more (progress.Over c) (was ∙ ap Ok is) b (ends_later b dialect h.at.running h.at.state q.state c k.0, let u = k.1 in omega arith)
 
 module _ {A U S O L : Type 0} (dialect : Dialect) (views : Views A U S O L) (ws : List Waiting) (p q : Position) {result : Result (Progress S O L) Stop} (h : Strides dialect views result p q) where
-  pub later_turned : (x : Progress S O L) → result ≡ Ok x → x ≡ progress.Turned → Later dialect (config_at p ws) (config Next (machine_at q.running ws) q.paid q.state)
-  later_turned x was is = record { stands = λ b r y. (strides_turned dialect views ws (plus_at b p) (plus_at b q) (turned_more dialect views ws p q h b x was is) progress.Turned refl refl).stands r y }
-
   pub later_asks : (x : Progress S O L) (asked : Asked S O L) → result ≡ Ok x → x ≡ progress.Asks asked → Later dialect (config_at p ws) (config (Asking (step_of views asked)) (machine_at q.running ws) (q.paid - 1) q.state)
   later_asks x asked was is = record { stands = λ b r y. (strides_asks dialect views ws (plus_at b p) (plus_at b q) (asks_more dialect views ws p q h b x asked was is) (progress.Asks asked) asked refl refl).stands r y }
 

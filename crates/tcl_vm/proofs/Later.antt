@@ -31,7 +31,7 @@ use Rattle.tcl_code.specs.Dealing.{dealt_of}
 use Rattle.tcl_code.specs.Instructions.{Instruction, Push, Read, ReadElement, Join, Spend, Enter, Leave, Call as CallWords, Gather, Add, AddAll, CallGathered, Deal, TakeFirst, SkipEmpty, DropList, Raise, Guard, Under, Write as WriteName, Bump, Become, Body, Again, Break, Continue, Skip, SkipWhen, Turn, Unary, Binary, Power, Apply, Truth, Final, Answer as AnswerTop}
 use Rattle.tcl_code.specs.Machine.{Loop, Texts, Taken, taken, on_taken, on_read, on_answer, on_operator, on_code, on_step, on_page, spend, Spot, Move, To, Fails, Ends, Calls, Wrong, move}
 use Rattle.std.specs.Prelude.{slice_get}
-use Rattle.tcl_vm.specs.Engines.{Views, Answers, Position, IsFree, PaysHere, MovesOn, CallsOn, LeadsOn, WalksIn, Walks, Spent}
+use Rattle.tcl_vm.specs.Engines.{Views, Answers, Position, IsFree, PaysHere, TurnsHere, MovesOn, CallsOn, LeadsOn, WalksIn, Walks, Spent}
 use Rattle.tcl_vm.specs.Standing.{Running, here, Undone, Nothing, Back, Gone, undone_of, undo}
 use Rattle.tcl_vm.specs.Turns.{Onward}
 use Rattle.tcl_vm.proofs.Forward.{raw}
@@ -242,7 +242,7 @@ module _ (b : ℕ) where
       subst (λ x. MovesSo x (here dialect a (more b s))) e
       (so_caught a.spot.stack.loops (raw dialect a s) (raw dialect a (more b s)) (so dialect s a.spot.stack.loops (slice_get a.code a.spot.at) a.spot.at a.spot.stack.texts a.spot.stack.lists a.spot.stack.results a.spot.depth))
 
-  pub to_later : (dialect : Dialect) (a : Running) (s t : State) (p : Spot) → here dialect a s ≡ To p t → here dialect a (more b s) ≡ To p (more b t)
+  to_later : (dialect : Dialect) (a : Running) (s t : State) (p : Spot) → here dialect a s ≡ To p t → here dialect a (more b s) ≡ To p (more b t)
   to_later dialect a s t p e = here_so dialect a s (To p t) e
 
   pub calls_later : (dialect : Dialect) (a : Running) (s t : State) (ws : List Text) (p : Spot) → here dialect a s ≡ Calls ws p t → here dialect a (more b s) ≡ Calls ws p (more b t)
@@ -283,7 +283,7 @@ module _ (b : ℕ) where
       leads = to_later dialect p.running p.state q.state q.running.spot h.leads;
       channels = h.channels;
       frames = record { count = h.frames.count };
-      pays = ⊎_elim (λ f. inl (free f)) (λ f. inr (pays f)) h.pays;
+      pays = ⊎_elim (λ f. inl (free f)) (⊎_elim (λ f. inr (inl (pays f))) (λ f. inr (inr (turns f)))) h.pays;
     }
       where
         free : IsFree p q → IsFree (plus_at b p) (plus_at b q)
@@ -291,6 +291,9 @@ module _ (b : ℕ) where
 
         pays : PaysHere p q → PaysHere (plus_at b p) (plus_at b q)
         pays f = record { spends = f.spends; units = let u = f.units in omega arith; paid = f.paid }
+
+        turns : TurnsHere p q → TurnsHere (plus_at b p) (plus_at b q)
+        turns f = record { over = f.over; turns = f.turns; units = let u = f.units in omega arith; paid = f.paid }
 
     called_later : (p q : Position) → CallsOn dialect p q → CallsOn dialect (plus_at b p) (plus_at b q)
     called_later p q h = record {

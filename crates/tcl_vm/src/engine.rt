@@ -65,8 +65,6 @@ impl From<Fault> for Stop {
 /// What instructions have come to.
 #[derive(Drop)]
 pub enum Progress<S, O, L> {
-    /// A unit has paid for a turn back.
-    Turned,
     /// A command was called, and its page asks for this.
     Asks(Step<S, O, L>),
     /// The code has ended.
@@ -99,8 +97,8 @@ pub trait Engine {
     /// What calls leave of what the definition doesn't see, as the devices; in the last of them a device failed or not.
     ghost leaves: { Bool → Self → Self → Type 0 };
 
-    /// Instructions, and the commands that they call, until a unit has paid for a turn back, a command asks for something, the
-    /// code has ended, or a unit is wanting. The commands that units pay for on the way are counted until they are called.
+    /// Instructions, and the commands that they call, until a command asks for something, the code has ended, or a unit is wanting.
+    /// The commands that units pay for on the way are counted until they are called.
     fn step(
         &mut self,
         activation: &mut Self::Activation,

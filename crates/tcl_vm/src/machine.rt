@@ -105,7 +105,6 @@ pub(crate) fn advance<E: Engine>(
     ensures leaves { E.leaves (is_io result) engine.old engine.new }
 {
     match engine.step(&mut machine.current, &mut machine.paid)? {
-        Progress::Turned => Ok(Made::Used(Turn::Next)),
         Progress::Asks(step) => {
             machine.paid -= 1;
             Ok(Made::Used(Turn::Asking(step)))

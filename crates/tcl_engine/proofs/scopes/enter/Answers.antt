@@ -1,4 +1,4 @@
-use Rattle.std.proofs.Common.{ap, refl}
+use Rattle.std.proofs.Common.{ap}
 use Rattle.tcl_steps.specs.Views.{scope_of}
 use Rattle.tcl_engine.proofs.Scoping.{at_entered, at_can, within_entered, within_can}
 use Rattle.tcl_engine.proofs.scopes.enter.Goals as goal

@@ -1,7 +1,7 @@
 use Rattle.std.proofs.Common.{refl, Err, ap, ◌∙◌, arith}
 use Rattle.std.proofs.lemmas.Result.{err_from_is_err_and}
 use Rattle.tcl_vm.specs.Machines.{waitings}
-use Rattle.tcl_vm.proofs.Advancing.{makes_err, strides_turned, strides_asks, strides_paid, strides_over, strides_stop, later_turned, later_asks, later_over, strides_unpaid}
+use Rattle.tcl_vm.proofs.Advancing.{makes_err, strides_asks, strides_paid, strides_over, strides_stop, later_asks, later_over, strides_unpaid}
 use Rattle.tcl_vm.proofs.Unwinding.{unwinds_same}
 use Rattle.tcl_vm.proofs.machine.advance.Goals as goal
 
@@ -16,13 +16,6 @@ returns-in_err-step-clause-makes g c =
 
 pub overflow_sub-machine : goal.overflow_sub-machine
 overflow_sub-machine g c = strides_paid (g.E.Engine.dialect c.args.engine.now) g.E.Engine.views (waitings g.E.Engine.views c.args.machine.now.callers.items) _ _ c.in_ok-step.ensures.makes c.in_ok-step.field-0 c.in-Asks.step refl c.in-Asks.is c.requires
-
-pub returns-in-Turned-clause-makes : goal.returns-in-Turned-clause-makes
-returns-in-Turned-clause-makes g c = record {
-  turned = strides_turned (g.E.Engine.dialect c.args.engine.now) g.E.Engine.views (waitings g.E.Engine.views c.args.machine.now.callers.items) _ _ c.in_ok-step.ensures.makes c.in_ok-step.field-0 refl c.in-Turned.is;
-  later = later_turned (g.E.Engine.dialect c.args.engine.now) g.E.Engine.views (waitings g.E.Engine.views c.args.machine.now.callers.items) _ _ c.in_ok-step.ensures.makes c.in_ok-step.field-0 refl c.in-Turned.is;
-  unwinds = unwinds_same _ _ refl c.in_ok-step.ensures.frames;
-}
 
 pub returns-in-Asks-clause-makes : goal.returns-in-Asks-clause-makes
 returns-in-Asks-clause-makes g c = record {
