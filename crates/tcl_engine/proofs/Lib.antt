@@ -4,4 +4,5 @@ pub mod Landing
 mod Hurrying
 pub mod Leading
 pub mod Owing
+mod Quickly
 pub mod Scoping

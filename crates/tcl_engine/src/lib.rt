@@ -2,6 +2,7 @@
 //! command is carried over to what an engine owes.
 #![tactic(auto)]
 
+mod at_once;
 mod calls;
 mod channels;
 mod control;

@@ -3,6 +3,7 @@ pub mod ElementLemmas
 pub mod JoinLemmas
 pub mod PutLemmas
 mod QuickLemmas
+mod QuickUpdateLemmas
 pub mod ReplaceLemmas
 pub mod SetLemmas
 pub mod UnsetLemmas

@@ -23,6 +23,7 @@ fn increase(
 ) -> Result<(), Fault>
     ensures done { Leaves value.new (increased dialect value.old words.old) result }
     ensures same { OnErr result (value.new ≡ value.old) }
+    ensures words { words.new ≡ words.old }
 {
     match words {
         [] => Ok(()),
@@ -42,6 +43,7 @@ pub(crate) fn change(
     requires { IsTaken page (length words.old) }
     ensures done { Leaves value.new (updated dialect page value.old words.old) result }
     ensures same { OnErr result (value.new ≡ value.old) }
+    ensures words { words.new ≡ words.old }
 {
     match page {
         UpdatePage::Append => Ok(append(alloc, value, words)?),
