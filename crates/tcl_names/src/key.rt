@@ -8,6 +8,7 @@ use crate::sought::Sought;
 use std::alloc::AllocError;
 use std::marker::Model;
 use std::rc::RcStr;
+use tcl_chars::is_text;
 
 /// A number by which a short name is told from all others, or none.
 #[derive(Clone, Copy, Drop)]
@@ -81,7 +82,7 @@ pub(crate) fn are_alike(name: &str, key: NameKey, other: &str, of_other: NameKey
 
 /// A name with its key. Contracts see the name alone.
 #[derive(Drop)]
-pub(crate) struct KeyedName {
+pub struct KeyedName {
     name: RcStr,
     key: NameKey,
 }
@@ -101,7 +102,7 @@ impl Model for KeyedName {
 
 impl KeyedName {
     /// This name.
-    pub(crate) fn new(name: RcStr) -> KeyedName
+    pub fn new(name: RcStr) -> KeyedName
         ensures { result ≡ text_of name }
     {
         let key = NameKey::of(name.as_str());
@@ -110,21 +111,21 @@ impl KeyedName {
 
     /// The name.
     #[inline(always)]
-    pub(crate) fn as_str(&self) -> &str
+    pub fn as_str(&self) -> &str
         ensures { chars result.now ≡ self.now }
     {
         self.name.as_str()
     }
 
     /// The name as it is kept.
-    pub(crate) fn shared(&self) -> &RcStr
+    pub fn shared(&self) -> &RcStr
         ensures { text_of result.now ≡ self.now }
     {
         &self.name
     }
 
     /// The same name once more. Its text is shared.
-    pub(crate) fn copy(&self) -> Result<KeyedName, AllocError>
+    pub fn copy(&self) -> Result<KeyedName, AllocError>
         ensures { IfOk result (λ name. name ≡ self.now) }
     {
         Ok(KeyedName {
@@ -139,5 +140,21 @@ impl KeyedName {
         ensures { result ≡ true → sought.now ≡ self.now }
     {
         are_alike(sought.name, sought.key, self.name.as_str(), self.key)
+    }
+
+    /// Is it the name that is sought? One comparison tells where they have one key.
+    #[inline(always)]
+    pub fn is(&self, sought: &Sought<'_>) -> bool
+        ensures { result ≡ true → sought.now ≡ self.now }
+    {
+        self.is_surely(sought) || self.is_text(sought.as_str())
+    }
+
+    // Is it this text?
+    #[inline(never)]
+    fn is_text(&self, text: &str) -> bool
+        ensures { result ≡ true → chars text.now ≡ self.now }
+    {
+        is_text(text, self.name.as_str())
     }
 }
