@@ -8,7 +8,6 @@ ghost use Rattle.tcl_code.specs.Valid.{Covers, Valid};
 use crate::instr::Instr;
 use crate::shape::Shape;
 use std::marker::Model;
-use tcl_names::Hint;
 use tcl_values::Value;
 
 /// A valid code: its instructions and the table of their texts.
@@ -16,8 +15,6 @@ use tcl_values::Value;
 pub struct Code {
     pub(crate) instrs: Vec<Instr>,
     pub(crate) texts: Vec<Value>,
-    // where each text, as a name, was found last
-    pub(crate) hints: Vec<Hint>,
     pub(crate) top: Shape,
 }
 
@@ -74,12 +71,6 @@ impl Code {
         ensures valid { Valid (shown_by self.now) }
     {
         item(self.instrs.as_slice(), place)
-    }
-
-    /// Where the variable was found last whose name is the text of a number.
-    #[inline(always)]
-    pub fn hint(&self, number: u32) -> Option<&Hint> {
-        self.hints.get(number as usize)
     }
 
     /// The text of a number.

@@ -10,6 +10,7 @@ use Rattle.std.specs.Str.Pattern.{FindsChar, FindsCharSuffix, StripsSuffix, Spli
 use Rattle.tcl_chars.specs.Characters.{colon, open_paren, close_paren}
 use Rattle.tcl_chars.specs.Place.{begins, before, tail}
 use Rattle.tcl_meaning.specs.Frames.{whole}
+use Rattle.tcl_names.specs.Keys.{IsPlain}
 use Rattle.tcl_frames.specs.Parts.{plain_name}
 use Rattle.tcl_meaning.specs.Names.{after_colons, from_paren, last_part, whole_name, element_name, by_paren, divided_name}
 
@@ -155,6 +156,10 @@ no_colon bs u h = by (chars bs) (encodes-chars bs u)
 
 led_by_none : (cs : List ℕ) → begins colon cs ≡ false → whole_name cs ≡ plain_name cs
 led_by_none cs e = ap (λ b. record { global = b && begins colon (tail cs); base = cond (b && begins colon (tail cs)) (after_colons cs) cs; part = whole }) e
+
+-- the same of a name that is known by its key
+pub keyed_is : (name : List ℕ) → IsPlain name → divided_name name ≡ plain_name name
+keyed_is name h = sym (open_name name h.last) ∙ led_by_none name h.first
 
 pub plain_is : (bs : List ℕ) → IsUtf8 bs → (get_or bs 0 0 ≡ colon → ⊥) → (get_or bs (length bs - 1) 0 ≡ close_paren → ⊥) → divided_name (chars bs) ≡ plain_name (chars bs)
 unfolding encode_utf8

@@ -1,10 +1,9 @@
 -- Places, levels and links, as the definitions see them.
-use Rattle.std.specs.Prelude.{ℕ, suc}
-use Rattle.std.specs.FinMap as map
+use Rattle.std.specs.Prelude.{ℕ}
 use Rattle.std.specs.Str.{chars}
 use Rattle.tcl_names.specs.Named.{text_of}
 use Rattle.tcl_pages.specs.Texts.{Text}
-use Rattle.tcl_meaning.specs.Frames.{Part, whole, element, deeper, Spot, Frame, Level, up, at}
+use Rattle.tcl_meaning.specs.Frames.{Part, whole, element, deeper, Spot}
 use Rattle.tcl_frames.specs.Parts.{part_of}
 use Rattle.tcl_frames.specs.declared.place.Place.{Place}
 use Rattle.tcl_frames.specs.declared.place.Kept.{Kept}

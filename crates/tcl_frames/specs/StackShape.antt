@@ -1,6 +1,4 @@
 -- How frames are stored, without their variables.
-use Rattle.std.specs.FinMap as map
-use Rattle.tcl_meaning.specs.Frames.{Frame}
 use Rattle.tcl_frames.specs.Standing.{Standing, IsStanding}
 use Rattle.tcl_frames.specs.declared.stack.Stack.TheInside as stack
 

@@ -1,5 +1,5 @@
 -- What scripts keep, but the commands: the frames that stand, and the active one.
-use Rattle.std.specs.Prelude.{◌≡◌, ℕ, suc, ◌-◌, ◌<◌, ◌≤◌, List, [], ◌∷◌, ◌++◌, length, take, Result, Ok, Err}
+use Rattle.std.specs.Prelude.{ℕ, suc, ◌-◌, ◌<◌, ◌≤◌, List, [], ◌∷◌, ◌++◌, length, take, Result, Ok, Err}
 use Rattle.std.specs.FinMap as map
 use Rattle.tcl_meaning.specs.Frames.{Variables, Frame, frame_at}
 use Rattle.tcl_meaning.specs.declared.refusal.Refusal.{Refusal}

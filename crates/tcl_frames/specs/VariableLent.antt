@@ -1,5 +1,5 @@
 -- What a variable ends as, once the loan of a text is over.
-use Rattle.std.specs.Prelude.{ℕ, List, Result}
+use Rattle.std.specs.Prelude.{Result}
 use Rattle.std.specs.FinMap as map
 use Rattle.std.specs.Borrow.{LendsIfOk, MutBor, Fml}
 use Rattle.tcl_meaning.specs.declared.refusal.Refusal.{Refusal}

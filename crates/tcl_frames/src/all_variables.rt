@@ -9,20 +9,22 @@ ghost use Rattle.std.specs.Option.{option_copied};
 ghost use Rattle.tcl_meaning.specs.Arrays.{whole_array};
 ghost use Rattle.tcl_meaning.specs.SeenPages.{is_there, names_of};
 ghost use Rattle.tcl_frames.specs.NameSets.{with_names};
-ghost use Rattle.tcl_frames.specs.Places.{spot_of};
+ghost use Rattle.tcl_frames.specs.Parts.{part_of};
+ghost use Rattle.tcl_frames.specs.Places.{spot, spot_of};
 ghost use Rattle.tcl_frames.specs.Refusals.{Refuses};
 ghost use Rattle.tcl_frames.specs.Edits.{edit_part};
 ghost use Rattle.tcl_frames.specs.Written.{variables_of, variable_in, stored_at, removed_at};
 
 use crate::edit::Edit;
 use crate::fault::VarFault;
+use crate::name::Part;
 use crate::place::Place;
 use crate::variable::Variable;
 use crate::variables::{array_in, edit_in, find_in, is_there_in, place_in, put_in, remove_in};
 use std::alloc::{AllocError, Global};
 use std::marker::Model;
 use tcl_meaning::Refusal;
-use tcl_names::{HashedNames, Hint, NameMap, PlacedNames};
+use tcl_names::{HashedNames, NameMap, PlacedNames, Sought};
 use tcl_values::Value;
 
 /// The variables of all frames, by the numbers of the frames.
@@ -86,15 +88,16 @@ impl AllVariables {
     #[inline(always)]
     pub(crate) fn find(
         &self,
-        at: Place<'_>,
-        hint: &Hint,
+        frame: usize,
+        name: &Sought<'_>,
+        part: Part<'_>,
         missing: Refusal,
     ) -> Result<&Value, Refusal>
-        requires { at.frame < length self.now }
-        ensures found { IfOk result (λ value. get_part missing (variable_in self.now (spot_of at.entry)) (spot_of at.entry).part ≡ Ok value.now) }
-        ensures refused { IfErr result (λ refusal. get_part missing (variable_in self.now (spot_of at.entry)) (spot_of at.entry).part ≡ Err refusal) }
+        requires { frame < length self.now }
+        ensures found { IfOk result (λ value. get_part missing (variable_in self.now (spot frame name.now (part_of part.entry))) (part_of part.entry) ≡ Ok value.now) }
+        ensures refused { IfErr result (λ refusal. get_part missing (variable_in self.now (spot frame name.now (part_of part.entry))) (part_of part.entry) ≡ Err refusal) }
     {
-        find_in(&self.frames[at.frame], at.name, hint, at.part, missing)
+        find_in(&self.frames[frame], name, part, missing)
     }
 
     /// The elements of an array.
@@ -131,17 +134,18 @@ impl AllVariables {
     pub(crate) fn put(
         &mut self,
         alloc: Global,
-        at: Place<'_>,
-        hint: &Hint,
+        frame: usize,
+        name: &Sought<'_>,
+        part: Part<'_>,
         value: Value,
     ) -> Result<(), VarFault>
-        requires { at.frame < length self.old }
-        ensures done { OnOk result (stored_at self.old (spot_of at.entry) (put_part (variable_in self.old (spot_of at.entry)) (spot_of at.entry).part value) ≡ Ok self.new) }
-        ensures refused { IfErr result (Refuses (put_part (variable_in self.old (spot_of at.entry)) (spot_of at.entry).part value)) }
+        requires { frame < length self.old }
+        ensures done { OnOk result (stored_at self.old (spot frame name.now (part_of part.entry)) (put_part (variable_in self.old (spot frame name.now (part_of part.entry))) (part_of part.entry) value) ≡ Ok self.new) }
+        ensures refused { IfErr result (Refuses (put_part (variable_in self.old (spot frame name.now (part_of part.entry))) (part_of part.entry) value)) }
         ensures same { OnErr result (self.new ≡ self.old) }
     {
-        let frame = &mut self.frames[at.frame];
-        put_in(frame, alloc, at.name, hint, at.part, value)
+        let variables = &mut self.frames[frame];
+        put_in(variables, alloc, name, part, value)
     }
 
     /// Changes the elements of the array at a place.
@@ -174,16 +178,17 @@ impl AllVariables {
     #[inline(always)]
     pub(crate) fn place(
         &mut self,
-        at: Place<'_>,
-        hint: &Hint,
+        frame: usize,
+        name: &Sought<'_>,
+        part: Part<'_>,
         missing: Refusal,
     ) -> Result<&mut Value, Refusal>
-        requires { at.frame < length self.old }
-        ensures* writes_back { sem 𝓛 (LendsAt self.entry (spot_of at.entry) result) }
-        ensures found { IfOk result (λ value. get_part missing (variable_in self.old (spot_of at.entry)) (spot_of at.entry).part ≡ Ok value.now) }
-        ensures refused { IfErr result (λ refusal. get_part missing (variable_in self.old (spot_of at.entry)) (spot_of at.entry).part ≡ Err refusal) }
+        requires { frame < length self.old }
+        ensures* writes_back { sem 𝓛 (LendsAt self.entry (spot frame name.entry.now (part_of part.entry)) result) }
+        ensures found { IfOk result (λ value. get_part missing (variable_in self.old (spot frame name.now (part_of part.entry))) (part_of part.entry) ≡ Ok value.now) }
+        ensures refused { IfErr result (λ refusal. get_part missing (variable_in self.old (spot frame name.now (part_of part.entry))) (part_of part.entry) ≡ Err refusal) }
     {
-        let frame = &mut self.frames[at.frame];
-        place_in(frame, at.name, hint, at.part, missing)
+        let variables = &mut self.frames[frame];
+        place_in(variables, name, part, missing)
     }
 }

@@ -16,14 +16,14 @@ ghost use Rattle.tcl_frames.specs.Refusals.{Refuses};
 
 use crate::all_variables::AllVariables;
 use crate::fault::VarFault;
-use crate::name::{Name, Part, divide, is_plain};
+use crate::name::{Name, Part, divide};
 use crate::place::Place;
 use crate::stack::Stack;
 use crate::variable::Variable;
 use std::alloc::{AllocError, Global};
 use std::marker::Model;
 use tcl_meaning::Refusal;
-use tcl_names::{HashedNames, Hint, NameMap};
+use tcl_names::{HashedNames, Hint, NameMap, Sought};
 use tcl_values::Value;
 
 /// The frames of a script, the global one first, and the active one, whose names the script means.
@@ -64,30 +64,34 @@ impl Frames {
         ensures found { (cs : Commands) → IfOk result (λ value. get (store_of cs self.now) (chars name.now) ≡ Ok value.now) }
         ensures refused { (cs : Commands) → IfErr result (λ refusal. get (store_of cs self.now) (chars name.now) ≡ Err refusal) }
     {
-        self.find_near(name, &Hint::new())
+        self.find_afar(name, &Hint::new())
     }
 
-    /// The same as `find`: quick where the variable stands where the hint says.
+    /// The same as `find`: quick where the name has a key and stands where it was found last.
     #[inline(always)]
-    pub fn find_near(&self, name: &str, hint: &Hint) -> Result<&Value, Refusal>
-        ensures found { (cs : Commands) → IfOk result (λ value. get (store_of cs self.now) (chars name.now) ≡ Ok value.now) }
-        ensures refused { (cs : Commands) → IfErr result (λ refusal. get (store_of cs self.now) (chars name.now) ≡ Err refusal) }
+    pub fn find_near(&self, name: &Sought<'_>) -> Result<&Value, Refusal>
+        ensures found { (cs : Commands) → IfOk result (λ value. get (store_of cs self.now) name.now ≡ Ok value.now) }
+        ensures refused { (cs : Commands) → IfErr result (λ refusal. get (store_of cs self.now) name.now ≡ Err refusal) }
     {
-        if let Some(at) = plain_place(&self.stack, name) {
-            return self.variables.find(at, hint, Refusal::NoSuch);
+        if let Some(frame) = own_frame(&self.stack, name) {
+            return self
+                .variables
+                .find(frame, name, Part::Whole, Refusal::NoSuch);
         }
-        self.find_divided(name, hint)
+        self.find_afar(name.as_str(), name.hint())
     }
 
     // The same. The name is divided, and links are followed.
     #[inline(never)]
-    fn find_divided(&self, name: &str, hint: &Hint) -> Result<&Value, Refusal>
+    fn find_afar(&self, name: &str, hint: &Hint) -> Result<&Value, Refusal>
         ensures found { (cs : Commands) → IfOk result (λ value. get (store_of cs self.now) (chars name.now) ≡ Ok value.now) }
         ensures refused { (cs : Commands) → IfErr result (λ refusal. get (store_of cs self.now) (chars name.now) ≡ Err refusal) }
     {
         let name = divide(name);
         let at = place_divided(&self.stack, name);
-        self.variables.find(at, hint, name.part.missing())
+        let base = Sought::unkeyed(at.name, hint);
+        self.variables
+            .find(at.frame, &base, at.part, name.part.missing())
     }
 }
 
@@ -117,31 +121,30 @@ impl Frames {
         ensures refused { (cs : Commands) → IfErr result (Refuses (put_change (store_of cs self.old) (chars name.now) value)) }
         ensures same { OnErr result (self.new ≡ self.old) }
     {
-        self.put_near(alloc, name, &Hint::new(), value)
+        self.put_afar(alloc, name, &Hint::new(), value)
     }
 
-    /// The same as `put`: quick where the variable stands where the hint says.
+    /// The same as `put`: quick where the name has a key and stands where it was found last.
     #[inline(always)]
     pub fn put_near(
         &mut self,
         alloc: Global,
-        name: &str,
-        hint: &Hint,
+        name: &Sought<'_>,
         value: Value,
     ) -> Result<(), VarFault>
-        ensures done { (cs : Commands) → OnOk result (applied (put_change (store_of cs self.old) (chars name.now) value) (store_of cs self.old) ≡ Ok (store_of cs self.new)) }
-        ensures refused { (cs : Commands) → IfErr result (Refuses (put_change (store_of cs self.old) (chars name.now) value)) }
+        ensures done { (cs : Commands) → OnOk result (applied (put_change (store_of cs self.old) name.now value) (store_of cs self.old) ≡ Ok (store_of cs self.new)) }
+        ensures refused { (cs : Commands) → IfErr result (Refuses (put_change (store_of cs self.old) name.now value)) }
         ensures same { OnErr result (self.new ≡ self.old) }
     {
-        if let Some(at) = plain_place(&self.stack, name) {
-            return self.variables.put(alloc, at, hint, value);
+        if let Some(frame) = own_frame(&self.stack, name) {
+            return self.variables.put(alloc, frame, name, Part::Whole, value);
         }
-        self.put_divided(alloc, name, hint, value)
+        self.put_afar(alloc, name.as_str(), name.hint(), value)
     }
 
     // The same. The name is divided, and links are followed.
     #[inline(never)]
-    fn put_divided(
+    fn put_afar(
         &mut self,
         alloc: Global,
         name: &str,
@@ -153,7 +156,8 @@ impl Frames {
         ensures same { OnErr result (self.new ≡ self.old) }
     {
         let at = place_of(&self.stack, name);
-        self.variables.put(alloc, at, hint, value)
+        let base = Sought::unkeyed(at.name, hint);
+        self.variables.put(alloc, at.frame, &base, at.part, value)
     }
 
     /// Takes a variable or an element away: unset(n). A link stays.
@@ -168,19 +172,15 @@ impl Frames {
     }
 }
 
-// The place of a plain name of an active frame without links: the name itself.
+// The active frame, where a name has a key and no name of the frame is a link: there the variable of this name stands.
 #[inline(always)]
-fn plain_place<'a>(stack: &'a Stack, name: &'a str) -> Option<Place<'a>>
-    ensures leads { IfSome result (λ at. spot_of at ≡ spot_in stack.now.frames stack.now.active (divided_name (chars name.now))) }
-    ensures there { IfSome result (λ at. at.frame < length stack.now.frames) }
-    ensures whole { IfSome result (λ at. (divided_name (chars name.now)).part ≡ whole) }
+pub(crate) fn own_frame(stack: &Stack, name: &Sought<'_>) -> Option<usize>
+    ensures leads { IfSome result (λ frame. spot frame name.now whole ≡ spot_in stack.now.frames stack.now.active (divided_name name.now)) }
+    ensures there { IfSome result (λ frame. frame < length stack.now.frames) }
+    ensures whole { IfSome result (λ frame. (divided_name name.now).part ≡ whole) }
 {
-    if is_plain(name) && stack.has_no_link() {
-        return Some(Place {
-            frame: stack.active(),
-            name,
-            part: Part::Whole,
-        });
+    if name.is_keyed() && stack.has_no_link() {
+        return Some(stack.active());
     }
     None
 }

@@ -7,7 +7,7 @@ ghost use Rattle.tcl_frames.specs.Standing.{store_of};
 
 use crate::frames::{Frames, place_here};
 use tcl_meaning::Refusal;
-use tcl_names::{HashedNames, Hint};
+use tcl_names::{HashedNames, Hint, Sought};
 use tcl_values::Value;
 
 /// A text, or the elements of an array.
@@ -26,7 +26,12 @@ impl Frames {
         if let Some(elements) = self.variables.array(at) {
             return Some(Seen::Array(elements));
         }
-        match self.variables.find(at, &Hint::new(), Refusal::NoSuch) {
+        let hint = Hint::new();
+        let name = Sought::unkeyed(at.name, &hint);
+        match self
+            .variables
+            .find(at.frame, &name, at.part, Refusal::NoSuch)
+        {
             Ok(value) => Some(Seen::Text(value)),
             Err(_) => None,
         }

@@ -2,23 +2,23 @@
 ghost use Rattle.std.specs.Prelude.{◌≡◌, ◌<◌, length, Ok, Err, IfOk, IfErr, IfSome};
 ghost use Rattle.std.specs.Borrow.{sem};
 ghost use Rattle.std.specs.Str.{chars};
-ghost use Rattle.tcl_meaning.specs.Frames.{Spot};
+ghost use Rattle.tcl_meaning.specs.Frames.{whole};
 ghost use Rattle.tcl_meaning.specs.State.{Commands};
 ghost use Rattle.tcl_meaning.specs.Variables.{get, get_part, missing as missing_by, variable_at, spot_of as place_named};
 ghost use Rattle.tcl_meaning.specs.Names.{divided_name};
 ghost use Rattle.tcl_frames.specs.FramesLent.{LendsPlace, LendsSpot};
-ghost use Rattle.tcl_frames.specs.Parts.{name_of};
-ghost use Rattle.tcl_frames.specs.Places.{spot_of};
+ghost use Rattle.tcl_frames.specs.Parts.{name_of, part_of};
+ghost use Rattle.tcl_frames.specs.Places.{spot, spot_of};
 ghost use Rattle.tcl_frames.specs.Refusals.{Refuses};
 ghost use Rattle.tcl_frames.specs.Standing.{store_of};
 
 use crate::fault::VarFault;
-use crate::frames::{Frames, home, place_of};
-use crate::name::{Name, divide};
+use crate::frames::{Frames, home, own_frame, place_of};
+use crate::name::{Name, Part, divide};
 use crate::place::{Link, Place};
 use std::alloc::{AllocError, Global};
 use tcl_meaning::Refusal;
-use tcl_names::Hint;
+use tcl_names::{Hint, Sought};
 use tcl_values::Value;
 
 impl Frames {
@@ -28,16 +28,38 @@ impl Frames {
         ensures found { (cs : Commands) → IfOk result (λ value. get (store_of cs self.old) (chars name.now) ≡ Ok value.now) }
         ensures refused { (cs : Commands) → IfErr result (Refuses (get (store_of cs self.old) (chars name.now))) }
     {
-        self.place_near(alloc, name, &Hint::new())
+        self.place_afar(alloc, name, &Hint::new())
     }
 
-    /// The same as `place`: quick where the variable stands where the hint says.
-    pub fn place_near(
-        &mut self,
-        alloc: Global,
-        name: &str,
-        hint: &Hint,
-    ) -> Result<&mut Value, VarFault>
+    /// The same as `place`: quick where the name has a key and stands where it was found last.
+    #[inline(always)]
+    pub fn place_near(&mut self, alloc: Global, name: &Sought<'_>) -> Result<&mut Value, VarFault>
+        ensures* writes_back { sem 𝓛 (LendsPlace self.entry name.entry.now result) }
+        ensures found { (cs : Commands) → IfOk result (λ value. get (store_of cs self.old) name.now ≡ Ok value.now) }
+        ensures refused { (cs : Commands) → IfErr result (Refuses (get (store_of cs self.old) name.now)) }
+    {
+        match self.frame_of(name) {
+            Some(frame) => match self.place_at(frame, name, Part::Whole, Refusal::NoSuch) {
+                Ok(value) => Ok(value),
+                Err(refusal) => Err(VarFault::Refused(refusal)),
+            },
+            None => self.place_afar(alloc, name.as_str(), name.hint()),
+        }
+    }
+
+    // The active frame, where a name has a key and no name of the frame is a link: there the variable of this name stands.
+    #[inline(always)]
+    fn frame_of(&self, name: &Sought<'_>) -> Option<usize>
+        ensures leads { (cs : Commands) → IfSome result (λ frame. spot frame name.now whole ≡ place_named (store_of cs self.now) (divided_name name.now)) }
+        ensures there { IfSome result (λ frame. frame < length self.now.frames) }
+        ensures whole { IfSome result (λ frame. (divided_name name.now).part ≡ whole) }
+    {
+        own_frame(&self.stack, name)
+    }
+
+    // The same as `place`. The name is divided, and links are followed.
+    #[inline(never)]
+    fn place_afar(&mut self, alloc: Global, name: &str, hint: &Hint) -> Result<&mut Value, VarFault>
         ensures* writes_back { sem 𝓛 (LendsPlace self.entry (chars name.entry.now) result) }
         ensures found { (cs : Commands) → IfOk result (λ value. get (store_of cs self.old) (chars name.now) ≡ Ok value.now) }
         ensures refused { (cs : Commands) → IfErr result (Refuses (get (store_of cs self.old) (chars name.now))) }
@@ -45,10 +67,13 @@ impl Frames {
         let divided = divide(name);
         let missing = divided.part.missing();
         match self.own_place(divided) {
-            Some(at) => match self.place_at(at, hint, missing) {
-                Ok(value) => Ok(value),
-                Err(refusal) => Err(VarFault::Refused(refusal)),
-            },
+            Some(at) => {
+                let base = Sought::unkeyed(at.name, hint);
+                match self.place_at(at.frame, &base, at.part, missing) {
+                    Ok(value) => Ok(value),
+                    Err(refusal) => Err(VarFault::Refused(refusal)),
+                }
+            }
             None => self.place_linked(alloc, name, hint, missing),
         }
     }
@@ -85,7 +110,9 @@ impl Frames {
         let Ok(target) = self.target(alloc, name) else {
             return Err(VarFault::Memory);
         };
-        match self.place_at(target.as_place(), hint, missing) {
+        let at = target.as_place();
+        let base = Sought::unkeyed(at.name, hint);
+        match self.place_at(at.frame, &base, at.part, missing) {
             Ok(value) => Ok(value),
             Err(refusal) => Err(VarFault::Refused(refusal)),
         }
@@ -99,18 +126,20 @@ impl Frames {
         Link::to(alloc, place_of(&self.stack, name))
     }
 
-    // Lends the text of a place.
+    // Lends the text of a part of a variable of a frame.
+    #[inline(always)]
     fn place_at(
         &mut self,
-        at: Place<'_>,
-        hint: &Hint,
+        frame: usize,
+        name: &Sought<'_>,
+        part: Part<'_>,
         missing: Refusal,
     ) -> Result<&mut Value, Refusal>
-        requires { at.frame < length self.old.frames }
-        ensures* writes_back { sem 𝓛 (LendsSpot self.entry (spot_of at.entry) result) }
-        ensures found { (cs : Commands) → IfOk result (λ value. get_part missing (variable_at (store_of cs self.old) (spot_of at.entry)) (spot_of at.entry).part ≡ Ok value.now) }
-        ensures refused { (cs : Commands) → IfErr result (λ refusal. get_part missing (variable_at (store_of cs self.old) (spot_of at.entry)) (spot_of at.entry).part ≡ Err refusal) }
+        requires { frame < length self.old.frames }
+        ensures* writes_back { sem 𝓛 (LendsSpot self.entry (spot frame name.entry.now (part_of part.entry)) result) }
+        ensures found { (cs : Commands) → IfOk result (λ value. get_part missing (variable_at (store_of cs self.old) (spot frame name.now (part_of part.entry))) (part_of part.entry) ≡ Ok value.now) }
+        ensures refused { (cs : Commands) → IfErr result (λ refusal. get_part missing (variable_at (store_of cs self.old) (spot frame name.now (part_of part.entry))) (part_of part.entry) ≡ Err refusal) }
     {
-        self.variables.place(at, hint, missing)
+        self.variables.place(frame, name, part, missing)
     }
 }

@@ -20,22 +20,21 @@ use crate::name::Part;
 use crate::variable::Variable;
 use std::alloc::Global;
 use tcl_meaning::Refusal;
-use tcl_names::{HashedNames, Hint, PlacedNames};
+use tcl_names::{HashedNames, PlacedNames, Sought};
 use tcl_values::Value;
 
 /// The text of a part of a variable.
 #[inline(always)]
 pub(crate) fn find_in<'a>(
     variables: &'a PlacedNames<Variable>,
-    name: &str,
-    hint: &Hint,
+    name: &Sought<'_>,
     part: Part<'_>,
     missing: Refusal,
 ) -> Result<&'a Value, Refusal>
-    ensures found { IfOk result (λ value. get_part missing (map.get variables.now (chars name.now)) (part_of part.entry) ≡ Ok value.now) }
-    ensures refused { IfErr result (λ refusal. get_part missing (map.get variables.now (chars name.now)) (part_of part.entry) ≡ Err refusal) }
+    ensures found { IfOk result (λ value. get_part missing (map.get variables.now name.now) (part_of part.entry) ≡ Ok value.now) }
+    ensures refused { IfErr result (λ refusal. get_part missing (map.get variables.now name.now) (part_of part.entry) ≡ Err refusal) }
 {
-    match variables.get_near(name, hint) {
+    match variables.get_near(name) {
         Some(variable) => variable.part(part, missing),
         None => match part {
             Part::Deeper => Err(Refusal::IsntArray),
@@ -72,16 +71,15 @@ pub(crate) fn is_there_in(variables: &PlacedNames<Variable>, name: &str, part: P
 #[inline(always)]
 pub(crate) fn place_in<'a>(
     variables: &'a mut PlacedNames<Variable>,
-    name: &str,
-    hint: &Hint,
+    name: &Sought<'_>,
     part: Part<'_>,
     missing: Refusal,
 ) -> Result<&'a mut Value, Refusal>
-    ensures* writes_back { sem 𝓛 (LendsText variables.entry (chars name.entry.now) (part_of part.entry) result) }
-    ensures found { IfOk result (λ value. get_part missing (map.get variables.old (chars name.now)) (part_of part.entry) ≡ Ok value.now) }
-    ensures refused { IfErr result (λ refusal. get_part missing (map.get variables.old (chars name.now)) (part_of part.entry) ≡ Err refusal) }
+    ensures* writes_back { sem 𝓛 (LendsText variables.entry name.entry.now (part_of part.entry) result) }
+    ensures found { IfOk result (λ value. get_part missing (map.get variables.old name.now) (part_of part.entry) ≡ Ok value.now) }
+    ensures refused { IfErr result (λ refusal. get_part missing (map.get variables.old name.now) (part_of part.entry) ≡ Err refusal) }
 {
-    match variables.get_mut_near(name, hint) {
+    match variables.get_mut_near(name) {
         Some(variable) => variable.place(part, missing),
         None => match part {
             Part::Deeper => Err(Refusal::IsntArray),
@@ -111,19 +109,18 @@ fn made(alloc: Global, part: Part<'_>, value: Value) -> Result<Variable, VarFaul
 pub(crate) fn put_in(
     variables: &mut PlacedNames<Variable>,
     alloc: Global,
-    name: &str,
-    hint: &Hint,
+    name: &Sought<'_>,
     part: Part<'_>,
     value: Value,
 ) -> Result<(), VarFault>
-    ensures done { OnOk result (stored_in variables.old (chars name.now) (put_part (map.get variables.old (chars name.now)) (part_of part.entry) value) ≡ Ok variables.new) }
-    ensures refused { IfErr result (Refuses (put_part (map.get variables.old (chars name.now)) (part_of part.entry) value)) }
+    ensures done { OnOk result (stored_in variables.old name.now (put_part (map.get variables.old name.now) (part_of part.entry) value) ≡ Ok variables.new) }
+    ensures refused { IfErr result (Refuses (put_part (map.get variables.old name.now) (part_of part.entry) value)) }
     ensures same { OnErr result (variables.new ≡ variables.old) }
 {
-    if let Some(variable) = variables.get_mut_near(name, hint) {
+    if let Some(variable) = variables.get_mut_near(name) {
         return variable.write(alloc, part, value);
     }
-    put_anew(variables, alloc, name, part, value)
+    put_anew(variables, alloc, name.as_str(), part, value)
 }
 
 // The same, where the variable is missing.

@@ -24,7 +24,7 @@ kept (x ∷ ns) n q k e = by (same_text q x) (number_of ns q) refl e (λ j at. k
     by false None at h below = absurd cc
     by false (Some j) at h below = ap (option_map (λ j. j + 1)) (below j at) ∙ h
 
-alike : (q : List ℕ) → same_text q q ≡ true
+pub alike : (q : List ℕ) → same_text q q ≡ true
 alike q = (bytes_decides q q).1 refl
 
 -- a new name has the place behind the others

@@ -3,12 +3,10 @@ use Rattle.std.proofs.Common.{ℕ, ◌<◌, List, [], ◌∷◌, ◌++◌, ◌�
 use Rattle.std.proofs.Math.ListN.{set}
 use Rattle.std.proofs.Math.Seq.{map-set_same}
 use Rattle.std.proofs.lemmas.List.{length-map, get_or-map, map-set, map-append}
-use Rattle.std.specs.declared.rc.RcStr.{RcStr}
-use Rattle.std.specs.declared.alloc.Global.{Global}
 use Rattle.std.specs.FinMap as map
 use Rattle.tcl_chars.specs.Texts.{same_text}
 use Rattle.tcl_names.specs.declared.placed.Place.{Place}
-use Rattle.tcl_names.specs.Named.{Named, text_of}
+use Rattle.tcl_names.specs.Named.{Named}
 use Rattle.tcl_names.specs.Placed.{IsApart, number_of, with_place, placed}
 use Rattle.tcl_names.specs.Places.{names_in, values_in}
 use Rattle.tcl_names.proofs.Apart.{apart_at, apart_more, placed_more}
@@ -16,24 +14,24 @@ use Rattle.tcl_names.proofs.Places.{number_within, get_in_place, get_aside, plac
 
 module _ {H : Type 0} (ps : List (Place H)) where
   pub as_many : length (values_in ps) ≡ length (names_in ps)
-  as_many = length-map ps (λ (p : Place H). p.value) ∙ sym (length-map ps (λ (p : Place H). text_of p.name))
+  as_many = length-map ps (λ (p : Place H). p.value) ∙ sym (length-map ps (λ (p : Place H). p.name))
 
   -- a place of a name is there
   pub place_low : (q : List ℕ) (k : ℕ) → number_of (names_in ps) q ≡ Some k → k < length ps
   place_low q k at =
       let low : k < length (names_in ps) = number_within (names_in ps) q k at in
-      subst (λ n. k < n) (length-map ps (λ (p : Place H). text_of p.name)) low
+      subst (λ n. k < n) (length-map ps (λ (p : Place H). p.name)) low
 
   -- a place whose name is looked for is that name's
-  pub place_of : (q : List ℕ) (k : ℕ) (p : Place H) → IsApart (names_in ps) → k < length ps → p ≡ get_or ps k p → same_text q (text_of p.name) ≡ true → number_of (names_in ps) q ≡ Some k
+  pub place_of : (q : List ℕ) (k : ℕ) (p : Place H) → IsApart (names_in ps) → k < length ps → p ≡ get_or ps k p → same_text q (p.name) ≡ true → number_of (names_in ps) q ≡ Some k
   place_of q k p apart low is e =
-      let name : get_or (names_in ps) k [] ≡ text_of p.name = get_or-map (λ (p : Place H). text_of p.name) ps k p [] low ∙ ap (λ (x : Place H). text_of x.name) (sym is) in
-      apart_at (names_in ps) q k apart (subst (λ n. k < n) (sym (length-map ps (λ (p : Place H). text_of p.name))) low) (ap (same_text q) name ∙ e)
+      let name : get_or (names_in ps) k [] ≡ p.name = get_or-map (λ (p : Place H). p.name) ps k p [] low ∙ ap (λ (x : Place H). x.name) (sym is) in
+      apart_at (names_in ps) q k apart (subst (λ n. k < n) (sym (length-map ps (λ (p : Place H). p.name))) low) (ap (same_text q) name ∙ e)
 
   -- a place whose value is given anew keeps its name
   module _ (k : ℕ) (p : Place H) (is : p ≡ get_or ps k p) (o : Option H) where
     names_stay : names_in (set ps k (record { name = p.name; value = o })) ≡ names_in ps
-    names_stay = map-set_same (λ (p : Place H). text_of p.name) ps k (record { name = p.name; value = o }) p (ap (λ (x : Place H). text_of x.name) is)
+    names_stay = map-set_same (λ (p : Place H). p.name) ps k (record { name = p.name; value = o }) p (ap (λ (x : Place H). x.name) is)
 
     pub apart_stays : IsApart (names_in ps) → IsApart (names_in (set ps k (record { name = p.name; value = o })))
     apart_stays apart = subst IsApart (sym names_stay) apart
@@ -46,9 +44,9 @@ module _ {H : Type 0} (ps : List (Place H)) where
         ∙ placed_in (names_in ps) (values_in ps) m q as_many k o at ∙ ap (with_place q o) view
 
   -- a place behind the others
-  module _ (n : RcStr Global) (q : List ℕ) (is : text_of n ≡ q) (none : number_of (names_in ps) q ≡ None) (o : Option H) where
+  module _ (n q : List ℕ) (is : n ≡ q) (none : number_of (names_in ps) q ≡ None) (o : Option H) where
     names_more : names_in (ps ++ record { name = n; value = o } ∷ []) ≡ names_in ps ++ q ∷ []
-    names_more = map-append (λ (p : Place H). text_of p.name) ps (record { name = n; value = o } ∷ []) ∙ ap (λ t. names_in ps ++ t ∷ []) is
+    names_more = map-append (λ (p : Place H). p.name) ps (record { name = n; value = o } ∷ []) ∙ ap (λ t. names_in ps ++ t ∷ []) is
 
     pub apart_pushed : IsApart (names_in ps) → IsApart (names_in (ps ++ record { name = n; value = o } ∷ []))
     apart_pushed apart = subst IsApart (sym names_more) (apart_more (names_in ps) q apart none)
@@ -65,7 +63,7 @@ module _ {H : Type 0} (ps : List (Place H)) where
     pub whole_aside : (o : Option H) → number_of (names_in ps) q ≡ None → placed (names_in ps) (values_in ps) (with_place q o m) ≡ with_place q o whole
     whole_aside o none = placed_aside (names_in ps) (values_in ps) m q as_many o none ∙ ap (with_place q o) view
 
-    pub whole_more : (n : RcStr Global) (v : H) → text_of n ≡ q → number_of (names_in ps) q ≡ None
+    pub whole_more : (n : List ℕ) (v : H) → n ≡ q → number_of (names_in ps) q ≡ None
         → placed (names_in (ps ++ record { name = n; value = Some v } ∷ [])) (values_in (ps ++ record { name = n; value = Some v } ∷ [])) m ≡ map.insert whole q v
     whole_more n v is none =
         ap (λ ns. placed ns (values_in (ps ++ record { name = n; value = Some v } ∷ [])) m) (names_more n q is none (Some v))

@@ -76,6 +76,17 @@ impl<V> HashedNames<V> {
         Ok(())
     }
 
+    /// Puts a value under a name, whose text is shared.
+    pub fn insert_shared(&mut self, name: RcStr, value: V) -> Result<(), AllocError>
+    where
+        V: Drop,
+        ensures put { OnOk result (self.new ≡ map.insert self.old (text_of name) value) }
+        ensures same { OnErr result (self.new ≡ self.old) }
+    {
+        self.map.insert(name, value)?;
+        Ok(())
+    }
+
     /// Takes out what has a name.
     pub fn remove(&mut self, name: &str) -> Option<V>
         ensures removed { self.new ≡ map.remove self.old (chars name.now) }

@@ -1,9 +1,10 @@
 //! Names that have numbered places.
-ghost use Rattle.std.specs.Prelude.{◌≡◌, [], OnOk, OnErr, length, map as each};
+ghost use Rattle.std.specs.Prelude.{◌≡◌, [], OnOk, OnErr, length};
 ghost use Rattle.std.specs.Str.{chars};
 ghost use Rattle.tcl_names.specs.Named.{text_of};
 ghost use Rattle.tcl_names.specs.Placed.{IsApart, number_of, placed_name};
 
+use crate::key::KeyedName;
 use std::alloc::{AllocError, Global};
 use std::marker::Model;
 use std::rc::RcStr;
@@ -12,19 +13,18 @@ use tcl_chars::is_text;
 /// Names that have numbered places, from 0 on.
 #[derive(Drop)]
 pub struct Layout {
-    names: Vec<RcStr>,
+    names: Vec<KeyedName>,
 }
 
 impl Model for Layout {
-    ghost use Rattle.std.specs.Prelude.{ℕ, List, map as each};
-    ghost use Rattle.tcl_names.specs.Named.{text_of};
+    ghost use Rattle.std.specs.Prelude.{ℕ, List};
     ghost use Rattle.tcl_names.specs.Placed.{IsApart};
 
     ghost Value = { List (List ℕ) };
 
-    ghost view = { λ l. each text_of l.names.items };
+    ghost view = { λ l. l.names.items };
 
-    ghost invariant = { λ l. IsApart (each text_of l.names.items) };
+    ghost invariant = { λ l. IsApart l.names.items };
 }
 
 impl Layout {
@@ -58,7 +58,7 @@ impl Layout {
         if self.number(name.as_str()).is_some() {
             return Ok(());
         }
-        self.names.push(name.clone()?)?;
+        self.names.push(KeyedName::new(name.clone()?))?;
         Ok(())
     }
 
@@ -70,8 +70,8 @@ impl Layout {
     }
 
     /// The names in the order of their places.
-    pub(crate) fn names(&self) -> &[RcStr]
-        ensures names { each text_of result.now ≡ self.now }
+    pub(crate) fn names(&self) -> &[KeyedName]
+        ensures names { result.now ≡ self.now }
         ensures apart { IsApart self.now }
     {
         &self.names

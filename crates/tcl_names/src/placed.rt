@@ -13,7 +13,9 @@ ghost use Rattle.tcl_names.specs.PlacedLent.{LendsAtPlaced, LendsValue};
 
 use crate::NameMap;
 use crate::hint::Hint;
+use crate::key::KeyedName;
 use crate::layout::Layout;
+use crate::sought::Sought;
 use std::alloc::{AllocError, Global};
 use std::marker::Model;
 use std::rc::{Rc, RcStr};
@@ -28,7 +30,7 @@ const FEW_BYTES: usize = 8;
 // A name with a place, and what it has, if anything.
 #[derive(Drop)]
 struct Place<V> {
-    name: RcStr,
+    name: KeyedName,
     value: Option<V>,
 }
 
@@ -98,9 +100,22 @@ fn number<V>(places: &[Place<V>], name: &str) -> Option<usize>
     None
 }
 
-// The same. The place that is guessed is tried first.
+// The same. The place that is guessed is tried first, and its key tells.
 #[inline(always)]
-fn number_near<V>(places: &[Place<V>], name: &str, hint: &Hint) -> Option<usize>
+fn number_near<V>(places: &[Place<V>], name: &Sought<'_>) -> Option<usize>
+    requires { IsApart (names_in places.now) }
+    ensures { result ≡ number_of (names_in places.now) name.now }
+{
+    let guess = name.hint().get();
+    if guess < places.len() && places[guess].name.is_surely(name) {
+        return Some(guess);
+    }
+    number_afar(places, name.as_str(), name.hint())
+}
+
+// The same, where the key of the place that is guessed doesn't tell.
+#[inline(never)]
+fn number_afar<V>(places: &[Place<V>], name: &str, hint: &Hint) -> Option<usize>
     requires { IsApart (names_in places.now) }
     ensures { result ≡ number_of (names_in places.now) (chars name.now) }
 {
@@ -108,14 +123,6 @@ fn number_near<V>(places: &[Place<V>], name: &str, hint: &Hint) -> Option<usize>
     if guess < places.len() && is_name(name, places[guess].name.as_str()) {
         return Some(guess);
     }
-    number_afar(places, name, hint)
-}
-
-// The same, where the place that is guessed has another name.
-#[inline(never)]
-fn number_afar<V>(places: &[Place<V>], name: &str, hint: &Hint) -> Option<usize>
-    ensures { result ≡ number_of (names_in places.now) (chars name.now) }
-{
     let found = number(places, name)?;
     hint.set(found);
     Some(found)
@@ -143,7 +150,7 @@ impl<V> PlacedNames<V> {
         let mut places = Vec::with_capacity(alloc, layout.len())?;
         for name in layout.names() {
             places.push(Place {
-                name: name.clone()?,
+                name: name.copy()?,
                 value: None,
             })?;
         }
@@ -168,17 +175,17 @@ impl<V> PlacedNames<V> {
     pub fn get(&self, name: &str) -> Option<&V>
         ensures { option_copied result ≡ map.get self.now (chars name.now) }
     {
-        self.get_near(name, &Hint::new())
+        self.get_near(&Sought::unkeyed(name, &Hint::new()))
     }
 
-    /// The same as `get`: quick where the name stands where the hint says.
+    /// The same as `get`: quick where the name stands where it was found last.
     #[inline(always)]
-    pub fn get_near(&self, name: &str, hint: &Hint) -> Option<&V>
-        ensures { option_copied result ≡ map.get self.now (chars name.now) }
+    pub fn get_near(&self, name: &Sought<'_>) -> Option<&V>
+        ensures { option_copied result ≡ map.get self.now name.now }
     {
-        match number_near(&self.places, name, hint) {
+        match number_near(&self.places, name) {
             Some(number) => self.places[number].value.as_ref(),
-            None => self.others.get(name),
+            None => self.others.get(name.as_str()),
         }
     }
 
@@ -186,18 +193,18 @@ impl<V> PlacedNames<V> {
         ensures* writes_back { sem 𝓛 (LendsAtPlaced V.row self.entry (chars name.entry.now) result) }
         ensures value { option_copied_mut result ≡ map.get self.old (chars name.now) }
     {
-        self.get_mut_near(name, &Hint::new())
+        self.get_mut_near(&Sought::unkeyed(name, &Hint::new()))
     }
 
-    /// The same as `get_mut`: quick where the name stands where the hint says.
+    /// The same as `get_mut`: quick where the name stands where it was found last.
     #[inline(always)]
-    pub fn get_mut_near(&mut self, name: &str, hint: &Hint) -> Option<&mut V>
-        ensures* writes_back { sem 𝓛 (LendsAtPlaced V.row self.entry (chars name.entry.now) result) }
-        ensures value { option_copied_mut result ≡ map.get self.old (chars name.now) }
+    pub fn get_mut_near(&mut self, name: &Sought<'_>) -> Option<&mut V>
+        ensures* writes_back { sem 𝓛 (LendsAtPlaced V.row self.entry name.entry.now result) }
+        ensures value { option_copied_mut result ≡ map.get self.old name.now }
     {
-        match number_near(&self.places, name, hint) {
+        match number_near(&self.places, name) {
             Some(number) => value_mut(&mut self.places[number].value),
-            None => self.others.get_mut(name),
+            None => self.others.get_mut(name.as_str()),
         }
     }
 
@@ -215,7 +222,7 @@ impl<V> PlacedNames<V> {
         if self.places.len() >= MOST_PLACES || self.others.get(name).is_some() {
             return self.others.insert(alloc, name, value);
         }
-        let name = RcStr::from_str(alloc, name)?;
+        let name = KeyedName::new(RcStr::from_str(alloc, name)?);
         self.places.push(Place {
             name,
             value: Some(value),
@@ -268,7 +275,7 @@ fn add_placed<V>(
     ensures { OnOk result (names.new ≡ with_present whole.now (names_in places.now) names.old) }
 {
     for place in places {
-        add_present(whole, alloc, &place.name, names)?;
+        add_present(whole, alloc, place.name.shared(), names)?;
     }
     Ok(())
 }

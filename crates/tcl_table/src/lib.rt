@@ -9,5 +9,4 @@ mod table;
 
 pub use command::{Command, Formal, Meaning, Procedure};
 pub use frequent::Frequent;
-pub use places::CommandName;
 pub use table::{Table, TableFault};

@@ -17,6 +17,7 @@ use Rattle.tcl_chars.specs.declared.numbers.Whole.TheVariants.{Number}
 use Rattle.tcl_list.specs.Elements.{elements_of}
 use Rattle.tcl_list.specs.Written.{written}
 use Rattle.tcl_list.specs.Texts.{text_of}
+use Rattle.tcl_names.specs.Keys.{IsKeyOf}
 use Rattle.tcl_values.specs.Kept.{Kept, texts, depth_over}
 use Rattle.tcl_values.specs.Marks.{AreMarks}
 use Rattle.tcl_values.specs.Numerals.{digits, AreDigits}
@@ -122,6 +123,7 @@ AreNumbers ns t = (dialect : Dialect) → whole_of dialect t ≡ Number (number_
 
 -- what is known of a text of a script beside it
 pub record IsLiteral (l : Literal) : Type 0 where
+  pub key : IsKeyOf l.key (rc_str_bytes l.text)
   pub ascii : OnTrue l.ascii (IsAscii (rc_str_bytes l.text))
   pub numbers : IfSome l.numbers (λ ns. AreNumbers ns (text_of l.text))
   pub marks : AreMarks l.marks.before.items (rc_str_bytes l.text)

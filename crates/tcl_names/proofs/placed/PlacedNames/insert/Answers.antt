@@ -42,7 +42,7 @@ invariant_of-self-2 g c =
     let q = chars c.args.name.now in
     let ps = c.self.inside.places.items in
     let at : number_of (names_in ps) q ≡ None = ap (λ ps. number_of (names_in ps) q) (sym c.deref.ensures.value) ∙ sym c.number.ensures ∙ c.in_default.is in
-    subst (λ ps. IsApart (names_in ps)) (sym c.in_ok-push.ensures.items) (apart_pushed ps c.in_ok-name.name q (ap chars c.in_ok-name.ensures.ok) at (Some c.args.value) c.self.invariant)
+    subst (λ ps. IsApart (names_in ps)) (sym c.in_ok-push.ensures.items) (apart_pushed ps c.new-name.result q (c.new-name.ensures ∙ ap chars c.in_ok-from_str.ensures.ok) at (Some c.args.value) c.self.invariant)
 
 pub returns-clause-put : goal.returns-clause-put
 returns-clause-put g c =
@@ -50,4 +50,4 @@ returns-clause-put g c =
     let ps = c.self.inside.places.items in
     let at : number_of (names_in ps) q ≡ None = ap (λ ps. number_of (names_in ps) q) (sym c.deref.ensures.value) ∙ sym c.number.ensures ∙ c.in_default.is in
     ap (λ ps. placed (names_in ps) (values_in ps) c.self.inside.others) c.in_ok-push.ensures.items
-    ∙ whole_more ps c.self.inside.others c.self.view_is q c.in_ok-name.name c.args.value (ap chars c.in_ok-name.ensures.ok) at
+    ∙ whole_more ps c.self.inside.others c.self.view_is q c.new-name.result c.args.value (c.new-name.ensures ∙ ap chars c.in_ok-from_str.ensures.ok) at
