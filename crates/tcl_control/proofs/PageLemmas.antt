@@ -1,5 +1,7 @@
 -- What pages ask for, by the count of their words.
-use Rattle.std.proofs.Common.{◌≡◌, ◌≢◌, ◌≤◌, ◌<◌, List, [], ◌∷◌, length, drop, sym, ap, ◌∙◌, refl, arith}
+use Rattle.std.proofs.Common.{◌≡◌, ◌≢◌, ◌≤◌, ◌<◌, List, [], ◌∷◌, length, sym, ap, ◌∙◌, refl, arith}
+use Rattle.std.specs.Prelude.{Result}
+use Rattle.std.specs.declared.alloc.AllocError.{AllocError}
 use Rattle.tcl_arguments.specs.WordAt.{word}
 use Rattle.tcl_chars.specs.Texts.{literal}
 use Rattle.tcl_chars.specs.declared.numbers.Dialect.{Dialect}
@@ -9,10 +11,15 @@ use Rattle.tcl_meaning.specs.CodePages.{break_page, continue_page, error_page, c
 use Rattle.tcl_meaning.specs.Completions.{Completion, failure, ended}
 use Rattle.tcl_meaning.specs.Control.{while_page, while_next, for_page, eval_page, expr_page}
 use Rattle.tcl_meaning.specs.Effects.{Here}
-use Rattle.tcl_meaning.specs.Tasks.{Run, Evaluate, Nothing, ForStart, Catching}
+use Rattle.tcl_meaning.specs.Tasks.{Run, Evaluate, Nothing, ForStart}
 use Rattle.tcl_meaning.specs.declared.code.Code.TheVariants as code
 use Rattle.tcl_pages.specs.Lists.{one_text}
 use Rattle.tcl_pages.specs.Texts.{Text}
+use Rattle.tcl_steps.specs.Asked.{IsAsked}
+use Rattle.tcl_steps.specs.declared.step.Loop.{Loop}
+use Rattle.tcl_steps.specs.declared.step.Owes.{Owes}
+use Rattle.tcl_steps.specs.declared.step.Scope.{Scope}
+use Rattle.tcl_steps.specs.declared.step.Step.{Step}
 
 -- ---- while, for
 
@@ -138,28 +145,18 @@ error_asks ws message options c g h e f i =
 
 -- ---- catch
 
-pub no_catch_words : (ws : List Text) → length ws ≡ 0 → catch_page ws ≡ usage (literal "catch script ?resultVarName? ?optionVarName?")
-unfolding catch_page
-no_catch_words [] h = refl
-no_catch_words (a ∷ ws) h = absurd (omega arith)
+abbrev Asked : Type 0
+Asked = Result (Step Scope Owes Loop) AllocError
 
-pub more_catch_words : (ws : List Text) → 3 < length ws → catch_page ws ≡ usage (literal "catch script ?resultVarName? ?optionVarName?")
+pub no_catch_words : (ws : List Text) (r : Asked) → length ws ≡ 0 → IsAsked r (usage (literal "catch script ?resultVarName? ?optionVarName?")) → IsAsked r (catch_page ws)
 unfolding catch_page
-more_catch_words [] h = absurd (omega arith)
-more_catch_words (a ∷ []) h = absurd (omega arith)
-more_catch_words (a ∷ b ∷ []) h = absurd (omega arith)
-more_catch_words (a ∷ b ∷ c ∷ []) h = absurd (omega arith)
-more_catch_words (a ∷ b ∷ c ∷ e ∷ ws) h = refl
+no_catch_words [] r h asked = asked
+no_catch_words (a ∷ ws) r h asked = absurd (omega arith)
 
-pub catch_is : (ws : List Text) → length ws ≢ 0 → length ws ≤ 3 → catch_page ws ≡ ask (Run Here (word ws 0) (Catching (drop 1 ws)))
+pub more_catch_words : (ws : List Text) (r : Asked) → 4 ≤ length ws → IsAsked r (usage (literal "catch script ?resultVarName? ?optionVarName?")) → IsAsked r (catch_page ws)
 unfolding catch_page
-catch_is [] g h = absurd (g refl)
-catch_is (a ∷ []) g h = refl
-catch_is (a ∷ b ∷ []) g h = refl
-catch_is (a ∷ b ∷ c ∷ []) g h = refl
-catch_is (a ∷ b ∷ c ∷ e ∷ ws) g h = absurd (omega arith)
-
-pub catch_asks : (ws : List Text) (script : Text) (names : List Text) → length ws ≢ 0 → length ws ≤ 3
-    → script ≡ word ws 0 → names ≡ drop 1 ws → catch_page ws ≡ ask (Run Here script (Catching names))
-catch_asks ws script names g h e f =
-    catch_is ws g h ∙ sym (ap (λ z. ask (Run Here z (Catching names))) e ∙ ap (λ z. ask (Run Here (word ws 0) (Catching z))) f)
+more_catch_words [] r h asked = absurd (omega arith)
+more_catch_words (a ∷ []) r h asked = absurd (omega arith)
+more_catch_words (a ∷ b ∷ []) r h asked = absurd (omega arith)
+more_catch_words (a ∷ b ∷ c ∷ []) r h asked = absurd (omega arith)
+more_catch_words (a ∷ b ∷ c ∷ e ∷ ws) r h asked = asked

@@ -21,12 +21,12 @@ use Rattle.tcl_steps.proofs.Endings.{has_on, fails_on, then_becomes}
 use Rattle.tcl_steps.specs.Asked.{IsAsked, at_once}
 use Rattle.tcl_steps.specs.Comes.{Comes}
 use Rattle.tcl_steps.specs.Ends.{DoesAsk, Ends, first_step}
+use Rattle.tcl_steps.specs.Views.{owes_of}
 use Rattle.tcl_steps.specs.declared.step.Step.{Step}
 use Rattle.tcl_steps.specs.declared.step.Step.TheVariants as step
 use Rattle.tcl_steps.specs.declared.step.Scope.{Scope}
 use Rattle.tcl_steps.specs.declared.step.Scope.TheVariants as scope
 use Rattle.tcl_steps.specs.declared.step.Owes.{Owes}
-use Rattle.tcl_steps.specs.declared.step.Owes.TheVariants as owes
 use Rattle.tcl_steps.specs.declared.step.Loop.{Loop}
 use Rattle.tcl_steps.specs.declared.stop.Stop.{Stop}
 use Rattle.tcl_steps.specs.declared.stop.Stop.TheVariants as stop
@@ -142,10 +142,11 @@ module _ (finally : Option Text) (c : Completion) (handler : Handler) (f g : Sta
       asks_on (set_all (take 2 handler.names) (c.result ∷ options_text c ∷ [])) (handle_by finally handler.script) f g v r h (asks_over r (handle_by finally handler.script v) g is)
 
 module _ (finally : Option Text) (c : Completion) (h : Handler) (f g : Standing) (names : List Text) (are : names ≡ h.names) where
-  pub handled : (script : Text) → script ≡ h.script → Comes (set_all (take 2 names) (c.result ∷ options_text c ∷ [])) f (Has tt) g → Comes (first_step (handle finally c h)) f (Run Here script (Handling finally)) g
-  handled script e comes =
-      handles finally c h f g (Ok (step.Run scope.Here script (owes.Handling finally))) (Has tt) (subst (λ ns. Comes (set_all (take 2 ns) (c.result ∷ options_text c ∷ [])) f (Has tt) g) are comes)
-      (ap (λ t. Some (Run Here t (Handling finally))) (sym e))
+  pub handled : (script : Text) (o : Owes) → owes_of o ≡ Handling finally → script ≡ h.script → Comes (set_all (take 2 names) (c.result ∷ options_text c ∷ [])) f (Has tt) g
+      → Comes (first_step (handle finally c h)) f (Run Here script (owes_of o)) g
+  handled script o owed e comes =
+      handles finally c h f g (Ok (step.Run scope.Here script o)) (Has tt) (subst (λ ns. Comes (set_all (take 2 ns) (c.result ∷ options_text c ∷ [])) f (Has tt) g) are comes)
+      (ap (λ t. Some (Run Here t (Handling finally))) (sym e) ∙ ap (λ p. Some (Run Here script p)) (sym owed))
 
   pub unhandled : (r : Asked) (s : Stop) (fault : Completion) → s ≡ stop.Error fault → Ends (set_all (take 2 names) (c.result ∷ options_text c ∷ [])) f (Err s) g → IsAsked r (finish finally fault) → DoesAsk (handle finally c h) f r g
   unhandled r s fault e ends is =

@@ -1,5 +1,5 @@
 //! Commands of codes: break(n), continue(n), error(n), catch(n).
-ghost use Rattle.std.specs.Prelude.{◌≡◌, ◌≤◌, length, drop, [], IfOk};
+ghost use Rattle.std.specs.Prelude.{◌≡◌, [], IfOk};
 ghost use Rattle.tcl_chars.specs.Texts.{literal};
 ghost use Rattle.tcl_steps.specs.Asked.{IsAsked};
 ghost use Rattle.tcl_control.specs.Codes.{options_given};
@@ -85,20 +85,7 @@ pub fn error_page(alloc: Global, words: &[Value]) -> Result<Step<Scope, Owes, Lo
     }
     let message = word_at(words, 0)?;
     let options = options_given(alloc, words)?;
-    Ok(Step::Done(Completion::error_with(alloc, message, options)))
-}
-
-// The words from the second on.
-fn others(alloc: Global, words: &[Value]) -> Result<Vec<Value>, AllocError>
-    requires { 1 ≤ length words.now }
-    ensures { IfOk result (λ others. others.items ≡ drop 1 words.now) }
-{
-    let mut others = Vec::new(alloc);
-    let behind = &words[1..];
-    for word in behind {
-        others.push(word.copy()?)?;
-    }
-    Ok(others)
+    Ok(Step::Done(Completion::error_with(alloc, message, options)?))
 }
 
 // The error of other words than `catch` takes.
@@ -109,16 +96,22 @@ fn catch_usage(alloc: Global) -> Result<Step<Scope, Owes, Loop>, AllocError>
 }
 
 /// `catch script ?resultVarName? ?optionVarName?`: the script is run first.
+#[tactic(auto, using(crate::proofs::PageLemmas::no_catch_words, crate::proofs::PageLemmas::more_catch_words), unfolding(tcl_meaning::specs::CodePages::catch_page))]
 pub fn catch_page(alloc: Global, words: &[Value]) -> Result<Step<Scope, Owes, Loop>, AllocError>
     ensures { IsAsked result (spec.catch_page words.now) }
 {
-    if words.len() == 0 {
-        return catch_usage(alloc);
+    match words {
+        [script] => Ok(Step::Run(Scope::Here, script.copy()?, Owes::Catching)),
+        [script, result] => {
+            let owes = Owes::CatchingResult(result.copy()?);
+            Ok(Step::Run(Scope::Here, script.copy()?, owes))
+        }
+        [script, result, options] => {
+            let names = (result.copy()?, options.copy()?);
+            let owes = Owes::CatchingOptions(Box::new(alloc, names)?);
+            Ok(Step::Run(Scope::Here, script.copy()?, owes))
+        }
+        [] => catch_usage(alloc),
+        [_, _, _, _, ..] => catch_usage(alloc),
     }
-    if words.len() > 3 {
-        return catch_usage(alloc);
-    }
-    let script = word_at(words, 0)?;
-    let names = others(alloc, words)?;
-    Ok(Step::Run(Scope::Here, script, Owes::Catching(names)))
 }

@@ -10,7 +10,7 @@ use crate::answers::done;
 use std::alloc::{AllocError, Global};
 use tcl_chars::{Dialect, Fault};
 use tcl_operators::truth_value;
-use tcl_steps::{Completion, Loop, Others, Owes, Scope, Step};
+use tcl_steps::{Completion, IfTest, Loop, Others, Owes, Scope, Step};
 use tcl_values::Value;
 
 /// What a condition has come to.
@@ -64,11 +64,14 @@ pub fn next_clause(alloc: Global, mut others: Others) -> Result<Step<Scope, Owes
     let test = clause.0.copy()?;
     let body = clause.1.copy()?;
     others.gone += 1;
-    Ok(Step::Evaluate(test, Owes::IfTest { body, others }))
+    Ok(Step::Evaluate(
+        test,
+        Owes::IfTest(Box::new(alloc, IfTest { body, others })?),
+    ))
 }
 
-/// A condition of an `if` has ended so.
-pub fn after_if_test(
+// A condition of an `if` has ended so, with its body and the conditions behind it.
+fn after_condition(
     alloc: Global,
     dialect: Dialect,
     body: Value,
@@ -82,4 +85,17 @@ pub fn after_if_test(
         Condition::Holds(true) => Ok(Step::Run(Scope::Here, body, Owes::Nothing)),
         Condition::Holds(false) => next_clause(alloc, others),
     }
+}
+
+/// A condition of an `if` has ended so.
+pub fn after_if_test(
+    alloc: Global,
+    dialect: Dialect,
+    test: Box<IfTest>,
+    completion: Completion,
+) -> Result<Step<Scope, Owes, Loop>, AllocError>
+    ensures { IsAsked result (spec.after_if_test dialect test.value.body (others_of test.value.others) completion) }
+{
+    let IfTest { body, others } = Box::into_inner(test);
+    after_condition(alloc, dialect, body, others, completion)
 }

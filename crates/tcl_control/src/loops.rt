@@ -12,7 +12,7 @@ use crate::conditions::{Condition, tested};
 use std::alloc::{AllocError, Global};
 use tcl_chars::Dialect;
 use tcl_meaning::Code;
-use tcl_steps::{Completion, Loop, Owes, Scope, Step, usage};
+use tcl_steps::{Completion, ForLoop, Loop, Owes, Scope, Step, WhileLoop, usage};
 use tcl_values::Value;
 
 /// `while test command`: the condition is evaluated first.
@@ -28,30 +28,29 @@ pub fn while_page(
     }
     let test = word_at(words, 0)?;
     let body = word_at(words, 1)?;
-    while_next(test, body)
+    while_next(Box::new(alloc, WhileLoop { test, body })?)
 }
 
 // The condition of a `while` is to be evaluated.
-fn while_next(test: Value, body: Value) -> Result<Step<Scope, Owes, Loop>, AllocError>
-    ensures { IsAsked result (asking.ask (tasks.Evaluate test (tasks.WhileTest test body))) }
+fn while_next(turns: Box<WhileLoop>) -> Result<Step<Scope, Owes, Loop>, AllocError>
+    ensures { IsAsked result (asking.ask (tasks.Evaluate turns.value.test (tasks.WhileTest turns.value.test turns.value.body))) }
 {
-    let expr = test.copy()?;
-    Ok(Step::Evaluate(expr, Owes::WhileTest { test, body }))
+    let expr = turns.test.copy()?;
+    Ok(Step::Evaluate(expr, Owes::WhileTest(turns)))
 }
 
 /// The condition of a `while` has ended so.
 pub fn after_while_test(
     alloc: Global,
     dialect: Dialect,
-    test: Value,
-    body: Value,
+    turns: Box<WhileLoop>,
     completion: Completion,
 ) -> Result<Step<Scope, Owes, Loop>, AllocError>
-    ensures { IsAsked result (spec.after_while_test dialect test body completion) }
+    ensures { IsAsked result (spec.after_while_test dialect turns.value.test turns.value.body completion) }
 {
     match tested(alloc, dialect, completion)? {
         Condition::Ends(completion) => Ok(Step::Done(completion)),
-        Condition::Holds(true) => Ok(Step::Pay(Loop::While { test, body })),
+        Condition::Holds(true) => Ok(Step::Pay(Loop::While(turns))),
         Condition::Holds(false) => done(alloc),
     }
 }
@@ -59,14 +58,13 @@ pub fn after_while_test(
 /// The body of a `while` has ended so.
 pub fn after_while_body(
     alloc: Global,
-    test: Value,
-    body: Value,
+    turns: Box<WhileLoop>,
     completion: Completion,
 ) -> Result<Step<Scope, Owes, Loop>, AllocError>
-    ensures { (dialect : Dialect) → IsAsked result (spec.after_while_body dialect test body completion) }
+    ensures { (dialect : Dialect) → IsAsked result (spec.after_while_body dialect turns.value.test turns.value.body completion) }
 {
     match completion.code_now() {
-        Code::Ok | Code::Continue => while_next(test, body),
+        Code::Ok | Code::Continue => while_next(turns),
         Code::Break => done(alloc),
         _ => Ok(Step::Done(completion)),
     }
@@ -83,46 +81,43 @@ pub fn for_page(alloc: Global, words: &[Value]) -> Result<Step<Scope, Owes, Loop
     let test = word_at(words, 1)?;
     let next = word_at(words, 2)?;
     let body = word_at(words, 3)?;
-    Ok(Step::Run(Scope::Here, start, Owes::ForStart { test, next, body }))
+    let turns = Box::new(alloc, ForLoop { test, next, body })?;
+    Ok(Step::Run(Scope::Here, start, Owes::ForStart(turns)))
 }
 
 // The condition of a `for` is to be evaluated.
-fn for_next(test: Value, next: Value, body: Value) -> Result<Step<Scope, Owes, Loop>, AllocError>
-    ensures { IsAsked result (asking.ask (tasks.Evaluate test (tasks.ForTest test next body))) }
+fn for_next(turns: Box<ForLoop>) -> Result<Step<Scope, Owes, Loop>, AllocError>
+    ensures { IsAsked result (asking.ask (tasks.Evaluate turns.value.test (tasks.ForTest turns.value.test turns.value.next turns.value.body))) }
 {
-    let expr = test.copy()?;
-    Ok(Step::Evaluate(expr, Owes::ForTest { test, next, body }))
+    let expr = turns.test.copy()?;
+    Ok(Step::Evaluate(expr, Owes::ForTest(turns)))
 }
 
 /// The start of a `for` has ended so.
 pub fn after_for_start(
-    test: Value,
-    next: Value,
-    body: Value,
+    turns: Box<ForLoop>,
     completion: Completion,
 ) -> Result<Step<Scope, Owes, Loop>, AllocError>
-    ensures { (dialect : Dialect) → IsAsked result (spec.after_for_start dialect test next body completion) }
+    ensures { (dialect : Dialect) → IsAsked result (spec.after_for_start dialect turns.value.test turns.value.next turns.value.body completion) }
 {
     if !completion.is_ok() {
         return Ok(Step::Done(completion));
     }
-    for_next(test, next, body)
+    for_next(turns)
 }
 
 /// The condition of a `for` has ended so.
 pub fn after_for_test(
     alloc: Global,
     dialect: Dialect,
-    test: Value,
-    next: Value,
-    body: Value,
+    turns: Box<ForLoop>,
     completion: Completion,
 ) -> Result<Step<Scope, Owes, Loop>, AllocError>
-    ensures { IsAsked result (spec.after_for_test dialect test next body completion) }
+    ensures { IsAsked result (spec.after_for_test dialect turns.value.test turns.value.next turns.value.body completion) }
 {
     match tested(alloc, dialect, completion)? {
         Condition::Ends(completion) => Ok(Step::Done(completion)),
-        Condition::Holds(true) => Ok(Step::Pay(Loop::For { test, next, body })),
+        Condition::Holds(true) => Ok(Step::Pay(Loop::For(turns))),
         Condition::Holds(false) => done(alloc),
     }
 }
@@ -130,17 +125,15 @@ pub fn after_for_test(
 /// The body of a `for` has ended so.
 pub fn after_for_body(
     alloc: Global,
-    test: Value,
-    next: Value,
-    body: Value,
+    turns: Box<ForLoop>,
     completion: Completion,
 ) -> Result<Step<Scope, Owes, Loop>, AllocError>
-    ensures { (dialect : Dialect) → IsAsked result (spec.after_for_body dialect test next body completion) }
+    ensures { (dialect : Dialect) → IsAsked result (spec.after_for_body dialect turns.value.test turns.value.next turns.value.body completion) }
 {
     match completion.code_now() {
         Code::Ok | Code::Continue => {
-            let script = next.copy()?;
-            Ok(Step::Run(Scope::Here, script, Owes::ForNext { test, next, body }))
+            let script = turns.next.copy()?;
+            Ok(Step::Run(Scope::Here, script, Owes::ForNext(turns)))
         }
         Code::Break => done(alloc),
         _ => Ok(Step::Done(completion)),
@@ -150,15 +143,13 @@ pub fn after_for_body(
 /// What a `for` runs behind its body has ended so. `break` there ends the loop, and `continue` is the command's.
 pub fn after_for_next(
     alloc: Global,
-    test: Value,
-    next: Value,
-    body: Value,
+    turns: Box<ForLoop>,
     completion: Completion,
 ) -> Result<Step<Scope, Owes, Loop>, AllocError>
-    ensures { (dialect : Dialect) → IsAsked result (spec.after_for_next dialect test next body (code_now completion) completion) }
+    ensures { (dialect : Dialect) → IsAsked result (spec.after_for_next dialect turns.value.test turns.value.next turns.value.body (code_now completion) completion) }
 {
     match completion.code_now() {
-        Code::Ok => for_next(test, next, body),
+        Code::Ok => for_next(turns),
         Code::Break => done(alloc),
         _ => Ok(Step::Done(completion)),
     }

@@ -302,7 +302,7 @@ fn with_options(alloc: Global, dialect: Dialect, words: &[Value]) -> Result<Comp
     let level = level_given(alloc, dialect, &all)?;
     let value = result_given(alloc, words)?;
     let kept = kept(alloc, &all)?;
-    Ok(Completion::returned(code, level, value, kept))
+    Ok(Completion::returned(alloc, code, level, value, kept)?)
 }
 
 // How a `return` ends.
@@ -314,7 +314,7 @@ fn returned(alloc: Global, dialect: Dialect, words: &[Value]) -> Result<Completi
         return with_options(alloc, dialect, words);
     }
     let value = result_given(alloc, words)?;
-    Ok(Completion::returned(Code::Ok, 1, value, Vec::new(alloc)))
+    Ok(Completion::returned(alloc, Code::Ok, 1, value, Vec::new(alloc))?)
 }
 
 /// `return ?-option value ...? ?result?`: the end that a code has which waits for the end of procedures.

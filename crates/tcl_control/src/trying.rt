@@ -1,11 +1,12 @@
 //! Errors with a code, and what handles them: throw(n), try(n).
-ghost use Rattle.std.specs.Prelude.{◌∷◌, [], take};
+ghost use Rattle.std.specs.Prelude.{◌≡◌, ◌∷◌, [], take};
 ghost use Rattle.tcl_meaning.specs.Completions.{code_now, options_text};
+ghost use Rattle.tcl_meaning.specs.Tasks as tasks;
 ghost use Rattle.tcl_meaning.specs.Trying as spec;
 ghost use Rattle.tcl_meaning.specs.Variables.{set, set_all};
 ghost use Rattle.tcl_steps.specs.Asked.{IsAsked};
 ghost use Rattle.tcl_steps.specs.Ends.{DoesAsk, Ends};
-ghost use Rattle.tcl_steps.specs.Views.{handler_of, handlers_of};
+ghost use Rattle.tcl_steps.specs.Views.{handler_of, handlers_of, owes_of};
 
 use crate::answers::{word_at, words_behind};
 use crate::codes::option;
@@ -31,7 +32,7 @@ fn thrown(
     }
     let mut options = Vec::new(alloc);
     options.push(option(alloc, "-errorcode", kind)?)?;
-    Ok(Step::Done(Completion::error_with(alloc, text, options)))
+    Ok(Step::Done(Completion::error_with(alloc, text, options)?))
 }
 
 /// `throw type message`: the error of a message, with a code.
@@ -65,7 +66,8 @@ pub fn try_page(
     match try_shape(alloc, dialect, words_behind(words, 1)) {
         Ok(handlers) => {
             let body = word_at(words, 0)?;
-            Ok(Step::Run(Scope::Here, body, Owes::Trying(handlers)))
+            let owes = Owes::Trying(Box::new(alloc, handlers)?);
+            Ok(Step::Run(Scope::Here, body, owes))
         }
         Err(Fault::Error(said)) => Ok(Step::Done(Completion::failure(alloc, said))),
         Err(Fault::Memory) => Err(AllocError),
@@ -74,13 +76,17 @@ pub fn try_page(
 
 /// The script of `finally` is run, and then the completion stands.
 pub fn finish(
+    alloc: Global,
     finally: Option<Value>,
     completion: Completion,
 ) -> Result<Step<Scope, Owes, Loop>, AllocError>
     ensures { IsAsked result (spec.finish finally completion) }
 {
     match finally {
-        Some(script) => Ok(Step::Run(Scope::Here, script, Owes::Finishing(completion))),
+        Some(script) => {
+            let owes = Owes::Finishing(Box::new(alloc, completion)?);
+            Ok(Step::Run(Scope::Here, script, owes))
+        }
         None => Ok(Step::Done(completion)),
     }
 }
@@ -114,6 +120,16 @@ fn set_variables(
     set_variable(alloc, frames, second, completion.options_text(alloc)?)
 }
 
+// What is owed behind the script of a handler.
+fn handling(finally: Option<Value>) -> Owes
+    ensures { owes_of result ≡ tasks.Handling finally }
+{
+    match finally {
+        Some(finally) => Owes::Handling(finally),
+        None => Owes::Handled,
+    }
+}
+
 // A handler's variables are set, and its script is run. A fault in setting is the handler's completion.
 fn handle(
     alloc: Global,
@@ -127,15 +143,15 @@ fn handle(
     match set_variables(alloc, frames, &handler.names, completion) {
         Ok(()) => {
             let script = handler.script.copy()?;
-            Ok(Step::Run(Scope::Here, script, Owes::Handling(finally)))
+            Ok(Step::Run(Scope::Here, script, handling(finally)))
         }
-        Err(Stop::Error(fault)) => finish(finally, fault),
+        Err(Stop::Error(fault)) => finish(alloc, finally, fault),
         Err(Stop::Memory) => Err(AllocError),
     }
 }
 
-/// The body of a `try` has ended so: its handler runs, if one matches, and then `finally`.
-pub fn after_try(
+// The body of a `try` has ended so, with what is behind it.
+fn after_tried(
     alloc: Global,
     frames: &mut Frames,
     handlers: Handlers,
@@ -146,19 +162,31 @@ pub fn after_try(
     let Handlers { clauses, finally } = handlers;
     match handler_for(alloc, &clauses, &completion)? {
         Some(handler) => handle(alloc, frames, handler, finally, &completion),
-        None => finish(finally, completion),
+        None => finish(alloc, finally, completion),
     }
+}
+
+/// The body of a `try` has ended so: its handler runs, if one matches, and then `finally`.
+pub fn after_try(
+    alloc: Global,
+    frames: &mut Frames,
+    handlers: Box<Handlers>,
+    completion: Completion,
+) -> Result<Step<Scope, Owes, Loop>, AllocError>
+    ensures { DoesAsk (spec.after_try (handlers_of handlers.value) completion) frames.old result frames.new }
+{
+    after_tried(alloc, frames, Box::into_inner(handlers), completion)
 }
 
 /// The script of `finally` has ended so, behind a completion: that one stands where this one is ok.
 pub fn after_finally(
-    before: Completion,
+    before: Box<Completion>,
     completion: Completion,
 ) -> Result<Step<Scope, Owes, Loop>, AllocError>
-    ensures { IsAsked result (spec.after_finally before (code_now completion) completion) }
+    ensures { IsAsked result (spec.after_finally before.value (code_now completion) completion) }
 {
     if completion.is_ok() {
-        return Ok(Step::Done(before));
+        return Ok(Step::Done(Box::into_inner(before)));
     }
     Ok(Step::Done(completion))
 }

@@ -1,5 +1,5 @@
 //! What follows a turn of a loop over lists: foreach(n), lmap(n).
-ghost use Rattle.std.specs.Prelude.{◌≡◌, IfOk, option_map};
+ghost use Rattle.std.specs.Prelude.{◌≡◌, IfOk, OnOk, option_map};
 ghost use Rattle.tcl_steps.specs.Asked.{IsAsked};
 ghost use Rattle.tcl_each.specs.LoopLists.{with_result};
 ghost use Rattle.tcl_meaning.specs.Completions.{code_now};
@@ -35,23 +35,27 @@ fn ended(alloc: Global, results: Option<Vec<Value>>) -> Result<Step<Scope, Owes,
 }
 
 /// The next turn is asked for, or the loop is done.
-pub(crate) fn each_next(alloc: Global, each: Each) -> Result<Step<Scope, Owes, Loop>, AllocError>
-    ensures { IsAsked result (spec.each_next (each_of each)) }
+pub(crate) fn each_next(
+    alloc: Global,
+    each: Box<Each>,
+) -> Result<Step<Scope, Owes, Loop>, AllocError>
+    ensures { IsAsked result (spec.each_next (each_of each.value)) }
 {
     if has_more(&each.lists) {
         return Ok(Step::Pay(Loop::ForEach(each)));
     }
-    ended(alloc, each.results)
+    let Each { results, .. } = Box::into_inner(each);
+    ended(alloc, results)
 }
 
-// The loop with one more result, where results are gathered.
-fn with_result(mut each: Each, value: Value) -> Result<Each, AllocError>
-    ensures { IfOk result (λ e. each_of e ≡ with_result (each_of each) value) }
+// The loop has one more result, where results are gathered.
+fn add_result(each: &mut Each, value: Value) -> Result<(), AllocError>
+    ensures { OnOk result (each_of each.new ≡ with_result (each_of each.old) value) }
 {
     if let Some(results) = &mut each.results {
         results.push(value)?;
     }
-    Ok(each)
+    Ok(())
 }
 
 /// The body of a loop over lists has ended so.
@@ -61,19 +65,21 @@ fn with_result(mut each: Each, value: Value) -> Result<Each, AllocError>
 /// `AllocError` where a growth was refused.
 pub fn after_each(
     alloc: Global,
-    each: Each,
+    mut each: Box<Each>,
     completion: Completion,
 ) -> Result<Step<Scope, Owes, Loop>, AllocError>
-    ensures { IsAsked result (spec.after_each (each_of each) (code_now completion) completion) }
+    ensures { IsAsked result (spec.after_each (each_of each.value) (code_now completion) completion) }
 {
     match completion.code_now() {
         Code::Ok => {
-            let value = completion.into_result();
-            let gathered = with_result(each, value)?;
-            each_next(alloc, gathered)
+            add_result(&mut each, completion.into_result())?;
+            each_next(alloc, each)
         }
         Code::Continue => each_next(alloc, each),
-        Code::Break => ended(alloc, each.results),
+        Code::Break => {
+            let Each { results, .. } = Box::into_inner(each);
+            ended(alloc, results)
+        }
         _ => Ok(Step::Done(completion)),
     }
 }

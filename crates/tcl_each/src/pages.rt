@@ -35,14 +35,12 @@ fn each_page(
     match loop_lists_among(alloc, words, empty) {
         Ok(lists) => {
             let body = word_at(words, 2 * pairs)?;
-            each_next(
-                alloc,
-                Each {
-                    lists,
-                    body,
-                    results,
-                },
-            )
+            let each = Each {
+                lists,
+                body,
+                results,
+            };
+            each_next(alloc, Box::new(alloc, each)?)
         }
         Err(Fault::Error(message)) => Ok(Step::Done(Completion::failure(alloc, message))),
         Err(Fault::Memory) => Err(AllocError),
@@ -98,14 +96,12 @@ fn lone_list(
 {
     let mut lists = Vec::new(alloc);
     lists.push(list)?;
-    each_next(
-        alloc,
-        Each {
-            lists,
-            body,
-            results: None,
-        },
-    )
+    let each = Each {
+        lists,
+        body,
+        results: None,
+    };
+    each_next(alloc, Box::new(alloc, each)?)
 }
 
 /// `dict for {keyVarName valueVarName} dictionary script`: the first turn is asked for, if the dictionary has a key. Its pairs are

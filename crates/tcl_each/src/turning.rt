@@ -12,8 +12,8 @@ use tcl_frames::Frames;
 use tcl_steps::{Each, Loop, Owes, Scope, Step, Stop};
 
 // The body is to be run, and what is left of the lists is for the next turn.
-fn run_body(mut each: Each) -> Result<Step<Scope, Owes, Loop>, AllocError>
-    ensures { IsAsked result (spec.each_set (each_of each) []) }
+fn run_body(mut each: Box<Each>) -> Result<Step<Scope, Owes, Loop>, AllocError>
+    ensures { IsAsked result (spec.each_set (each_of each.value) []) }
 {
     let script = each.body.copy()?;
     move_lists(&mut each.lists);
@@ -24,9 +24,9 @@ fn run_body(mut each: Each) -> Result<Step<Scope, Owes, Loop>, AllocError>
 fn each_turn(
     alloc: Global,
     frames: &mut Frames,
-    each: Each,
+    each: Box<Each>,
 ) -> Result<Step<Scope, Owes, Loop>, AllocError>
-    ensures { DoesAsk (spec.each_set (each_of each) (each_of each).lists) frames.old result frames.new }
+    ensures { DoesAsk (spec.each_set (each_of each.value) (each_of each.value).lists) frames.old result frames.new }
 {
     match set_lists(alloc, frames, &each.lists) {
         Ok(()) => run_body(each),
@@ -49,13 +49,13 @@ pub fn turned(
     ensures { DoesAsk (spec.turned (loop_of turn)) frames.old result frames.new }
 {
     match turn {
-        Loop::While { test, body } => {
-            let script = body.copy()?;
-            Ok(Step::Run(Scope::Here, script, Owes::WhileBody { test, body }))
+        Loop::While(turns) => {
+            let script = turns.body.copy()?;
+            Ok(Step::Run(Scope::Here, script, Owes::WhileBody(turns)))
         }
-        Loop::For { test, next, body } => {
-            let script = body.copy()?;
-            Ok(Step::Run(Scope::Here, script, Owes::ForBody { test, next, body }))
+        Loop::For(turns) => {
+            let script = turns.body.copy()?;
+            Ok(Step::Run(Scope::Here, script, Owes::ForBody(turns)))
         }
         Loop::ForEach(each) => each_turn(alloc, frames, each),
     }

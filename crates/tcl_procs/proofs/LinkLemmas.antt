@@ -1,5 +1,5 @@
 -- Links that pages make, one after another: upvar(n), global(n).
-use Rattle.std.proofs.Common.{◌≡◌, ◌≢◌, ℕ, zero, suc, ◌-◌, ◌*◌, ◌/◌, ◌%◌, ◌≤◌, ◌==◌, Bool, true, false, not, ◌||◌, List, [], ◌∷◌, length, get_or, take, drop, take_all, map as each, Option, None, Some, Result, Ok, Err, refl, sym, ap, subst, ◌∙◌, arith}
+use Rattle.std.proofs.Common.{◌≡◌, ◌≢◌, ℕ, zero, suc, ◌-◌, ◌*◌, ◌/◌, ◌%◌, ◌≤◌, ◌<◌, ◌==◌, Bool, true, false, not, ◌||◌, List, [], ◌∷◌, length, get_or, take, drop, take_all, map as each, Option, None, Some, Result, Ok, Err, refl, sym, ap, subst, ◌∙◌, arith}
 use Rattle.std.proofs.lemmas.Bool.{ne_eqb}
 use Rattle.std.proofs.lemmas.List.{length-map}
 use Rattle.std.proofs.lemmas.Option.{none-some}
@@ -99,6 +99,13 @@ module _ {Z : Type 0} (page : Asks) (word : Text) (level : Level) (left : List (
   pub pair_stops : (s : Stop) → Ends (link_name word level other local) f (Err s) g → EndsDone page before (Err s) g
   pair_stops (stop.Error c) h = then_becomes pair_here (fails_on (link_name word level other local) (λ u. link_pairs word level pairs_left) f g c h)
   pair_stops stop.Memory h = tt
+
+-- no pair is left
+pub pairs_done : {Z : Type 0} (page : Asks) (word : Text) (level : Level) (left : List (RcStr Z)) (c : Completion) (before f : Standing) → length left < 2 → c ≡ nothing
+    → Becomes page before (link_pairs word level (each text_of left)) f → Comes page before (Has (Done c)) f
+pairs_done page word level [] c before f h e so_far = subst (λ d. Comes page before (Has (Done d)) f) (sym e) so_far
+pairs_done page word level (a ∷ []) c before f h e so_far = subst (λ d. Comes page before (Has (Done d)) f) (sym e) so_far
+pairs_done page word level (a ∷ b ∷ left) c before f h e so_far = absurd (omega arith)
 
 module _ {Z : Type 0} (page : Asks) (left : List (RcStr Z)) (a : RcStr Z) (other name : Text) (before f g : Standing)
     (one : 1 ≤ length left) (first : a ≡ get_or left 0 a) (other_is : other ≡ text_of a) (name_is : name ≡ without_colons other)

@@ -49,7 +49,7 @@ fn run_at(
         return Ok(Step::Done(bad_level(alloc, word)?));
     };
     let script = one_text(alloc, words)?;
-    Ok(Step::Run(Scope::At(level), script, Owes::Nothing))
+    Ok(Step::Run(Scope::of_level(level), script, Owes::Nothing))
 }
 
 /// `uplevel ?level? command ?arg ...?`: the words are to be run as one script, in the frame of the level. The first of them is the

@@ -6,7 +6,7 @@ use Rattle.tcl_meaning.specs.Asking.{Asks, value_step}
 use Rattle.tcl_meaning.specs.Effects.{Plain, Give, Look, Make, Link, Write, Take, HasEnded, Exit, Call, Gives, does, nothing_runs, on_got, ◌>>=◌}
 use Rattle.tcl_meaning.specs.State.{State}
 use Rattle.tcl_meaning.specs.Tasks as tasks
-use Rattle.tcl_meaning.specs.Value.{Value, Has, Fails}
+use Rattle.tcl_meaning.specs.Value.{Has, Fails}
 use Rattle.tcl_frames.specs.Standing.{Standing}
 use Rattle.tcl_steps.proofs.Endings.{gives_on, then_becomes}
 use Rattle.tcl_steps.specs.Asked.{IsAsked, at_once}

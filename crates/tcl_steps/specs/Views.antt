@@ -1,7 +1,7 @@
 -- Steps, and what they are made of, as the definition has them.
-use Rattle.std.specs.Prelude.{List, [], ◌∷◌, drop, map, option_map}
-use Rattle.tcl_frames.specs.Levels.{level_of}
+use Rattle.std.specs.Prelude.{List, [], ◌∷◌, None, Some, drop, map, option_map}
 use Rattle.tcl_meaning.specs.Effects as effects
+use Rattle.tcl_meaning.specs.Frames as frames
 use Rattle.tcl_meaning.specs.Tasks as tasks
 use Rattle.tcl_steps.specs.declared.step.Scope.{Scope}
 use Rattle.tcl_steps.specs.declared.step.Scope.TheVariants as scope
@@ -21,7 +21,8 @@ use Rattle.tcl_steps.specs.declared.step.Step.TheVariants as step
 
 abbrev pub scope_of : Scope → effects.Scope
 scope_of scope.Here = effects.Here
-scope_of (scope.At level) = effects.At (level_of level)
+scope_of (scope.Up n) = effects.At (frames.up n)
+scope_of (scope.At n) = effects.At (frames.at n)
 scope_of (scope.Within variables) = effects.Within variables.value
 
 abbrev pub loop_list_of : LoopList → tasks.LoopList
@@ -35,9 +36,9 @@ abbrev pub each_of : Each → tasks.Each
 each_of e = record { lists = loop_lists_of e.lists.items; body = e.body; results = option_map (λ v. v.items) e.results }
 
 abbrev pub loop_of : Loop → tasks.Loop
-loop_of (loop.While test body) = tasks.While test body
-loop_of (loop.For test next body) = tasks.For test next body
-loop_of (loop.ForEach e) = tasks.ForEach (each_of e)
+loop_of (loop.While w) = tasks.While w.value.test w.value.body
+loop_of (loop.For f) = tasks.For f.value.test f.value.next f.value.body
+loop_of (loop.ForEach e) = tasks.ForEach (each_of e.value)
 
 abbrev pub others_of : Others → tasks.Others
 others_of o = record { clauses = drop o.gone o.clauses.items; otherwise = o.otherwise }
@@ -55,18 +56,21 @@ handlers_of hs = record { clauses = map handler_of hs.clauses.items; finally = h
 abbrev pub owes_of : Owes → tasks.Owes
 owes_of owes.Nothing = tasks.Nothing
 owes_of owes.Leaving = tasks.Leaving
-owes_of (owes.Catching names) = tasks.Catching names.items
-owes_of (owes.IfTest body others) = tasks.IfTest body (others_of others)
-owes_of (owes.WhileTest test body) = tasks.WhileTest test body
-owes_of (owes.ForTest test next body) = tasks.ForTest test next body
-owes_of (owes.WhileBody test body) = tasks.WhileBody test body
-owes_of (owes.ForStart test next body) = tasks.ForStart test next body
-owes_of (owes.ForBody test next body) = tasks.ForBody test next body
-owes_of (owes.ForNext test next body) = tasks.ForNext test next body
-owes_of (owes.EachBody e) = tasks.EachBody (each_of e)
-owes_of (owes.Trying handlers) = tasks.Trying (handlers_of handlers)
-owes_of (owes.Handling finally) = tasks.Handling finally
-owes_of (owes.Finishing before) = tasks.Finishing before
+owes_of owes.Catching = tasks.Catching []
+owes_of (owes.CatchingResult name) = tasks.Catching (name ∷ [])
+owes_of (owes.CatchingOptions names) = tasks.Catching (names.value.0 ∷ names.value.1 ∷ [])
+owes_of (owes.IfTest i) = tasks.IfTest i.value.body (others_of i.value.others)
+owes_of (owes.WhileTest w) = tasks.WhileTest w.value.test w.value.body
+owes_of (owes.ForTest f) = tasks.ForTest f.value.test f.value.next f.value.body
+owes_of (owes.WhileBody w) = tasks.WhileBody w.value.test w.value.body
+owes_of (owes.ForStart f) = tasks.ForStart f.value.test f.value.next f.value.body
+owes_of (owes.ForBody f) = tasks.ForBody f.value.test f.value.next f.value.body
+owes_of (owes.ForNext f) = tasks.ForNext f.value.test f.value.next f.value.body
+owes_of (owes.EachBody e) = tasks.EachBody (each_of e.value)
+owes_of (owes.Trying handlers) = tasks.Trying (handlers_of handlers.value)
+owes_of owes.Handled = tasks.Handling None
+owes_of (owes.Handling finally) = tasks.Handling (Some finally)
+owes_of (owes.Finishing before) = tasks.Finishing before.value
 
 abbrev pub step_of : Step Scope Owes Loop → tasks.Step
 step_of (step.Done c) = tasks.Done c

@@ -1,11 +1,12 @@
 //! How a command ended.
-ghost use Rattle.std.specs.Prelude.{◌≡◌, ◌≢◌, ◌++◌, true, false, IfOk, OnOk};
+ghost use Rattle.std.specs.Prelude.{◌≡◌, ◌≢◌, [], ◌++◌, true, false, IfOk, OnOk};
 ghost use Rattle.tcl_chars.specs.Texts.{literal, text_of};
-ghost use Rattle.tcl_meaning.specs.Completions.{ended, normal, failure, nothing, code_now, code_number, options_text};
+ghost use Rattle.tcl_meaning.specs.Completions.{ended, normal, failure, nothing, code_at, code_now, code_number, options_text};
 ghost use Rattle.tcl_meaning.specs.Handlers.{or_none, error_code};
 ghost use Rattle.tcl_pages.specs.DictPages.{flat, value_at};
 ghost use Rattle.tcl_pages.specs.Texts.{number_text};
 ghost use Rattle.tcl_meaning.specs.declared.code.Code.TheVariants as code;
+ghost use Rattle.tcl_steps.specs.CompletionShape.{code_of, level_of, options_of};
 
 use crate::answers::is_word;
 use std::alloc::{AllocError, Global};
@@ -19,10 +20,30 @@ use tcl_values::Value;
 /// CODES.
 #[derive(Drop)]
 pub struct Completion {
+    pub(crate) result: Value,
+    pub(crate) ending: Ending,
+}
+
+/// How a command ended, but for its result. A code stands here if it is in force, without options.
+#[derive(Drop)]
+pub(crate) enum Ending {
+    Ok,
+    Error,
+    Return,
+    Break,
+    Continue,
+    Other(i64),
+    /// It is ok, and waits for the end of so many procedures, without options.
+    Waiting(u64),
+    Given(Box<Given>),
+}
+
+/// What `return` or `error` was given.
+#[derive(Drop)]
+pub(crate) struct Given {
     /// At level 0 it is in force; above, it waits for the end of that many procedures.
     pub(crate) code: Code,
     pub(crate) level: u64,
-    pub(crate) result: Value,
     pub(crate) options: Vec<(Value, Value)>,
 }
 
@@ -82,24 +103,91 @@ fn error_code_among(alloc: Global, options: &[(Value, Value)]) -> Result<Value, 
     Ok(Value::of_text(message(alloc, "NONE")?))
 }
 
+impl Ending {
+    // The end with a code in force.
+    fn of_code(code: Code) -> Ending
+        ensures code { code_of result ≡ code }
+        ensures level { level_of result ≡ 0 }
+        ensures options { options_of result ≡ [] }
+    {
+        match code {
+            Code::Ok => Ending::Ok,
+            Code::Error => Ending::Error,
+            Code::Return => Ending::Return,
+            Code::Break => Ending::Break,
+            Code::Continue => Ending::Continue,
+            Code::Other(number) => Ending::Other(number),
+        }
+    }
+
+    /// The code, in force or waiting for the end of procedures.
+    pub(crate) fn code(&self) -> Code
+        ensures { result ≡ code_of self.now }
+    {
+        match self {
+            Ending::Ok | Ending::Waiting(_) => Code::Ok,
+            Ending::Error => Code::Error,
+            Ending::Return => Code::Return,
+            Ending::Break => Code::Break,
+            Ending::Continue => Code::Continue,
+            Ending::Other(number) => Code::Other(*number),
+            Ending::Given(given) => given.code,
+        }
+    }
+
+    // For the end of how many procedures the code waits.
+    fn level(&self) -> u64
+        ensures { result ≡ level_of self.now }
+    {
+        match self {
+            Ending::Waiting(level) => *level,
+            Ending::Given(given) => given.level,
+            _ => 0,
+        }
+    }
+
+    // Adds the options that were given, a name and a value in turn.
+    fn add_options(&self, items: &mut Vec<Value>) -> Result<(), AllocError>
+        ensures { OnOk result (items.new.items ≡ items.old.items ++ flat (options_of self.now)) }
+    {
+        match self {
+            Ending::Given(given) => push_options(items, &given.options),
+            _ => Ok(()),
+        }
+    }
+
+    /// The code that is in force.
+    pub(crate) fn code_now(&self) -> Code
+        ensures { result ≡ code_at (level_of self.now) (code_of self.now) }
+    {
+        if self.level() == 0 {
+            self.code()
+        } else {
+            Code::Return
+        }
+    }
+}
+
 impl Completion {
     /// The end with a code in force.
-    pub fn ended(alloc: Global, code: Code, value: Value) -> Completion
+    pub fn ended(_alloc: Global, code: Code, value: Value) -> Completion
         ensures { result ≡ ended code value }
     {
         Completion {
-            code,
-            level: 0,
             result: value,
-            options: Vec::new(alloc),
+            ending: Ending::of_code(code),
         }
     }
 
     /// The end of a command that was ok.
-    pub fn normal(alloc: Global, value: Value) -> Completion
+    #[inline(always)]
+    pub fn normal(_alloc: Global, value: Value) -> Completion
         ensures { result ≡ normal value }
     {
-        Completion::ended(alloc, Code::Ok, value)
+        Completion {
+            result: value,
+            ending: Ending::Ok,
+        }
     }
 
     /// The answer of a command that has nothing to say.
@@ -111,32 +199,42 @@ impl Completion {
     }
 
     /// The error with a message.
-    pub fn failure(alloc: Global, message: RcStr) -> Completion
+    pub fn failure(_alloc: Global, message: RcStr) -> Completion
         ensures { result ≡ failure (text_of message) }
     {
-        Completion::ended(alloc, Code::Error, Value::of_text(message))
-    }
-
-    /// The error with a message, and the options that it was given.
-    pub fn error_with(alloc: Global, message: Value, options: Vec<(Value, Value)>) -> Completion
-        ensures { result ≡ record (failure message) { options = options.items } }
-    {
         Completion {
-            code: Code::Error,
-            level: 0,
-            result: message,
-            options,
+            result: Value::of_text(message),
+            ending: Ending::Error,
         }
     }
 
+    /// The error with a message, and the options that it was given.
+    pub fn error_with(
+        alloc: Global,
+        message: Value,
+        options: Vec<(Value, Value)>,
+    ) -> Result<Completion, AllocError>
+        ensures { IfOk result (λ c. c ≡ record (failure message) { options = options.items }) }
+    {
+        let given = Given {
+            code: Code::Error,
+            level: 0,
+            options,
+        };
+        Ok(Completion {
+            result: message,
+            ending: Ending::Given(Box::new(alloc, given)?),
+        })
+    }
+
     /// The code that is in force.
+    #[inline(always)]
     pub fn code_now(&self) -> Code
         ensures { result ≡ code_now self.now }
     {
-        if self.level == 0 {
-            self.code
-        } else {
-            Code::Return
+        match &self.ending {
+            Ending::Ok => Code::Ok,
+            ending => ending.code_now(),
         }
     }
 
@@ -146,10 +244,10 @@ impl Completion {
     {
         let mut items = Vec::new(alloc);
         items.push(Value::of_text(message(alloc, "-code")?))?;
-        items.push(code_value(self.code))?;
+        items.push(code_value(self.ending.code()))?;
         items.push(Value::of_text(message(alloc, "-level")?))?;
-        items.push(Value::of_count(alloc, self.level)?)?;
-        push_options(&mut items, &self.options)?;
+        items.push(Value::of_count(alloc, self.ending.level())?)?;
+        self.ending.add_options(&mut items)?;
         Value::of_list(alloc, items)
     }
 
@@ -157,15 +255,22 @@ impl Completion {
     pub fn error_code(&self, alloc: Global) -> Result<Value, AllocError>
         ensures { IfOk result (λ code. code ≡ error_code self.now) }
     {
-        error_code_among(alloc, &self.options)
+        match &self.ending {
+            Ending::Given(given) => error_code_among(alloc, &given.options),
+            _ => Ok(Value::of_text(message(alloc, "NONE")?)),
+        }
     }
 
     /// Is the code that is in force ok?
+    #[inline(always)]
     pub fn is_ok(&self) -> bool
         ensures is { result ≡ true → code_now self.now ≡ code.Ok }
         ensures other { result ≡ false → code_now self.now ≢ code.Ok }
     {
-        self.code_now() == Code::Ok
+        match &self.ending {
+            Ending::Ok => true,
+            ending => ending.code_now() == Code::Ok,
+        }
     }
 
     /// The result, or the message.
@@ -176,6 +281,7 @@ impl Completion {
     }
 
     /// The result, or the message, and nothing else.
+    #[inline(always)]
     pub fn into_result(self) -> Value
         ensures { result ≡ self.result }
     {

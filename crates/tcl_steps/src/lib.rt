@@ -16,6 +16,9 @@ mod variables;
 pub use answers::{is_word, usage};
 pub use completion::{Completion, code_number, code_value};
 pub use fault::Fault;
-pub use step::{Catches, Each, Handler, Handlers, Loop, LoopList, Others, Owes, Scope, Step};
+pub use step::{
+    Catches, Each, ForLoop, Handler, Handlers, IfTest, Loop, LoopList, Others, Owes, Scope, Step,
+    WhileLoop,
+};
 pub use stop::{Stop, closed, stop_by};
 pub use variables::{assign, read, remove};

@@ -1,4 +1,8 @@
 //! What commands that run scripts ask for, and what they owe then.
+ghost use Rattle.std.specs.Prelude.{◌≡◌};
+ghost use Rattle.tcl_frames.specs.Levels.{level_of};
+ghost use Rattle.tcl_meaning.specs.Effects as effects;
+ghost use Rattle.tcl_steps.specs.Views.{scope_of};
 
 use crate::completion::Completion;
 use tcl_frames::{Level, Variable};
@@ -11,10 +15,39 @@ use tcl_values::{Row, Value};
 pub enum Scope {
     /// The active one.
     Here,
-    /// The one of a level: uplevel(n).
-    At(Level),
+    /// The one that is this number of callers up: uplevel(n).
+    Up(usize),
+    /// The one of this level, among the active one and its callers.
+    At(usize),
     /// A new one that the active one calls, with these variables: proc(n).
     Within(Box<PlacedNames<Variable>>),
+}
+
+impl Scope {
+    /// The one of a level.
+    pub fn of_level(level: Level) -> Scope
+        ensures { scope_of result ≡ effects.At (level_of level) }
+    {
+        match level {
+            Level::Up(callers) => Scope::Up(callers),
+            Level::At(number) => Scope::At(number),
+        }
+    }
+}
+
+/// What is run while a condition holds: while(n).
+#[derive(Drop)]
+pub struct WhileLoop {
+    pub test: Value,
+    pub body: Value,
+}
+
+/// The same, with what is run behind each turn: for(n).
+#[derive(Drop)]
+pub struct ForLoop {
+    pub test: Value,
+    pub next: Value,
+    pub body: Value,
 }
 
 /// Names of loop variables, and the elements that are left for them: foreach(n).
@@ -38,16 +71,9 @@ pub struct Each {
 /// A loop that stands before its next turn.
 #[derive(Drop)]
 pub enum Loop {
-    While {
-        test: Value,
-        body: Value,
-    },
-    For {
-        test: Value,
-        next: Value,
-        body: Value,
-    },
-    ForEach(Each),
+    While(Box<WhileLoop>),
+    For(Box<ForLoop>),
+    ForEach(Box<Each>),
 }
 
 /// The conditions of an `if` with their bodies, and what it runs if none holds.
@@ -57,6 +83,14 @@ pub struct Others {
     /// The number of those that have been evaluated.
     pub gone: usize,
     pub otherwise: Option<Value>,
+}
+
+/// A condition of an `if` that is evaluated: if(n).
+#[derive(Drop)]
+pub struct IfTest {
+    /// What is run if it holds.
+    pub body: Value,
+    pub others: Others,
 }
 
 /// What a handler of `try` waits for: try(n).
@@ -85,54 +119,36 @@ pub struct Handlers {
     pub finally: Option<Value>,
 }
 
-/// What a command has still to do when what it asked for has ended.
+/// What a command has still to do when what it asked for has ended. What is wide stands in a box, which a loop hands on from turn to
+/// turn.
 #[derive(Drop)]
 pub enum Owes {
     /// Nothing: the completion is the command's.
     Nothing,
     /// A procedure's body has ended.
     Leaving,
-    /// `catch`: the completion goes into these variables.
-    Catching(Vec<Value>),
-    IfTest {
-        body: Value,
-        others: Others,
-    },
-    WhileTest {
-        test: Value,
-        body: Value,
-    },
-    ForTest {
-        test: Value,
-        next: Value,
-        body: Value,
-    },
-    WhileBody {
-        test: Value,
-        body: Value,
-    },
-    ForStart {
-        test: Value,
-        next: Value,
-        body: Value,
-    },
-    ForBody {
-        test: Value,
-        next: Value,
-        body: Value,
-    },
-    ForNext {
-        test: Value,
-        next: Value,
-        body: Value,
-    },
-    EachBody(Each),
+    /// `catch`: the completion goes into no variable.
+    Catching,
+    /// `catch`: the result goes into this variable.
+    CatchingResult(Value),
+    /// `catch`: the result goes into the first of these variables, and the options into the second one.
+    CatchingOptions(Box<(Value, Value)>),
+    IfTest(Box<IfTest>),
+    WhileTest(Box<WhileLoop>),
+    WhileBody(Box<WhileLoop>),
+    ForStart(Box<ForLoop>),
+    ForTest(Box<ForLoop>),
+    ForBody(Box<ForLoop>),
+    ForNext(Box<ForLoop>),
+    EachBody(Box<Each>),
     /// The body of a `try` has ended.
-    Trying(Handlers),
-    /// A handler's script has ended, and `finally` comes next.
-    Handling(Option<Value>),
+    Trying(Box<Handlers>),
+    /// A handler's script has ended, and no `finally` comes next.
+    Handled,
+    /// A handler's script has ended, and this script of `finally` comes next.
+    Handling(Value),
     /// The script of `finally` has ended, behind this completion.
-    Finishing(Completion),
+    Finishing(Box<Completion>),
 }
 
 /// What a command asks for before it goes on: where a script is run is an `S`, what is owed then an `O`, a loop an `L`.

@@ -10,4 +10,4 @@ pub returns-then-words-gt3 : goal.returns-then-words-gt3
 returns-then-words-gt3 c = subst (IsAsked c.error_usage-then-words-gt3.result) (sym (more_error_words c.args.words.now c.if-words-gt3.true)) c.error_usage-then-words-gt3.ensures
 
 pub returns : goal.returns
-returns c = ap at_once (error_asks c.args.words.now _ _ _ c.if-words-eq0.false c.if-words-gt3.false c.in_ok-message.ensures c.in_ok-options.ensures c.error_with.ensures)
+returns c = ap at_once (error_asks c.args.words.now _ _ _ c.if-words-eq0.false c.if-words-gt3.false c.in_ok-message.ensures c.in_ok-options.ensures c.in_ok-error_with.ensures)

@@ -4,7 +4,7 @@ use Rattle.std.specs.Str.{chars}
 use Rattle.tcl_chars.specs.Texts.{text_of}
 use Rattle.tcl_frames.specs.Levels.{level_of}
 use Rattle.tcl_meaning.specs.ProcedurePages.{link_pairs}
-use Rattle.tcl_procs.proofs.LinkLemmas.{pair_linked, pair_stops}
+use Rattle.tcl_procs.proofs.LinkLemmas.{pair_linked, pair_stops, pairs_done}
 use Rattle.tcl_procs.proofs.links.link_pairs.Goals as goal
 
 pub pairs-preserved : goal.pairs-preserved
@@ -24,3 +24,8 @@ returns-in_err-link_name c =
     (pair_stops (link_pairs word level (each text_of c.args.names.now)) word level c.pairs.left.now c.other-item.result c.local-item.result (chars c.as_str.result.now) (chars c.as_str-in-len2-up.result.now)
     c.args.frames.now c.pairs.frames c.link_name.new.frames c.in-len2-up.len_at_least c.other-item.is c.local-item.is (ap chars c.as_str.ensures.value) (ap chars c.as_str-in-len2-up.ensures.value) c.pairs.invariant
     _ c.in_err-link_name.ensures)
+
+pub returns : goal.returns
+returns c =
+    pairs_done (link_pairs (chars c.args.word.now) (level_of c.args.level) (each text_of c.args.names.now)) (chars c.args.word.now) (level_of c.args.level) c.pairs.left.now c.in_ok-nothing.field-0 c.args.frames.now c.pairs.frames
+    c.in_default.len_below c.in_ok-nothing.ensures c.pairs.invariant

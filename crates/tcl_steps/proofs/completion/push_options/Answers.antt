@@ -1,4 +1,4 @@
-use Rattle.std.proofs.Common.{List, ◌∷◌, [], ◌++◌, ap, ◌∙◌}
+use Rattle.std.proofs.Common.{◌∷◌, [], ◌++◌, ap, ◌∙◌}
 use Rattle.tcl_pages.specs.Texts.{Text}
 use Rattle.tcl_steps.proofs.OptionLemmas.{one_option}
 use Rattle.tcl_steps.proofs.completion.push_options.Goals as goal

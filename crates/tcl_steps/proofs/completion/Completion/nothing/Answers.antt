@@ -1,4 +1,4 @@
-use Rattle.std.proofs.Common.{◌≡◌, ap, ◌∙◌}
+use Rattle.std.proofs.Common.{ap, ◌∙◌}
 use Rattle.std.proofs.lemmas.Str.{chars-nil}
 use Rattle.tcl_meaning.specs.Completions.{normal}
 use Rattle.tcl_steps.proofs.completion.Completion.nothing.Goals as goal

@@ -7,7 +7,7 @@ use Rattle.tcl_meaning.specs.Control.{next_clause}
 use Rattle.tcl_meaning.specs.Effects.{Here}
 use Rattle.tcl_meaning.specs.Tasks.{Run, Nothing}
 use Rattle.tcl_steps.specs.Views.{others_of}
-use Rattle.tcl_control.proofs.conditions.after_if_test.Goals as goal
+use Rattle.tcl_control.proofs.conditions.after_condition.Goals as goal
 
 pub returns-in-Ends : goal.returns-in-Ends
 returns-in-Ends c = test_ends _ _ (ask (Run Here c.args.body Nothing)) (next_clause (others_of c.args.others).clauses (others_of c.args.others).otherwise) _ (c.in_ok-completion.ensures (ask (Run Here c.args.body Nothing)) (next_clause (others_of c.args.others).clauses (others_of c.args.others).otherwise)) c.in-Ends.is
