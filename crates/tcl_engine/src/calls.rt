@@ -1,5 +1,7 @@
 //! Commands that are called.
 ghost use Rattle.std.specs.Prelude.{◌≡◌, ◌≤◌, ◌∷◌, [], List, None, false, length};
+ghost use Rattle.std.specs.FinMap as map;
+ghost use Rattle.std.specs.Option.{option_copied};
 ghost use Rattle.std.specs.Str.{chars};
 ghost use Rattle.tcl_activation.specs.Called.{words_of, without_words};
 ghost use Rattle.tcl_chars.specs.declared.numbers.Dialect.{Dialect as Numbers};
@@ -9,12 +11,14 @@ ghost use Rattle.tcl_engine.specs.AsStep.{as_step, told_step};
 ghost use Rattle.tcl_engine.specs.Hosts.{shown, HostLeaves};
 ghost use Rattle.tcl_meaning.specs.Asking as asking;
 ghost use Rattle.tcl_meaning.specs.Completions.{nothing};
+ghost use Rattle.tcl_meaning.specs.Names as names;
 ghost use Rattle.tcl_meaning.specs.State.{State};
 ghost use Rattle.tcl_meaning.specs.VariablePages as spec;
 ghost use Rattle.tcl_meaning.specs.Pages.{page_asks, command_asks, built_in_asks, ensemble_asks, subcommand_asks, invoked};
 ghost use Rattle.tcl_pages.specs.Texts.{Text};
 ghost use Rattle.tcl_vm.specs.Engines.{is_io};
 
+use crate::at_once::command_named;
 use crate::channels::over_channels;
 use crate::control::at_once;
 use crate::frames::{done, over_frames};
@@ -35,7 +39,7 @@ use tcl_pages::PurePage;
 use tcl_procs::call_procedure;
 use tcl_pure::{pure_page, subcommand, subcommand_usage, unknown_subcommand};
 use tcl_steps::{Completion, Loop, Owes, Scope, Step};
-use tcl_table::Meaning;
+use tcl_table::{Command, Meaning, Table};
 use tcl_values::Value;
 use tcl_vars::{lassign, set, update};
 use tcl_vm::Stop;
@@ -70,6 +74,17 @@ fn unknown_word(
     ensures { (dialect : Numbers) (words : List Text) → IsAsked result (subcommand_asks dialect ensemble (chars word.now) None words) }
 {
     Ok(Step::Done(unknown_subcommand(alloc, ensemble, word)?))
+}
+
+// The command that a word stands for now, which is given as a value too.
+fn found<'a>(table: &'a Table, word: &str, first: &Value) -> Option<&'a Command>
+    requires { first.now ≡ chars word.now }
+    ensures { option_copied result ≡ map.get table.now (names.without_colons (chars word.now)) }
+{
+    match command_named(table, first) {
+        Some(command) => Some(command),
+        None => table.find(without_colons(word)),
+    }
 }
 
 // What a command asks for, or how it is done.
@@ -230,12 +245,19 @@ impl<V: Devices> Host<'_, '_, '_, '_, V> {
         }
     }
 
-    // The command that a word stands for now.
-    fn command(&mut self, dialect: Dialect, word: &str, words: &mut [Value]) -> Result<Told, Stop>
+    // The command that a word stands for now, which is given as a value too.
+    fn command(
+        &mut self,
+        dialect: Dialect,
+        word: &str,
+        first: &Value,
+        words: &mut [Value],
+    ) -> Result<Told, Stop>
+        requires { first.now ≡ chars word.now }
         ensures answered { Answered (invoked dialect (chars word.now ∷ words.old)) (shown V.channels self.old) (as_step result) (shown V.channels self.new) }
         ensures leaves { HostLeaves V.leaves (is_io result) self.old self.new }
     {
-        match self.table.find(without_colons(word)) {
+        match found(self.table, word, first) {
             None => told(asked(unknown(self.alloc, word))),
             Some(command) => match command.meaning() {
                 Meaning::BuiltIn(built_in) => self.built_in(dialect, built_in, words),
@@ -255,7 +277,8 @@ impl<V: Devices> Host<'_, '_, '_, '_, V> {
             return told(asked(no_words(self.alloc)));
         }
         let word = text_at(self.alloc, words, 0)?;
-        self.command(dialect, word.as_str(), &mut words[1..])
+        let first = words[0].copy()?;
+        self.command(dialect, word.as_str(), &first, &mut words[1..])
     }
 
     /// Calls the command whose words lie on top of a code's texts, where they stay until it is done.
