@@ -34,6 +34,7 @@ use Rattle.tcl_values.specs.declared.element.Entry.TheVariants as entry
 use Rattle.tcl_values.specs.declared.element.Element.TheInside as element
 use Rattle.tcl_values.specs.declared.literal.Literal.{Literal}
 use Rattle.tcl_values.specs.declared.literal.Numbers.{Numbers}
+use Rattle.tcl_values.specs.declared.named.Named.{Named}
 use Rattle.tcl_values.specs.declared.value.Growing.{Growing}
 use Rattle.tcl_values.specs.declared.value.Held.{Held}
 use Rattle.tcl_values.specs.declared.value.Held.TheVariants as held
@@ -123,10 +124,14 @@ AreNumbers ns t = (dialect : Dialect) → whole_of dialect t ≡ Number (number_
 
 -- what is known of a text of a script beside it
 pub record IsLiteral (l : Literal) : Type 0 where
-  pub key : IsKeyOf l.key (rc_str_bytes l.text)
   pub ascii : OnTrue l.ascii (IsAscii (rc_str_bytes l.text))
   pub numbers : IfSome l.numbers (λ ns. AreNumbers ns (text_of l.text))
   pub marks : AreMarks l.marks.before.items (rc_str_bytes l.text)
+
+-- what is known of a text that may be a name beside it
+pub record IsNamed (n : Named) : Type 0 where
+  pub key : IsKeyOf n.key (rc_str_bytes n.text)
+  pub ascii : OnTrue n.ascii (IsAscii (rc_str_bytes n.text))
 
 -- a list without a text of its own, and how it is written
 pub record IsWritten (r : Items) (t : String Global) : Type 0 where
@@ -187,6 +192,7 @@ abbrev pub held_text : Held → List ℕ
 held_text (held.Number n) = signed_decimal n
 held_text (held.Text s) = text_of s
 held_text (held.Ascii s) = text_of s
+held_text (held.Name n) = text_of n.value.text
 held_text (held.Grown s) = chars (string_bytes s.value.text)
 held_text (held.Composed s) = composed_text s.value
 held_text (held.Literal l) = text_of l.value.text
@@ -197,6 +203,7 @@ abbrev pub IsHeld : Held → Type 0
 IsHeld (held.Number n) = FitsSigned w64 n
 IsHeld (held.Text s) = ⊤
 IsHeld (held.Ascii s) = IsAscii (rc_str_bytes s)
+IsHeld (held.Name n) = IsNamed n.value
 IsHeld (held.Grown s) = IsGrown s.value
 IsHeld (held.Composed s) = IsGrown s.value.growing
 IsHeld (held.Literal l) = IsLiteral l.value
@@ -207,6 +214,7 @@ abbrev pub is_row : Held → Bool
 is_row (held.Number n) = false
 is_row (held.Text s) = false
 is_row (held.Ascii s) = false
+is_row (held.Name n) = false
 is_row (held.Grown s) = false
 is_row (held.Composed s) = false
 is_row (held.Literal l) = false
@@ -217,6 +225,7 @@ abbrev pub is_dict : Held → Bool
 is_dict (held.Number n) = false
 is_dict (held.Text s) = false
 is_dict (held.Ascii s) = false
+is_dict (held.Name n) = false
 is_dict (held.Grown s) = false
 is_dict (held.Composed s) = false
 is_dict (held.Literal l) = false
@@ -228,6 +237,7 @@ abbrev pub elements_held : Held → List Kept
 elements_held (held.Number n) = []
 elements_held (held.Text s) = []
 elements_held (held.Ascii s) = []
+elements_held (held.Name n) = []
 elements_held (held.Grown s) = []
 elements_held (held.Composed s) = []
 elements_held (held.Literal l) = []
@@ -239,6 +249,7 @@ abbrev pub pairs_held : Held → dictionaries.Pairs
 pairs_held (held.Number n) = []
 pairs_held (held.Text s) = []
 pairs_held (held.Ascii s) = []
+pairs_held (held.Name n) = []
 pairs_held (held.Grown s) = []
 pairs_held (held.Composed s) = []
 pairs_held (held.Literal l) = []

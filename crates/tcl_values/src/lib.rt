@@ -4,8 +4,8 @@
 //! What is kept is shared by copies of a value and copied where one of them is changed. A change of a value that has no copy is
 //! made in place.
 //!
-//! - [`Value`]: made by `of_text`, `of_shared`, `of_literal`, `of_string`, `of_int`, `of_list`; copied by `copy`. Read by `text`,
-//!   `shown`, `ascii` and `places`, as a number by `whole`, and without any reading by `number` and `known_number`, as a list by
+//! - [`Value`]: made by `of_text`, `of_shared`, `of_literal`, `of_name`, `of_string`, `of_int`, `of_list`; copied by `copy`. Read by `text`,
+//!   `shown`, `ascii` and `places`, as a number by `whole`, and without any reading by `number` and `known_number`, as a name by `sought` and `sought_command`, as a list by
 //!   `count`, `item`, `row`, `list`, `range`. Changed by
 //!   `append` at the end of the text, and as a list by `push`, `replace_item` and `splice`; `take_item` lends an element to a change.
 //!   As a dictionary made by `of_dict`, read by `dict_size`, `dict_get`, `dictionary`, changed by `dict_put`, `dict_remove` and
@@ -32,6 +32,7 @@ mod items;
 mod list;
 mod literal;
 mod marks;
+mod named;
 mod numerals;
 mod pairs;
 mod places;

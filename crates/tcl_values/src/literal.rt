@@ -16,18 +16,11 @@ use crate::value::{Held, Value};
 use std::alloc::{AllocError, Global};
 use std::rc::{Rc, RcStr};
 use tcl_chars::{Dialect, Whole, read_whole};
-use tcl_names::{Hint, NameKey, Sought};
 
 /// A text of a script, or another long one. What it is read as is kept beside it, once it has been read, for all who hold the text.
 #[derive(Drop)]
 pub(crate) struct Literal {
     pub(crate) text: RcStr,
-    /// Its key as a name.
-    key: NameKey,
-    /// Where a variable of this name was found last.
-    variable: Hint,
-    /// Where a command of this name was found last.
-    command: Hint,
     /// Is it known to be ASCII?
     ascii: bool,
     /// The numbers that it is read as, where it begins as a number does and is one in each dialect.
@@ -81,12 +74,8 @@ impl Literal {
         let ascii = text.as_str().is_ascii();
         let numbers = Numbers::read(text.as_str());
         let marks = Marks::of(alloc, text.as_str(), ascii);
-        let key = NameKey::of(text.as_str());
         Literal {
             text,
-            key,
-            variable: Hint::new(),
-            command: Hint::new(),
             ascii,
             numbers,
             marks,
@@ -101,12 +90,8 @@ impl Literal {
         ensures text { result.text ≡ text }
         ensures known { IsLiteral result }
     {
-        let key = NameKey::of(text.as_str());
         Literal {
             text,
-            key,
-            variable: Hint::new(),
-            command: Hint::new(),
             ascii,
             numbers: None,
             marks,
@@ -133,24 +118,6 @@ impl Literal {
         ensures { result ≡ text_of self.now.text }
     {
         Places::known(self.text.as_str(), self.ascii, &self.marks.before)
-    }
-
-    /// The text as the name of a variable that is looked for.
-    #[inline(always)]
-    fn sought(&self) -> Sought<'_>
-        requires { IsLiteral self.now }
-        ensures { result ≡ text_of self.now.text }
-    {
-        Sought::keyed(self.text.as_str(), self.key, &self.variable)
-    }
-
-    /// The text as the name of a command that is looked for.
-    #[inline(always)]
-    fn sought_command(&self) -> Sought<'_>
-        requires { IsLiteral self.now }
-        ensures { result ≡ text_of self.now.text }
-    {
-        Sought::keyed(self.text.as_str(), self.key, &self.command)
     }
 
     /// The number that the text is read as, where it was read when the literal was made.
@@ -199,28 +166,5 @@ impl Value {
         Ok(Value {
             held: with_room(alloc, text, ascii, marks)?,
         })
-    }
-
-    /// Its text as the name of a variable that is looked for, where it is a text of a script (`of_literal`), or a long one whose
-    /// readings all copies share.
-    #[inline(always)]
-    pub fn sought(&self) -> Option<Sought<'_>>
-        ensures { IfSome result (λ name. name ≡ self.now) }
-    {
-        match &self.held {
-            Held::Literal(literal) => Some(literal.sought()),
-            _ => None,
-        }
-    }
-
-    /// The same, as the name of a command.
-    #[inline(always)]
-    pub fn sought_command(&self) -> Option<Sought<'_>>
-        ensures { IfSome result (λ name. name ≡ self.now) }
-    {
-        match &self.held {
-            Held::Literal(literal) => Some(literal.sought_command()),
-            _ => None,
-        }
     }
 }

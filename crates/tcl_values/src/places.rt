@@ -158,6 +158,7 @@ impl Value {
             Held::Number(_) => None,
             Held::Text(text) => Some(Places::of(text.as_str())),
             Held::Ascii(text) => Some(Places::known(text.as_str(), true, &[])),
+            Held::Name(name) => Some(name.places()),
             Held::Grown(grown) => Some(grown.places()),
             Held::Composed(composed) => Some(composed.growing.places()),
             Held::Literal(literal) => Some(literal.places()),

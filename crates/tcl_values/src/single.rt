@@ -11,7 +11,6 @@ ghost use Rattle.tcl_values.specs.Singles.{is_plain};
 use crate::digits::number_element;
 use crate::element::Items;
 use crate::items::gathered;
-use crate::literal::LONG;
 use crate::value::Held;
 use std::alloc::{AllocError, Global};
 use std::rc::Rc;
@@ -60,10 +59,9 @@ impl Held {
             Held::Number(_) => true,
             Held::Text(text) => is_word(text.as_str()),
             Held::Ascii(text) => is_word(text.as_str()),
+            Held::Name(name) => is_word(name.text.as_str()),
             Held::Grown(grown) => is_word(grown.text.as_str()),
             Held::Composed(composed) => is_word(composed.growing.text.as_str()),
-            // a long one keeps what it was read as
-            Held::Literal(literal) => literal.text.len() < LONG && is_word(literal.text.as_str()),
             _ => false,
         }
     }

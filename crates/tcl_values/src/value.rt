@@ -13,6 +13,7 @@ use crate::element::{Items, Pairs};
 use crate::items::{row_text, show};
 use crate::literal::Literal;
 use crate::marks::{Marks, stays_ascii};
+use crate::named::Named;
 use crate::pairs::{dict_text, show_pairs};
 use itoa::Buffer;
 use std::alloc::{AllocError, Global};
@@ -35,6 +36,8 @@ pub(crate) enum Held {
     Text(RcStr),
     /// A text that is known to be ASCII: its characters are its bytes.
     Ascii(RcStr),
+    /// A text of a script that may be a name.
+    Name(Rc<Named>),
     /// A text that has grown under a key of a dictionary, and grows at its end.
     Grown(Rc<Growing>),
     /// A text that was composed, and grows at its end.
@@ -187,6 +190,7 @@ impl Held {
             Held::Number(n) => number_text(alloc, *n),
             Held::Text(text) => text.clone(),
             Held::Ascii(text) => text.clone(),
+            Held::Name(name) => name.text.clone(),
             Held::Grown(grown) => RcStr::from_str(alloc, grown.text.as_str()),
             Held::Composed(composed) => RcStr::from_str(alloc, composed.growing.text.as_str()),
             Held::Literal(literal) => literal.text.clone(),
@@ -324,6 +328,7 @@ impl Value {
             Held::Number(n) => Held::Number(*n),
             Held::Text(text) => Held::Text(text.clone()?),
             Held::Ascii(text) => Held::Ascii(text.clone()?),
+            Held::Name(name) => Held::Name(name.clone()?),
             Held::Grown(grown) => Held::Grown(grown.clone()?),
             Held::Composed(composed) => Held::Composed(composed.clone()?),
             Held::Literal(literal) => Held::Literal(literal.clone()?),
@@ -341,6 +346,7 @@ impl Value {
             Held::Number(_) => None,
             Held::Text(text) => Some(text.as_str()),
             Held::Ascii(text) => Some(text.as_str()),
+            Held::Name(name) => Some(name.text.as_str()),
             Held::Grown(grown) => Some(grown.text.as_str()),
             Held::Composed(composed) => Some(composed.growing.text.as_str()),
             Held::Literal(literal) => Some(literal.text.as_str()),
@@ -363,6 +369,7 @@ impl Value {
     {
         match &self.held {
             Held::Ascii(text) => Some(text.as_str()),
+            Held::Name(name) => name.known_ascii(),
             Held::Grown(grown) => grown.known_ascii(),
             Held::Composed(composed) => composed.growing.known_ascii(),
             Held::Literal(literal) => literal.known_ascii(),
