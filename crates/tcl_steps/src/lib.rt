@@ -21,4 +21,4 @@ pub use step::{
     WhileLoop,
 };
 pub use stop::{Stop, closed, stop_by};
-pub use variables::{assign, read, remove};
+pub use variables::{assign, assign_near, read, remove};
