@@ -1,11 +1,11 @@
 //! All frames of a script.
-ghost use Rattle.std.specs.Prelude.{◌≡◌, ◌<◌, ◌≤◌, if◌then◌else◌, length, take, ◌++◌, ◌∷◌, [], None, Some, Ok, Err, IfOk, IfErr, IfSome, OnOk, OnErr};
+ghost use Rattle.std.specs.Prelude.{◌≡◌, true, ◌<◌, ◌≤◌, if◌then◌else◌, length, take, ◌++◌, ◌∷◌, [], None, Some, Ok, Err, IfOk, IfErr, IfSome, OnOk, OnErr};
 ghost use Rattle.std.specs.FinMap as map;
 ghost use Rattle.std.specs.Str.{chars};
 ghost use Rattle.tcl_meaning.specs.Frames.{global_frame, whole};
 ghost use Rattle.tcl_meaning.specs.Links.{destination, link_at, links_of, spot_in};
 ghost use Rattle.tcl_meaning.specs.Names.{divided_name};
-ghost use Rattle.tcl_frames.specs.Parts.{name_of};
+ghost use Rattle.tcl_frames.specs.Parts.{name_of, plain_name};
 ghost use Rattle.tcl_frames.specs.Places.{spot, spot_of};
 ghost use Rattle.tcl_meaning.specs.State.{Commands};
 ghost use Rattle.tcl_meaning.specs.Variables.{get, put_change, remove_change};
@@ -16,7 +16,7 @@ ghost use Rattle.tcl_frames.specs.Refusals.{Refuses};
 
 use crate::all_variables::AllVariables;
 use crate::fault::VarFault;
-use crate::name::{Name, Part, divide};
+use crate::name::{Name, Part, divide, is_plain};
 use crate::place::Place;
 use crate::stack::Stack;
 use crate::variable::Variable;
@@ -67,7 +67,7 @@ impl Frames {
         self.find_afar(name, &Hint::new())
     }
 
-    /// The same as `find`: quick where the name has a key and stands where it was found last.
+    /// The same as `find`: quick where it stands where it was found last, and above all where the name has a key.
     #[inline(always)]
     pub fn find_near(&self, name: &Sought<'_>) -> Result<&Value, Refusal>
         ensures found { (cs : Commands) → IfOk result (λ value. get (store_of cs self.now) name.now ≡ Ok value.now) }
@@ -124,7 +124,7 @@ impl Frames {
         self.put_afar(alloc, name, &Hint::new(), value)
     }
 
-    /// The same as `put`: quick where the name has a key and stands where it was found last.
+    /// The same as `put`: quick where it stands where it was found last, and above all where the name has a key.
     #[inline(always)]
     pub fn put_near(
         &mut self,
@@ -172,14 +172,25 @@ impl Frames {
     }
 }
 
-// The active frame, where a name has a key and no name of the frame is a link: there the variable of this name stands.
+// Is a name a variable's as a whole, and written without its frame? Its key tells, or else its bytes.
+#[inline(always)]
+fn is_whole(name: &Sought<'_>) -> bool
+    ensures { result ≡ true → divided_name name.now ≡ plain_name name.now }
+{
+    if name.is_keyed() {
+        return true;
+    }
+    is_plain(name.as_str())
+}
+
+// The active frame, where it is the one in which the variable of a name stands: none of its names is a link.
 #[inline(always)]
 pub(crate) fn own_frame(stack: &Stack, name: &Sought<'_>) -> Option<usize>
     ensures leads { IfSome result (λ frame. spot frame name.now whole ≡ spot_in stack.now.frames stack.now.active (divided_name name.now)) }
     ensures there { IfSome result (λ frame. frame < length stack.now.frames) }
     ensures whole { IfSome result (λ frame. (divided_name name.now).part ≡ whole) }
 {
-    if name.is_keyed() && stack.has_no_link() {
+    if is_whole(name) && stack.has_no_link() {
         return Some(stack.active());
     }
     None

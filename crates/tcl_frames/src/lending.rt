@@ -31,7 +31,7 @@ impl Frames {
         self.place_afar(alloc, name, &Hint::new())
     }
 
-    /// The same as `place`: quick where the name has a key and stands where it was found last.
+    /// The same as `place`: quick where it stands where it was found last, and above all where the name has a key.
     #[inline(always)]
     pub fn place_near(&mut self, alloc: Global, name: &Sought<'_>) -> Result<&mut Value, VarFault>
         ensures* writes_back { sem 𝓛 (LendsPlace self.entry name.entry.now result) }
@@ -47,7 +47,7 @@ impl Frames {
         }
     }
 
-    // The active frame, where a name has a key and no name of the frame is a link: there the variable of this name stands.
+    // The active frame, where it is the one in which the variable of a name stands: none of its names is a link.
     #[inline(always)]
     fn frame_of(&self, name: &Sought<'_>) -> Option<usize>
         ensures leads { (cs : Commands) → IfSome result (λ frame. spot frame name.now whole ≡ place_named (store_of cs self.now) (divided_name name.now)) }
