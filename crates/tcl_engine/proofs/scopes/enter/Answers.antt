@@ -1,13 +1,7 @@
 use Rattle.std.proofs.Common.{ap}
 use Rattle.tcl_steps.specs.Views.{scope_of}
-use Rattle.tcl_engine.proofs.Scoping.{at_entered, at_can, within_entered, within_can}
+use Rattle.tcl_engine.proofs.Scoping.{within_entered, within_can}
 use Rattle.tcl_engine.proofs.scopes.enter.Goals as goal
-
-pub returns-in-Some-clause-entered : goal.returns-in-Some-clause-entered
-returns-in-Some-clause-entered c = at_entered (scope_of c.args.scope) _ c.in-Some.frame c.args.frames.now c.activate.new.self (ap scope_of c.in-At.is) c.in-Some.ensures.found c.activate.ensures.active
-
-pub returns-in-Some-clause-can : goal.returns-in-Some-clause-can
-returns-in-Some-clause-can c = λ cs channels units. at_can c.in-Some.frame c.activate.result c.args.frames.now c.activate.new.self c.activate.ensures.there c.activate.ensures.active
 
 pub returns-in_ok-push_call-in-Within-clause-entered : goal.returns-in_ok-push_call-in-Within-clause-entered
 returns-in_ok-push_call-in-Within-clause-entered c = within_entered (scope_of c.args.scope) _ _ c.args.frames.now c.push_call.new.self (ap scope_of c.in-Within.is) c.into_inner.ensures c.in_ok-push_call-in-Within.ensures.done
