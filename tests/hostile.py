@@ -19,7 +19,7 @@ sys.dont_write_bytecode = True
 import rows
 from limits import limits
 from program import TOP, Program, Wrong
-from refusing import Refusing, build
+from refusing import Refusing, build, compilers, kit_compilers
 
 SPENT = b"budget spent\n"
 MOST_BUDGETS = 1100
@@ -136,7 +136,7 @@ def sweep_all(count, tested, room, words):
         tests = chosen("budgets", [row for row in found if not row.has_options], word, budgets.sweep)
         count.of("budgets", tests, lambda: budgets.runs)
         try:
-            refusing = Refusing(tested.path, build(room), pool)
+            refusing = Refusing(tested.path, build(room, compilers()), pool)
         except Wrong as what:
             count.failed += 1
             print(f"FAIL refusing: {what}", flush=True)
@@ -161,11 +161,33 @@ def call_all(count, room, words):
         def test():
             row = rows.calls_row()
             row.settle(tested, room)
-            refusing.library = build(room)
+            refusing.library = build(room, compilers())
             refusing.sweep(row, False)
             refusing.sweep(row, True)
 
         count.of("single calls, refused and made again", [(name, test)], lambda: refusing.runs)
+
+
+def build_all(count, room, words):
+    """The library that refuses: the kit's compiler alone builds it, and where there is none, that is a failure that says so."""
+
+    def by_none():
+        try:
+            build(room, [])
+        except Wrong as what:
+            if "none is there" in str(what):
+                return
+            raise
+        raise Wrong("the library was built by no compiler")
+
+    tests = [("compilers/none", by_none)]
+    if kit_compilers():
+        tests.append(("compilers/of-the-kit", lambda: build(room, kit_compilers())))
+        tests.append(("compilers/behind-one-that-fails", lambda: build(room, ["false", *kit_compilers()])))
+    word = words[0] if words else ""
+    for name, test in tests:
+        if word in name:
+            count.test(name, test)
 
 
 def limit_all(count, tested, room, words):
@@ -186,6 +208,7 @@ def main(words):
         print(f"FAIL the program isn't there: {tested.path} (./tclint builds it)\n0 passed, 1 failed")
         return 1
     with tempfile.TemporaryDirectory(prefix="tclint-hostile-") as room:
+        build_all(count, room, words)
         sweep_all(count, tested, room, words)
         call_all(count, room, words)
         limit_all(count, tested, room, words)

@@ -28,9 +28,9 @@ class Result:
 class Program:
     """A program under test, with what it finds in its environment beyond the usual."""
 
-    def __init__(self, path, settings=None):
+    def __init__(self, path, settings=None, seconds=SECONDS):
         self.path = os.path.abspath(path) if os.path.exists(path) else path
-        self.settings = settings or {}
+        self.settings, self.seconds = settings or {}, seconds
 
     def is_there(self):
         return subprocess.run(["sh", "-c", 'command -v "$0"', self.path], stdout=subprocess.DEVNULL).returncode == 0
@@ -52,11 +52,11 @@ class Program:
     def end(self, started, stdin=b""):
         """Gives what is left of the input to a run, and waits for its end."""
         try:
-            out, err = started.communicate(stdin, timeout=SECONDS)
+            out, err = started.communicate(stdin, timeout=self.seconds)
         except subprocess.TimeoutExpired:
             started.kill()
             started.communicate()
-            raise Wrong(f"no end after {SECONDS} seconds") from None
+            raise Wrong(f"no end after {self.seconds} seconds") from None
         return Result(started.returncode, out, err)
 
 

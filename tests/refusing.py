@@ -14,21 +14,25 @@ MOST, END, STEP = 2000, 100, 7
 MOST_BYTES = 300
 
 
-def compilers():
-    """The compilers that may be there: the one that CC names, the usual ones, and that of the kit."""
-    found = [os.environ["CC"]] if os.environ.get("CC") else []
-    found += ["cc", "gcc", "clang"]
+def kit_compilers():
+    """The compiler of the kit, where its command rt is on PATH."""
     kit = shutil.which("rt")
-    if kit:
-        bin_folder = os.path.dirname(os.path.realpath(kit))
-        found.append(os.path.normpath(f"{bin_folder}/../toolchain/bin/clang"))
+    if not kit:
+        return []
+    bin_folder = os.path.dirname(os.path.realpath(kit))
+    return [os.path.normpath(f"{bin_folder}/../toolchain/bin/clang")]
+
+
+def compilers():
+    """The compilers that are there, of the one that CC names, the usual ones, and that of the kit."""
+    found = [os.environ["CC"]] if os.environ.get("CC") else []
+    found += ["cc", "gcc", "clang", *kit_compilers()]
     return [word for word in found if shutil.which(word.split()[0])]
 
 
-def build(folder):
-    """Builds the library by the first compiler that can, with its own linker or with LLVM's."""
+def build(folder, tried):
+    """Builds the library by the first of these compilers that can, with its own linker or with LLVM's."""
     library = f"{folder}/refuse.so"
-    tried = compilers()
     for compiler in tried:
         for linker in ([], ["-fuse-ld=lld"]):
             words = [*compiler.split(), *FLAGS, *linker, "-o", library, f"{HERE}/refuse.c"]

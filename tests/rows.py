@@ -15,8 +15,8 @@ NAMED = """
     variables/element variables/again variables/fault-no-element commands/unknown commands/set-many syntax/runs-before
     puts/channels puts/order puts/unicode puts/long lines/cr-lf words/expansion session/texts session/input slices/bracket
     session/incomplete session/exit session/budget pages/read/some-characters pages/read/more-characters
-    pages/gets/ill-formed-byte pages/gets/ill-formed-parts
-    pages/dict/lappend-again pages/foreach/long-list pages/format/many-fields pages/split/many-parts
+    pages/gets/ill-formed-byte pages/gets/ill-formed-parts pages/flush/basic pages/flush/faulty-calls
+    pages/eval/again-and-again pages/dict/lappend-again pages/foreach/long-list pages/format/many-fields pages/split/many-parts
     pages/string/map-of-many-keys pages/switch/many-patterns
 """.split()
 # programs with more growths than are tried one by one

@@ -31,6 +31,21 @@ fn a_failed_write_ends_all(rt: HostRuntime) -> Result<(), Fault> {
     Ok(())
 }
 
+/// More than any memory holds is refused at once.
+#[test]
+fn a_refused_growth_ends_all(rt: HostRuntime) -> Result<(), Fault> {
+    let mut interp = fresh(rt.alloc())?;
+    let script = "set x 1; catch {string repeat abc 9223372036854775807}";
+    let first = broken(rt.alloc(), &mut interp, script);
+    assert!(rt; matches!(first, Ok((Outcome::Memory, 0))));
+    assert!(rt; interp.is_failed());
+    for script in ["puts a", "", "set x 1", "puts {", "exit"] {
+        let later = broken(rt.alloc(), &mut interp, script);
+        assert!(rt; matches!(later, Ok((Outcome::Failed, 0))), "at {script}");
+    }
+    Ok(())
+}
+
 /// How a script ends over an input whose first read fails, and how often it failed.
 fn deaf(alloc: Global, interp: &mut Interp, script: &str) -> Result<(Outcome, u64), AllocError> {
     let mut input = FaultyInput::new(MemoryInput::new(b"a"), 1);

@@ -1,0 +1,1 @@
+gets stdin l; puts $l
