@@ -18,4 +18,4 @@ pub use completion::{Completion, code_number, code_value};
 pub use fault::Fault;
 pub use step::{Catches, Each, Handler, Handlers, Loop, LoopList, Others, Owes, Scope, Step};
 pub use stop::{Stop, closed, stop_by};
-pub use variables::{assign, read, remove};
+pub use variables::{assign, assign_near, read, remove};

@@ -8,6 +8,7 @@ use crate::completion::Completion;
 use crate::stop::Stop;
 use std::alloc::Global;
 use tcl_frames::{Frames, VarFault};
+use tcl_names::{Hint, Sought};
 use tcl_values::Value;
 
 /// The text of a variable.
@@ -25,10 +26,25 @@ pub fn assign(alloc: Global, frames: &mut Frames, name: &str, value: Value) -> R
     ensures ends { Ends (set (chars name.now) value) frames.old result frames.new }
     ensures same { OnErr result (frames.new ≡ frames.old) }
 {
-    match frames.put(alloc, name, value) {
+    let hint = Hint::new();
+    let name = Sought::unkeyed(name, &hint);
+    assign_near(alloc, frames, &name, value)
+}
+
+/// The same as `assign`: quick where the name has a key and stands where it was found last.
+pub fn assign_near(
+    alloc: Global,
+    frames: &mut Frames,
+    name: &Sought<'_>,
+    value: Value,
+) -> Result<(), Stop>
+    ensures ends { Ends (set name.now value) frames.old result frames.new }
+    ensures same { OnErr result (frames.new ≡ frames.old) }
+{
+    match frames.put_near(alloc, name, value) {
         Ok(()) => Ok(()),
         Err(VarFault::Refused(refusal)) => {
-            Err(Stop::Error(Completion::cant_set(alloc, name, refusal)?))
+            Err(Stop::Error(Completion::cant_set(alloc, name.as_str(), refusal)?))
         }
         Err(VarFault::Memory) => Err(Stop::Memory),
     }

@@ -1,6 +1,6 @@
 //! Variables that get texts, from left to right: lassign(n), catch(n).
 ghost use Rattle.std.specs.Prelude.{◌≡◌, ℕ, ◌<◌, ◌≤◌, List, [], drop, length, get_or, IfOk};
-ghost use Rattle.tcl_meaning.specs.Variables.{set_all};
+ghost use Rattle.tcl_meaning.specs.Variables.{set, set_all};
 ghost use Rattle.tcl_meaning.specs.VariablePages.{lassign_page};
 ghost use Rattle.tcl_pages.specs.Lists.{rest_behind};
 ghost use Rattle.tcl_pages.specs.Texts.{Text};
@@ -11,7 +11,7 @@ use std::alloc::{AllocError, Global};
 use tcl_arguments::text_at;
 use tcl_chars::message;
 use tcl_frames::Frames;
-use tcl_steps::{Completion, Stop, assign, closed, stop_by};
+use tcl_steps::{Completion, Stop, assign, assign_near, closed, stop_by};
 use tcl_values::Value;
 
 // The value at a place, or the empty text.
@@ -24,6 +24,25 @@ fn value_at(alloc: Global, values: &[Value], place: usize) -> Result<Value, Allo
     Ok(Value::of_text(message(alloc, "")?))
 }
 
+// Gives the variable that a word names a text.
+fn assign_at(
+    alloc: Global,
+    frames: &mut Frames,
+    names: &mut [Value],
+    place: usize,
+    value: Value,
+) -> Result<(), Stop>
+    requires { place < length names.old }
+    ensures ends { Ends (set (get_or names.old place []) value) frames.old result frames.new }
+    ensures same { names.new ≡ names.old }
+{
+    if let Some(name) = names[place].sought() {
+        return assign_near(alloc, frames, &name, value);
+    }
+    let name = text_at(alloc, names, place)?;
+    assign(alloc, frames, name.as_str(), value)
+}
+
 /// Gives variables texts, from left to right: those that stand at the places of the names, and empty ones where there are none.
 pub(crate) fn assign_all(
     alloc: Global,
@@ -34,9 +53,8 @@ pub(crate) fn assign_all(
     ensures { (texts : List Text) → ((i : ℕ) → i < length names.old → get_or values.now i [] ≡ get_or texts i []) → Ends (set_all names.old texts) frames.old result frames.new }
 {
     for place in 0..names.len() {
-        let name = text_at(alloc, names, place)?;
         let value = value_at(alloc, values, place)?;
-        assign(alloc, frames, name.as_str(), value)?;
+        assign_at(alloc, frames, names, place, value)?;
     }
     Ok(())
 }

@@ -1,9 +1,7 @@
-use Rattle.std.specs.Str.{chars}
-use Rattle.tcl_frames.specs.Standing.{store_of}
-use Rattle.tcl_meaning.specs.Variables.{put_change}
-use Rattle.tcl_steps.proofs.VariableLemmas.{cant_be_set, refused_by}
+use Rattle.std.proofs.Common.{subst}
+use Rattle.tcl_meaning.specs.Variables.{set}
+use Rattle.tcl_steps.specs.Ends.{Ends}
 use Rattle.tcl_steps.proofs.variables.assign.Goals as goal
 
-pub returns-in_ok-cant_set-in-Err-Refused-clause-ends : goal.returns-in_ok-cant_set-in-Err-Refused-clause-ends
-returns-in_ok-cant_set-in-Err-Refused-clause-ends c =
-    rw (c.in-Err-Refused.ensures.same, c.in_ok-cant_set-in-Err-Refused.ensures) (cant_be_set c.args.frames.now (chars c.args.name.now) c.args.value c.in-Err-Refused.refusal (λ cs. refused_by (put_change (store_of cs c.args.frames.now) (chars c.args.name.now) c.args.value) c.in-Err-Refused.field-0 c.in-Err-Refused.refusal c.in-Err-Refused.field-0-is (c.in-Err-Refused.ensures.refused cs)))
+pub returns-clause-ends : goal.returns-clause-ends
+returns-clause-ends c = subst (λ t. Ends (set t c.args.value) c.args.frames.now c.assign_near.result c.assign_near.new.frames) c.unkeyed-name.ensures c.assign_near.ensures.ends
