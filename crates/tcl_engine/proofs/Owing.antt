@@ -1,5 +1,6 @@
 -- What is owed, by the command that owes it.
-use Rattle.std.proofs.Common.{◌≡◌, Option, Result, sym, subst}
+use Rattle.std.proofs.Common.{◌≡◌, Result, None, Some, Global, sym, subst}
+use Rattle.std.specs.Prelude.{Box}
 use Rattle.std.specs.declared.alloc.AllocError.{AllocError}
 use Rattle.tcl_chars.specs.declared.numbers.Dialect.{Dialect}
 use Rattle.tcl_steps.specs.Asked.{IsAsked}
@@ -10,7 +11,9 @@ use Rattle.tcl_meaning.specs.Pages.{owed}
 use Rattle.tcl_meaning.specs.Trying.{finish, after_finally}
 use Rattle.tcl_pages.specs.Texts.{Text}
 use Rattle.tcl_steps.specs.Views.{owes_of, others_of}
-use Rattle.tcl_steps.specs.declared.step.Others.{Others}
+use Rattle.tcl_steps.specs.declared.step.ForLoop.{ForLoop}
+use Rattle.tcl_steps.specs.declared.step.IfTest.{IfTest}
+use Rattle.tcl_steps.specs.declared.step.WhileLoop.{WhileLoop}
 use Rattle.tcl_steps.specs.declared.step.Step.{Step}
 use Rattle.tcl_steps.specs.declared.step.Scope.{Scope}
 use Rattle.tcl_steps.specs.declared.step.Owes.{Owes}
@@ -26,30 +29,34 @@ module _ (dialect : Dialect) (o : Owes) (c : Completion) (r : Asked) (f : Standi
   owed_by : (p : Owes) → o ≡ p → IsAsked r (owed dialect (owes_of p) c) → DoesAsk (owed dialect (owes_of o) c) f r f
   owed_by p is asks = subst (λ x. DoesAsk (owed dialect (owes_of x) c) f r f) (sym is) (asks_over r (owed dialect (owes_of p) c) f asks)
 
-  pub if_test : (body : Text) (others : Others) → o ≡ owes.IfTest body others → IsAsked r (after_if_test dialect body (others_of others) c) → DoesAsk (owed dialect (owes_of o) c) f r f
+  pub if_test : (test : Box IfTest Global) → o ≡ owes.IfTest test → IsAsked r (after_if_test dialect test.value.body (others_of test.value.others) c) → DoesAsk (owed dialect (owes_of o) c) f r f
   unfolding owed
-  if_test body others is asks = owed_by (owes.IfTest body others) is asks
+  if_test test is asks = owed_by (owes.IfTest test) is asks
 
-  pub while_body : (test body : Text) → o ≡ owes.WhileBody test body → IsAsked r (after_while_body dialect test body c) → DoesAsk (owed dialect (owes_of o) c) f r f
+  pub while_body : (w : Box WhileLoop Global) → o ≡ owes.WhileBody w → IsAsked r (after_while_body dialect w.value.test w.value.body c) → DoesAsk (owed dialect (owes_of o) c) f r f
   unfolding owed
-  while_body test body is asks = owed_by (owes.WhileBody test body) is asks
+  while_body w is asks = owed_by (owes.WhileBody w) is asks
 
-  pub for_start : (test next body : Text) → o ≡ owes.ForStart test next body → IsAsked r (after_for_start dialect test next body c) → DoesAsk (owed dialect (owes_of o) c) f r f
+  pub for_start : (t : Box ForLoop Global) → o ≡ owes.ForStart t → IsAsked r (after_for_start dialect t.value.test t.value.next t.value.body c) → DoesAsk (owed dialect (owes_of o) c) f r f
   unfolding owed
-  for_start test next body is asks = owed_by (owes.ForStart test next body) is asks
+  for_start t is asks = owed_by (owes.ForStart t) is asks
 
-  pub for_body : (test next body : Text) → o ≡ owes.ForBody test next body → IsAsked r (after_for_body dialect test next body c) → DoesAsk (owed dialect (owes_of o) c) f r f
+  pub for_body : (t : Box ForLoop Global) → o ≡ owes.ForBody t → IsAsked r (after_for_body dialect t.value.test t.value.next t.value.body c) → DoesAsk (owed dialect (owes_of o) c) f r f
   unfolding owed
-  for_body test next body is asks = owed_by (owes.ForBody test next body) is asks
+  for_body t is asks = owed_by (owes.ForBody t) is asks
 
-  pub handling : (finally : Option Text) → o ≡ owes.Handling finally → IsAsked r (finish finally c) → DoesAsk (owed dialect (owes_of o) c) f r f
+  pub for_next : (t : Box ForLoop Global) → o ≡ owes.ForNext t → IsAsked r (after_for_next dialect t.value.test t.value.next t.value.body (code_now c) c) → DoesAsk (owed dialect (owes_of o) c) f r f
+  unfolding owed
+  for_next t is asks = owed_by (owes.ForNext t) is asks
+
+  pub handled : o ≡ owes.Handled → IsAsked r (finish None c) → DoesAsk (owed dialect (owes_of o) c) f r f
+  unfolding owed
+  handled is asks = owed_by owes.Handled is asks
+
+  pub handling : (finally : Text) → o ≡ owes.Handling finally → IsAsked r (finish (Some finally) c) → DoesAsk (owed dialect (owes_of o) c) f r f
   unfolding owed
   handling finally is asks = owed_by (owes.Handling finally) is asks
 
-  pub finishing : (before : Completion) → o ≡ owes.Finishing before → IsAsked r (after_finally before (code_now c) c) → DoesAsk (owed dialect (owes_of o) c) f r f
+  pub finishing : (before : Box Completion Global) → o ≡ owes.Finishing before → IsAsked r (after_finally before.value (code_now c) c) → DoesAsk (owed dialect (owes_of o) c) f r f
   unfolding owed
   finishing before is asks = owed_by (owes.Finishing before) is asks
-
-  pub for_next : (test next body : Text) → o ≡ owes.ForNext test next body → IsAsked r (after_for_next dialect test next body (code_now c) c) → DoesAsk (owed dialect (owes_of o) c) f r f
-  unfolding owed
-  for_next test next body is asks = owed_by (owes.ForNext test next body) is asks

@@ -16,9 +16,10 @@ use tcl_procs::after_body;
 use tcl_steps::{Completion, Loop, Owes, Scope, Step};
 use tcl_vars::after_catch;
 
-/// What is owed is done, when what was asked for has ended so.
+// What is owed is done, whatever it is.
+#[inline(never)]
 #[tactic(auto, unfolding(tcl_meaning::specs::Pages::owed))]
-pub(crate) fn after(
+fn after_any(
     alloc: Global,
     dialect: Dialect,
     frames: &mut Frames,
@@ -30,21 +31,45 @@ pub(crate) fn after(
     match owes {
         Owes::Nothing => Ok(Step::Done(completion)),
         Owes::Leaving => after_body(alloc, completion),
-        Owes::Catching(mut names) => done(after_catch(alloc, frames, &mut names, completion)),
-        Owes::IfTest { body, others } => { after_if_test(alloc, dialect, body, others, completion) }
-        Owes::WhileTest { test, body } => {
-            after_while_test(alloc, dialect, test, body, completion)
+        Owes::Catching => done(after_catch(alloc, frames, &mut [], completion)),
+        Owes::CatchingResult(name) => {
+            let mut names = [name];
+            done(after_catch(alloc, frames, &mut names, completion))
         }
-        Owes::WhileBody { test, body } => after_while_body(alloc, test, body, completion),
-        Owes::ForStart { test, next, body } => after_for_start(test, next, body, completion),
-        Owes::ForTest { test, next, body } => {
-            after_for_test(alloc, dialect, test, next, body, completion)
+        Owes::CatchingOptions(names) => {
+            let (result, options) = Box::into_inner(names);
+            let mut names = [result, options];
+            done(after_catch(alloc, frames, &mut names, completion))
         }
-        Owes::ForBody { test, next, body } => after_for_body(alloc, test, next, body, completion),
-        Owes::ForNext { test, next, body } => after_for_next(alloc, test, next, body, completion),
+        Owes::IfTest(test) => after_if_test(alloc, dialect, test, completion),
+        Owes::WhileTest(turns) => after_while_test(alloc, dialect, turns, completion),
+        Owes::WhileBody(turns) => after_while_body(alloc, turns, completion),
+        Owes::ForStart(turns) => after_for_start(turns, completion),
+        Owes::ForTest(turns) => after_for_test(alloc, dialect, turns, completion),
+        Owes::ForBody(turns) => after_for_body(alloc, turns, completion),
+        Owes::ForNext(turns) => after_for_next(alloc, turns, completion),
         Owes::EachBody(each) => after_each(alloc, each, completion),
         Owes::Trying(handlers) => after_try(alloc, frames, handlers, completion),
-        Owes::Handling(finally) => finish(finally, completion),
+        Owes::Handled => finish(alloc, None, completion),
+        Owes::Handling(finally) => finish(alloc, Some(finally), completion),
         Owes::Finishing(before) => after_finally(before, completion),
+    }
+}
+
+/// What is owed is done, when what was asked for has ended so. The end of a procedure's body comes first, since it is what comes most.
+#[inline(always)]
+#[tactic(auto, unfolding(tcl_meaning::specs::Pages::owed))]
+pub(crate) fn after(
+    alloc: Global,
+    dialect: Dialect,
+    frames: &mut Frames,
+    owes: Owes,
+    completion: Completion,
+) -> Result<Step<Scope, Owes, Loop>, AllocError>
+    ensures { DoesAsk (owed dialect (owes_of owes) completion) frames.old result frames.new }
+{
+    match owes {
+        Owes::Leaving => after_body(alloc, completion),
+        owes => after_any(alloc, dialect, frames, owes, completion),
     }
 }

@@ -1,7 +1,8 @@
 //! The frames in which scripts are run.
 ghost use Rattle.std.specs.Prelude.{◌≡◌, ℕ, IfOk, OnOk, OnErr};
 ghost use Rattle.tcl_engine.specs.Undoing.{undone_shown};
-ghost use Rattle.tcl_meaning.specs.Effects.{entered};
+ghost use Rattle.tcl_frames.specs.Levels.{level_of};
+ghost use Rattle.tcl_meaning.specs.Effects.{At, entered};
 ghost use Rattle.tcl_meaning.specs.State.{Commands, Channels};
 ghost use Rattle.tcl_steps.specs.Views.{scope_of};
 ghost use Rattle.tcl_steps.specs.Comes.{state_of};
@@ -10,8 +11,20 @@ ghost use Rattle.tcl_vm.specs.Unwinding.{CanUndo};
 
 use crate::undone::Undone;
 use std::alloc::{AllocError, Global};
-use tcl_frames::Frames;
+use tcl_frames::{Frames, Level};
 use tcl_steps::Scope;
+
+// A script in the frame of a level begins.
+fn at_level(frames: &mut Frames, level: Level) -> Undone
+    ensures undone { (cs : Commands) (channels : Channels) (units : ℕ) → undone_shown result ≡ undone_of (At (level_of level)) (state_of cs channels units frames.old) }
+    ensures entered { (cs : Commands) (channels : Channels) (units : ℕ) → state_of cs channels units frames.new ≡ entered (At (level_of level)) (state_of cs channels units frames.old) }
+    ensures can { (cs : Commands) (channels : Channels) (units : ℕ) → CanUndo (undone_shown result) (state_of cs channels units frames.new) }
+{
+    match frames.at_level(level) {
+        Some(frame) => Undone::Back(frames.activate(frame)),
+        None => Undone::Back(frames.active()),
+    }
+}
 
 /// A script of this scope begins: what is undone when it has ended.
 pub(crate) fn enter(alloc: Global, frames: &mut Frames, scope: Scope) -> Result<Undone, AllocError>
@@ -22,10 +35,8 @@ pub(crate) fn enter(alloc: Global, frames: &mut Frames, scope: Scope) -> Result<
 {
     match scope {
         Scope::Here => Ok(Undone::Nothing),
-        Scope::At(level) => match frames.at_level(level) {
-            Some(frame) => Ok(Undone::Back(frames.activate(frame))),
-            None => Ok(Undone::Back(frames.active())),
-        },
+        Scope::Up(callers) => Ok(at_level(frames, Level::Up(callers))),
+        Scope::At(number) => Ok(at_level(frames, Level::At(number))),
         Scope::Within(variables) => {
             let active = frames.active();
             let count = frames.count();
