@@ -9,3 +9,6 @@ returns-in_err-word-clause-answered g c = let p = err_from_is_err_and c.from_res
 
 pub returns-then-words-eq0-clause-answered : goal.returns-then-words-eq0-clause-answered
 returns-then-words-eq0-clause-answered g c = empty_answers c.args.dialect _ _ _ c.args.words.now c.if-words-eq0.true (told_answers _ _ _ _ _ c.told.ensures.same (c.asked.ensures.answered _ _ c.no_words.ensures))
+
+pub returns-in_err-first-clause-answered : goal.returns-in_err-first-clause-answered
+returns-in_err-first-clause-answered g c = let p = err_from_is_err_and c.from_residual-in_err-first.result c.from_residual-in_err-first.ensures.1 in told_broken c.from_residual-in_err-first.result _ _ _ (p.1 ∙ ap Err p.2) refl refl
