@@ -1,4 +1,5 @@
 pub mod NamesLemmas
+pub mod Parens
 pub mod NameSets
 pub mod EditLemmas
 pub mod UndoLemmas

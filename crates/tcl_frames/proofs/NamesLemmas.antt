@@ -3,10 +3,8 @@ use Rattle.std.proofs.Common.{◌≡◌, ℕ, ◌+◌, ◌-◌, ◌<◌, true, f
 use Rattle.std.proofs.lemmas.Bool.{cond-true, cond-false, eqb-true}
 use Rattle.std.proofs.lemmas.List.{take_at, drop_at, get_or_at, length-append}
 use Rattle.std.proofs.lemmas.Str.{chars-append, chars_past_char, chars_from_encodes, encodes-append, encodes-chars, encode_ascii, byte_from_char, IsUtf8-take, IsUtf8-drop, IsCharBoundary-before_ascii, IsCharBoundary-from_take}
-use Rattle.std.specs.Str.{chars, IsUtf8, IsCharBoundary, NoCharPasses, NonePass, encode_utf8_all}
+use Rattle.std.specs.Str.{chars, IsUtf8, IsCharBoundary, encode_utf8_all}
 use Rattle.std.specs.Char.{encode_utf8}
-use Rattle.std.proofs.lemmas.Str.Pattern.{strip_suffix_char, split_parts}
-use Rattle.std.specs.Str.Pattern.{FindsChar, FindsCharSuffix, StripsSuffix, SplitsAroundMatch}
 use Rattle.tcl_chars.specs.Characters.{colon, open_paren, close_paren}
 use Rattle.tcl_chars.specs.Place.{begins, before, tail}
 use Rattle.tcl_meaning.specs.Frames.{whole}
@@ -76,7 +74,7 @@ open_name : (name : List ℕ) → IsOpen name → whole_name name ≡ divided_na
 unfolding divided_name
 open_name name h = sym (by_open name name h)
 
-closed_name : (name inside : List ℕ) → name ≡ inside ++ close_paren ∷ [] → from_paren inside ≡ [] → whole_name name ≡ divided_name name
+pub closed_name : (name inside : List ℕ) → name ≡ inside ++ close_paren ∷ [] → from_paren inside ≡ [] → whole_name name ≡ divided_name name
 unfolding divided_name
 closed_name name inside e h = sym (ap (by_paren name) (ap from_paren e ∙ none_behind inside h))
 
@@ -85,7 +83,7 @@ by_index name index =
     let l = last_behind index close_paren in
     cond-true _ _ _ (ap (begins close_paren) l) ∙ ap (element_name (before name (open_paren ∷ (index ++ close_paren ∷ [])))) (ap (before (index ++ close_paren ∷ [])) l ∙ before_rest index (close_paren ∷ []))
 
-parted_name : (name inside base index : List ℕ) → name ≡ inside ++ close_paren ∷ [] → inside ≡ base ++ open_paren ∷ index → from_paren base ≡ [] → element_name base index ≡ divided_name name
+pub parted_name : (name inside base index : List ℕ) → name ≡ inside ++ close_paren ∷ [] → inside ≡ base ++ open_paren ∷ index → from_paren base ≡ [] → element_name base index ≡ divided_name name
 unfolding divided_name
 parted_name name inside base index e f h =
     let rest = open_paren ∷ (index ++ close_paren ∷ []) in
@@ -94,53 +92,19 @@ parted_name name inside base index e f h =
 
 -- ---- by bytes
 
-no_paren : (cs : List ℕ) → NonePass (λ d. d == open_paren) cs → from_paren cs ≡ []
-unfolding from_paren
-no_paren [] h = refl
-no_paren (c ∷ cs) h = cond-false _ _ _ h.0 ∙ no_paren cs h.1
-
-without_paren : (bs : List ℕ) → IsUtf8 bs → NoCharPasses (λ d. d == open_paren) bs → from_paren (chars bs) ≡ []
-without_paren bs u h = ap from_paren (sym (chars_from_encodes h.0 bs u h.1)) ∙ no_paren h.0 h.2
-
 -- a text is cut before an ASCII character
-utf8_before : (bs xs ys : List ℕ) (c : ℕ) → IsUtf8 bs → bs ≡ xs ++ c ∷ ys → c < 128 → IsUtf8 xs
+pub utf8_before : (bs xs ys : List ℕ) (c : ℕ) → IsUtf8 bs → bs ≡ xs ++ c ∷ ys → c < 128 → IsUtf8 xs
 utf8_before bs xs ys c u e low =
     let at : get_or bs (length xs) 0 ≡ c = ap (λ t. get_or t (length xs) 0) e ∙ get_or_at xs c ys 0 (length xs) refl in
     let size : length bs ≡ length xs + length (c ∷ ys) = ap length e ∙ length-append xs (c ∷ ys) in
     let place : IsCharBoundary bs (length xs) = IsCharBoundary-before_ascii bs (length xs) (omega (arith, size)) (omega (arith, at, low)) in
     subst IsUtf8 (ap (take (length xs)) e ∙ take_at xs (c ∷ ys) (length xs) refl) (IsUtf8-take bs (length xs) u place)
 
-chars_around : (bs xs ys : List ℕ) (c : ℕ) → IsUtf8 bs → bs ≡ xs ++ c ∷ ys → c < 128 → chars bs ≡ chars xs ++ c ∷ chars ys
+pub chars_around : (bs xs ys : List ℕ) (c : ℕ) → IsUtf8 bs → bs ≡ xs ++ c ∷ ys → c < 128 → chars bs ≡ chars xs ++ c ∷ chars ys
 chars_around bs xs ys c u e low =
     let v = utf8_before bs xs ys c u e low in
     let w : IsUtf8 (c ∷ ys) = subst IsUtf8 (ap (drop (length xs)) e ∙ drop_at xs (c ∷ ys) (length xs) refl) (IsUtf8-drop bs (length xs) u (IsCharBoundary-from_take bs (length xs) u (omega (arith, ap length e, length-append xs (c ∷ ys))) (subst IsUtf8 (sym (ap (take (length xs)) e ∙ take_at xs (c ∷ ys) (length xs) refl)) v))) in
     ap chars e ∙ chars-append xs (c ∷ ys) v ∙ ap (λ t. chars xs ++ t) (chars_past_char (c ∷ ys) ys c w (sym (ap (λ t. t ++ ys) (encode_ascii c low))))
-
-stripped : (bs : List ℕ) (inside : Bor (List ℕ)) → StripsSuffix (FindsCharSuffix close_paren) bs inside.now → bs ≡ inside.now ++ close_paren ∷ []
-stripped bs inside h = strip_suffix_char close_paren bs (Some inside) h (omega arith)
-
--- ---- what a name is whose last `)` is cut off, and what is left cut at its first `(`
-
-pub open_is : (bs : List ℕ) → IsUtf8 bs → ((front : List ℕ) → bs ≡ front ++ encode_utf8 close_paren → ⊥) → whole_name (chars bs) ≡ divided_name (chars bs)
-unfolding encode_utf8
-open_is bs u h = open_name (chars bs) (λ front e. h (encode_utf8_all front) (sym (encodes-chars bs u) ∙ ap encode_utf8_all e ∙ encodes-append front (close_paren ∷ [])))
-
-pub closed_is : (bs : List ℕ) (inside : Bor (List ℕ)) → IsUtf8 bs → StripsSuffix (FindsCharSuffix close_paren) bs inside.now → FindsChar open_paren inside.now None → whole_name (chars bs) ≡ divided_name (chars bs)
-unfolding chars
-closed_is bs inside u h k =
-    let e = stripped bs inside h in
-    closed_name (chars bs) (chars inside.now) (chars_around bs inside.now [] close_paren u e (omega arith)) (without_paren inside.now (utf8_before bs inside.now [] close_paren u e (omega arith)) k)
-
-pub parted_is : (bs : List ℕ) (inside base index : Bor (List ℕ)) → IsUtf8 bs → StripsSuffix (FindsCharSuffix close_paren) bs inside.now → SplitsAroundMatch (FindsChar open_paren) inside.now base.now index.now
-    → element_name (chars base.now) (chars index.now) ≡ divided_name (chars bs)
-unfolding chars
-parted_is bs inside base index u h k =
-    let e = stripped bs inside h in
-    let v = utf8_before bs inside.now [] close_paren u e (omega arith) in
-    let f : inside.now ≡ base.now ++ open_paren ∷ index.now = (split_parts open_paren inside.now (Some (base, index)) k (omega arith)).0 in
-    let w = utf8_before inside.now base.now index.now open_paren v f (omega arith) in
-    parted_name (chars bs) (chars inside.now) (chars base.now) (chars index.now) (chars_around bs inside.now [] close_paren u e (omega arith)) (chars_around inside.now base.now index.now open_paren v f (omega arith))
-    (without_paren base.now w (subst (NoCharPasses (λ d. d == open_paren)) (sym k.3) k.2.0))
 
 -- ---- what a name is that no colon leads and no `)` ends
 
@@ -161,11 +125,15 @@ led_by_none cs e = ap (λ b. record { global = b && begins colon (tail cs); base
 pub keyed_is : (name : List ℕ) → IsPlain name → divided_name name ≡ plain_name name
 keyed_is name h = sym (open_name name h.last) ∙ led_by_none name h.first
 
-pub plain_is : (bs : List ℕ) → IsUtf8 bs → (get_or bs 0 0 ≡ colon → ⊥) → (get_or bs (length bs - 1) 0 ≡ close_paren → ⊥) → divided_name (chars bs) ≡ plain_name (chars bs)
+-- the same of a name by its bytes
+pub ends_open : (bs : List ℕ) → IsUtf8 bs → (get_or bs (length bs - 1) 0 ≡ close_paren → ⊥) → whole_name (chars bs) ≡ divided_name (chars bs)
 unfolding encode_utf8
-plain_is bs u first last = sym (open_is bs u (λ front e. last (ended front e))) ∙ led_by_none (chars bs) (no_colon bs u first)
+ends_open bs u last = open_name (chars bs) (λ front e. last (ended (encode_utf8_all front) (sym (encodes-chars bs u) ∙ ap encode_utf8_all e ∙ encodes-append front (close_paren ∷ []))))
   where
     ended : (front : List ℕ) → bs ≡ front ++ close_paren ∷ [] → get_or bs (length bs - 1) 0 ≡ close_paren
     ended front e =
         let size : length bs - 1 ≡ length front = omega (arith, ap length e, length-append front (close_paren ∷ [])) in
         ap (λ k. get_or bs k 0) size ∙ ap (λ t. get_or t (length front) 0) e ∙ get_or_at front close_paren [] 0 (length front) refl
+
+pub plain_is : (bs : List ℕ) → IsUtf8 bs → (get_or bs 0 0 ≡ colon → ⊥) → (get_or bs (length bs - 1) 0 ≡ close_paren → ⊥) → divided_name (chars bs) ≡ plain_name (chars bs)
+plain_is bs u first last = sym (ends_open bs u last) ∙ led_by_none (chars bs) (no_colon bs u first)

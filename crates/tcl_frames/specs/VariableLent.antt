@@ -2,6 +2,7 @@
 use Rattle.std.specs.Prelude.{Result}
 use Rattle.std.specs.FinMap as map
 use Rattle.std.specs.Borrow.{LendsIfOk, MutBor, Fml}
+use Rattle.std.specs.Box.{with_value}
 use Rattle.tcl_meaning.specs.declared.refusal.Refusal.{Refusal}
 use Rattle.tcl_pages.specs.Texts.{Text}
 use Rattle.tcl_meaning.specs.Frames.{Variable, Part, whole, element, deeper}
@@ -15,7 +16,7 @@ use Rattle.tcl_frames.specs.declared.variable.Held.TheVariants as held
 abbrev pub held_with : Held → Part → Text → Held
 held_with (held.Text t) part w = held.Text w
 held_with (held.Array m) whole w = held.Array m
-held_with (held.Array m) (element i) w = held.Array (map.insert m i w)
+held_with (held.Array m) (element i) w = held.Array (with_value m (map.insert m.value i w))
 held_with (held.Array m) deeper w = held.Array m
 
 abbrev pub LendsHeld : MutBor Held → Part → Result (MutBor Text) Refusal → Fml

@@ -5,4 +5,4 @@ use Rattle.tcl_frames.specs.declared.variable.Held.TheVariants as held
 
 abbrev pub variable_of : Held → Variable
 variable_of (held.Text t) = text t
-variable_of (held.Array m) = array m
+variable_of (held.Array m) = array m.value

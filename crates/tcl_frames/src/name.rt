@@ -3,7 +3,7 @@ ghost use Rattle.std.specs.Prelude.{◌≡◌, true, ◌||◌};
 ghost use Rattle.std.specs.Str.{chars};
 ghost use Rattle.tcl_meaning.specs.Names as spec;
 ghost use Rattle.tcl_meaning.specs.Variables.{missing};
-ghost use Rattle.tcl_frames.specs.Parts.{part_of, name_of, plain_name};
+ghost use Rattle.tcl_frames.specs.Parts.{part_of, name_of, paren_in, plain_name};
 
 use tcl_chars::{begins, split_first, tail};
 use tcl_meaning::Refusal;
@@ -127,18 +127,37 @@ pub(crate) fn divide(name: &str) -> Name<'_>
     divide_at_paren(name)
 }
 
+// Where the first `(` of these bytes stands; where there is none, how many they are.
+#[inline(always)]
+fn paren_in(bytes: &[u8]) -> usize
+    ensures { result ≡ paren_in bytes.now }
+{
+    let size = bytes.len();
+    let mut at = 0;
+    'bytes: while at < size {
+        if bytes[at] == b'(' {
+            return at;
+        }
+        at += 1;
+    }
+    size
+}
+
 // The same of any name.
 #[inline(never)]
 fn divide_at_paren(name: &str) -> Name<'_>
     ensures { name_of result ≡ spec.divided_name (chars name.now) }
 {
-    let Some(inside) = name.strip_suffix(')') else {
+    let bytes = name.as_bytes();
+    let size = bytes.len();
+    if size == 0 || bytes[size - 1] != b')' {
         return whole_name(name);
-    };
-    match inside.split_once('(') {
-        Some((base, index)) => element_name(base, index),
-        None => whole_name(name),
     }
+    let at = paren_in(bytes);
+    if at == size {
+        return whole_name(name);
+    }
+    element_name(&name[..at], &name[at + 1..size - 1])
 }
 
 /// Is a name an element's?

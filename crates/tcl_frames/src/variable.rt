@@ -17,7 +17,7 @@ ghost use Rattle.tcl_frames.specs.VariableLent.{LendsHeld, LendsPart};
 use crate::edit::Edit;
 use crate::fault::VarFault;
 use crate::name::Part;
-use std::alloc::Global;
+use std::alloc::{AllocError, Global};
 use std::marker::Model;
 use tcl_meaning::Refusal;
 use tcl_names::HashedNames;
@@ -27,7 +27,7 @@ use tcl_values::Value;
 #[derive(Drop)]
 enum Held {
     Text(Value),
-    Array(HashedNames<Value>),
+    Array(Box<HashedNames<Value>>),
 }
 
 /// A variable: a text, or an array of texts.
@@ -97,12 +97,12 @@ impl Variable {
     }
 
     /// The array of these elements.
-    pub fn of_array(elements: HashedNames<Value>) -> Variable
-        ensures { result ≡ array elements }
+    pub fn of_array(alloc: Global, elements: HashedNames<Value>) -> Result<Variable, AllocError>
+        ensures { IfOk result (λ variable. variable ≡ array elements) }
     {
-        Variable {
-            held: Held::Array(elements),
-        }
+        Ok(Variable {
+            held: Held::Array(Box::new(alloc, elements)?),
+        })
     }
 
     /// The text of a part.

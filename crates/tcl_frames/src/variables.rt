@@ -98,7 +98,7 @@ fn made(alloc: Global, part: Part<'_>, value: Value) -> Result<Variable, VarFaul
         Part::Element(index) => {
             let mut elements = HashedNames::new(alloc);
             elements.insert(alloc, index, value)?;
-            Ok(Variable::of_array(elements))
+            Ok(Variable::of_array(alloc, elements)?)
         }
         Part::Deeper => Err(VarFault::Refused(Refusal::IsntArray)),
     }
@@ -151,7 +151,7 @@ fn begun(alloc: Global, part: Part<'_>, edit: Edit<'_>) -> Result<Variable, VarF
         Part::Whole => {
             let mut elements = HashedNames::new(alloc);
             edit.apply(alloc, &mut elements)?;
-            Ok(Variable::of_array(elements))
+            Ok(Variable::of_array(alloc, elements)?)
         }
         Part::Element(_) => Err(VarFault::Refused(Refusal::IsntArray)),
         Part::Deeper => Err(VarFault::Refused(Refusal::IsntArray)),
