@@ -7,5 +7,6 @@ mod QuickUpdateLemmas
 pub mod ReplaceLemmas
 pub mod SetLemmas
 pub mod UnsetLemmas
+pub mod One
 pub mod UpdateLemmas
 pub mod WayLemmas

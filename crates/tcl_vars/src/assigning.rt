@@ -6,10 +6,9 @@ ghost use Rattle.tcl_pages.specs.Lists.{rest_behind};
 ghost use Rattle.tcl_pages.specs.Texts.{Text};
 ghost use Rattle.tcl_steps.specs.Ends.{Does, Ends, EndsDone};
 
-use crate::words::list_at;
+use crate::words::{empty, list_at};
 use std::alloc::{AllocError, Global};
 use tcl_arguments::text_at;
-use tcl_chars::message;
 use tcl_frames::Frames;
 use tcl_steps::{Completion, Stop, assign, assign_near, closed, stop_by};
 use tcl_values::Value;
@@ -21,7 +20,7 @@ fn value_at(alloc: Global, values: &[Value], place: usize) -> Result<Value, Allo
     if place < values.len() {
         return values[place].copy();
     }
-    Ok(Value::of_text(message(alloc, "")?))
+    empty(alloc)
 }
 
 // Gives the variable that a word names a text.
@@ -72,8 +71,8 @@ fn rest_of(alloc: Global, elements: Vec<Value>, count: usize) -> Result<Value, A
     ensures { IfOk result (λ rest. rest ≡ rest_behind count elements.items) }
 {
     let mut elements = elements;
-    if elements.len() < count {
-        return Ok(Value::of_text(message(alloc, "")?));
+    if elements.len() <= count {
+        return empty(alloc);
     }
     let rest = elements.split_off(count)?;
     Value::of_list(alloc, rest)

@@ -27,3 +27,4 @@ pub use quick_updating::quick_update;
 pub use setting::set;
 pub use unsetting::unset;
 pub use updating::update;
+pub use words::sought_in;

@@ -1,6 +1,8 @@
 //! A number that grows: incr(n).
 
 ghost use Rattle.std.specs.Prelude.{◌≡◌, [], ◌∷◌, OnErr};
+ghost use Rattle.tcl_chars.specs.Answers.{Answers};
+ghost use Rattle.tcl_chars.specs.Messages.{number};
 ghost use Rattle.tcl_pages.specs.Updates.{increased};
 ghost use Rattle.tcl_values.specs.Lists.{Leaves};
 
@@ -8,6 +10,18 @@ use std::alloc::Global;
 use tcl_arguments::number_of;
 use tcl_chars::{Dialect, Fault, Op, binary, message};
 use tcl_values::Value;
+
+// The number that a value is, at once where that is known without reading its text.
+#[inline(always)]
+fn known_or_read(alloc: Global, value: &mut Value, dialect: Dialect) -> Result<i64, Fault>
+    ensures number { Answers (λ z. z) result (number dialect value.old) }
+    ensures same { value.new ≡ value.old }
+{
+    if let Some(number) = value.known_number(dialect) {
+        return Ok(number);
+    }
+    number_of(alloc, value, dialect)
+}
 
 /// `incr varName ?increment?`: adds a number to the value.
 ///
@@ -24,8 +38,8 @@ pub(crate) fn incr(
     ensures same { OnErr result (value.new ≡ value.old) }
     ensures by { by.new ≡ by.old }
 {
-    let number = number_of(alloc, value, dialect)?;
-    let more = number_of(alloc, by, dialect)?;
+    let number = known_or_read(alloc, value, dialect)?;
+    let more = known_or_read(alloc, by, dialect)?;
     match binary(Op::Add, number, more) {
         Ok(sum) => {
             *value = Value::of_int(sum);
