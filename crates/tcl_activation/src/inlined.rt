@@ -48,7 +48,7 @@ impl Stack {
 
     /// A loop's body begins, one deeper. It owns none of what stands there, which comes back when the loop goes on, at `at` or
     /// one further. Where `passes` is true, `continue` passes the loop.
-    #[inline]
+    #[inline(always)]
     pub fn open(&mut self, alloc: Global, at: usize, passes: bool) -> Result<(), AllocError>
         requires place { at + 1 < 2 ^ 64 }
         requires depth { self.old.depth < 1000 }
@@ -69,7 +69,7 @@ impl Stack {
     }
 
     /// Puts back what the innermost loop has saved, if there is a loop, and answers where it goes on.
-    #[inline]
+    #[inline(always)]
     pub fn close(&mut self) -> Option<usize>
         ensures closes { Closes result self.old self.new }
         ensures place { IfSome result (λ at. at + 1 < 2 ^ 64) }

@@ -41,8 +41,20 @@ fn provide(items: &mut Vec<OpenLoop>, alloc: Global, count: usize) -> Result<(),
     ensures same { take count items.new.items ≡ take count items.old.items }
 {
     if count == items.len() {
-        items.push(OpenLoop::unused(alloc)?)?;
+        add_unused(items, alloc)?;
     }
+    Ok(())
+}
+
+// One more than there were. It stands apart, since nearly always there is one to be used again.
+#[cold]
+#[inline(never)]
+fn add_unused(items: &mut Vec<OpenLoop>, alloc: Global) -> Result<(), AllocError>
+    ensures more { OnOk result (length items.old.items < length items.new.items) }
+    ensures enough { length items.old.items ≤ length items.new.items }
+    ensures same { take (length items.old.items) items.new.items ≡ items.old.items }
+{
+    items.push(OpenLoop::unused(alloc)?)?;
     Ok(())
 }
 

@@ -7,6 +7,7 @@ ghost use Rattle.tcl_activation.specs.PileLent.{LendsNewest, LendsTop};
 use std::alloc::{AllocError, Global};
 use std::marker::Model;
 use std::mem;
+use tcl_values::Value;
 
 /// Values that are put on top of one another. Contracts see a list, the newest first.
 #[derive(Drop)]
@@ -96,35 +97,6 @@ impl<T: Drop> Pile<T> {
         &self.items[self.items.len() - 2]
     }
 
-    /// Another item in place of what lies on top.
-    #[inline(always)]
-    pub fn replace_newest(&mut self, item: T)
-        requires { 1 ≤ length self.old }
-        ensures { self.new ≡ item ∷ drop 1 self.old }
-    {
-        let last = self.items.len() - 1;
-        self.items[last] = item;
-    }
-
-    /// What lies on top is dropped.
-    #[inline(always)]
-    pub fn drop_newest(&mut self)
-        requires { 1 ≤ length self.old }
-        ensures { self.new ≡ drop 1 self.old }
-    {
-        drop(self.items.pop());
-    }
-
-    /// Another item in place of the two on top.
-    #[inline(always)]
-    pub fn replace_two(&mut self, item: T)
-        requires { 2 ≤ length self.old }
-        ensures { self.new ≡ item ∷ drop 2 self.old }
-    {
-        self.drop_newest();
-        self.replace_newest(item);
-    }
-
     /// Lends what lies on top.
     #[inline(always)]
     pub fn newest_mut(&mut self) -> &mut T
@@ -191,5 +163,45 @@ impl<T: Drop> Pile<T> {
     {
         let left = self.items.len() - count;
         self.items.split_off(left)
+    }
+}
+
+// Drops a text. A number gives nothing back, so it is let go without a call.
+#[inline(always)]
+fn discard(text: Value) {
+    match text.number() {
+        Some(_) => mem::forget(text),
+        None => drop(text),
+    }
+}
+
+impl Pile<Value> {
+    /// Another text in place of what lies on top.
+    #[inline(always)]
+    pub fn replace_newest(&mut self, text: Value)
+        requires { 1 ≤ length self.old }
+        ensures { self.new ≡ text ∷ drop 1 self.old }
+    {
+        let last = self.items.len() - 1;
+        discard(mem::replace(&mut self.items[last], text));
+    }
+
+    /// What lies on top is dropped.
+    #[inline(always)]
+    pub fn drop_newest(&mut self)
+        requires { 1 ≤ length self.old }
+        ensures { self.new ≡ drop 1 self.old }
+    {
+        discard(self.pop());
+    }
+
+    /// Another text in place of the two on top.
+    #[inline(always)]
+    pub fn replace_two(&mut self, text: Value)
+        requires { 2 ≤ length self.old }
+        ensures { self.new ≡ text ∷ drop 2 self.old }
+    {
+        self.drop_newest();
+        self.replace_newest(text);
     }
 }

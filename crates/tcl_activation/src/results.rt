@@ -73,18 +73,17 @@ impl Last {
     fn forget(&mut self)
         ensures { self.new ≡ nothing }
     {
-        match self.kept {
-            Kept::Nothing => {}
-            _ => self.let_go(),
-        }
+        discard(mem::replace(self, Last::nothing()));
     }
 
-    // The same, where there is something.
-    #[inline(never)]
-    fn let_go(&mut self)
-        ensures { self.new ≡ nothing }
-    {
-        self.kept = Kept::Nothing;
+    // Has it nothing to give back when it is dropped?
+    #[inline(always)]
+    fn is_plain(&self) -> bool {
+        match &self.kept {
+            Kept::Nothing => true,
+            Kept::Value(value) => value.number().is_some(),
+            Kept::Completion(_) => false,
+        }
     }
 
     /// The completion.
@@ -108,6 +107,16 @@ impl Last {
             Kept::Completion(completion) => Ok(completion.into_result()),
         }
     }
+}
+
+// Drops how a command has ended. What gives nothing back is let go without a call.
+#[inline(always)]
+fn discard(last: Last) {
+    if last.is_plain() {
+        mem::forget(last);
+        return;
+    }
+    drop(last);
 }
 
 /// How the last commands of the scripts that are open have ended. Contracts see a list, the newest first. There is always room for
@@ -188,7 +197,7 @@ impl Results {
         ensures { self.new ≡ last ∷ drop 1 self.old }
     {
         let newest = self.items.len() - 1;
-        self.items[newest] = last;
+        discard(mem::replace(&mut self.items[newest], last));
     }
 
     /// The newest is let go.
@@ -197,7 +206,7 @@ impl Results {
         requires { 1 ≤ length self.old }
         ensures { self.new ≡ drop 1 self.old }
     {
-        drop(self.items.pop());
+        discard(self.pop());
     }
 
     /// The newest is let go: its script's next command begins.
