@@ -13,3 +13,4 @@ pub mod Turnings
 pub mod Needs
 pub mod Standing
 pub mod Quick
+pub mod Behind
