@@ -3,23 +3,27 @@
 
     tests/inlined.py                        the checks that tests/run runs with all others
     tests/inlined.py --count N [--seed S]   N scripts, from seed S on
-    tests/inlined.py --tclsh --count N      the same, what is put out compared with tclsh
+    tests/inlined.py --names                each name changed in each place of each loop
+    tests/inlined.py --tclsh ..             either of these, compared with tclsh
 
 A command whose words are literal is inlined: its code stands in place, as long as its name stands for its page. The same
 command under a name that begins with :: is called. So each script is run as it is, and once more with :: before each of
-these names: status, output and message must be the same, whatever the budget and the slice.
+these names, and one of the two in slices: status, output and message must be the same, whatever the budget and the slice.
+
+Scripts come in batches. One shell starts the program for each run of a batch, since that is most of what a run takes. One tclsh
+runs each script of a batch in a new interpreter.
 """
 import os
 import random
 import re
 import sys
 import tempfile
+import time
 from concurrent.futures import ThreadPoolExecutor
 
 sys.dont_write_bytecode = True
 
-from program import TOP, Program, Wrong, check, shown
-from run_checks import judged
+from program import TOP, Program, Wrong, check, write
 
 NAMES = ("set", "incr", "expr", "if", "while", "for", "foreach", "break", "continue")
 COMMAND = re.compile(r"(?<![\w$:@])(" + "|".join(NAMES) + r")(?=@)")
@@ -28,7 +32,10 @@ FAULT_OF_TCLSH = re.compile(rb" at _@_|\nin expression \"[^\n]*\"(?:;\nshould be
 # It has a text of its own for an operand that is empty (docs/PROFILE.md).
 EMPTY_OPERAND, NO_NUMBER = b"can't use empty string as operand", b"can't use non-numeric string as operand"
 BUDGET = 400
-TOGETHER = 200  # scripts of one check
+TOGETHER = 200  # scripts of one batch
+SECONDS = 20  # of a processor, for one run
+PROCESSORS = len(os.sched_getaffinity(0))
+TOLD_EACH = 1000  # scripts
 
 
 class Script:
@@ -48,7 +55,9 @@ class Script:
         yield "puts [list $a $b $n]"
 
     def pick(self, *choices):
-        return self.random.choice(choices)
+        """One of some texts, or of functions that make one: those that aren't chosen make none, whose bodies would grow without end."""
+        chosen = self.random.choice(choices)
+        return chosen() if callable(chosen) else chosen
 
     def number(self):
         return self.pick("0", "1", "2", "3", "$a", "$b", "[incr@ n]", "[set@ a]", "007", "x")
@@ -90,7 +99,7 @@ class Script:
         text = f"if@ {{{self.condition()}}} {self.pick('', 'then ')}{self.braced(depth, inner)}"
         for _ in range(self.pick(0, 0, 1, 2)):
             text += f" elseif {{{self.condition()}}} {self.braced(depth, inner)}"
-        return text + self.pick("", f" else {self.braced(depth, inner)}", f" {self.braced(depth, inner)}")
+        return text + self.pick("", lambda: f" else {self.braced(depth, inner)}", lambda: f" {self.braced(depth, inner)}")
 
     def changed(self):
         """A name that is renamed, replaced or put back."""
@@ -105,73 +114,206 @@ class Script:
 
     def command(self, depth, inner):
         simple = [
-            f"set@ {self.pick('a', 'b')} {self.number()}",
+            lambda: f"set@ {self.pick('a', 'b')} {self.number()}",
             "set@ a",
-            f"incr@ {self.pick('a', 'n', 'b')}",
-            f"incr@ a {self.number()}",
-            f"set@ a [expr@ {{{self.condition()}}}]",
-            f"expr@ {{{self.number()} {self.pick('+', '-', '*')} {self.number()}}}",
-            f"puts [set@ b {self.number()}]",
+            lambda: f"incr@ {self.pick('a', 'n', 'b')}",
+            lambda: f"incr@ a {self.number()}",
+            lambda: f"set@ a [expr@ {{{self.condition()}}}]",
+            lambda: f"expr@ {{{self.number()} {self.pick('+', '-', '*')} {self.number()}}}",
+            lambda: f"puts [set@ b {self.number()}]",
             "puts $a/$b/$n",
-            f"catch {{{self.changed()}}}",
+            lambda: f"catch {{{self.changed()}}}",
             "catch {q [incr@ n]}",
         ]
         if inner:
-            simple += [self.pick("break@", "continue@"), "q [incr@ n]", f"if@ {{{self.condition()}}} {self.pick('break@', 'continue@')}"]
+            ends = lambda: f"if@ {{{self.condition()}}} {self.pick('break@', 'continue@')}"
+            simple += [lambda: self.pick("break@", "continue@"), "q [incr@ n]", ends]
         if depth >= 4 or self.random.random() < 0.45:
             return self.pick(*simple)
-        deep = [
-            self.loop(depth),
-            self.choice(depth, inner),
-            f"puts [catch {{{self.body(depth + 1, inner)}}} r]$r",
-            f"eval {{{self.body(depth + 1, inner)}}}",
+        loop, choice = lambda: self.loop(depth), lambda: self.choice(depth, inner)
+        return self.pick(
+            *(loop, loop, choice, choice),
+            lambda: f"puts [catch {{{self.body(depth + 1, inner)}}} r]$r",
+            lambda: f"eval {{{self.body(depth + 1, inner)}}}",
             "puts [catch p]",
-        ]
-        return self.pick(deep[0], deep[0], deep[1], deep[1], *deep[2:])
-
-    def inlined(self):
-        return self.text.replace("@", "")
-
-    def called(self):
-        return COMMAND.sub(r"::\1", self.text).replace("@", "")
+        )
 
 
-def ended(tested, room, name, script, options=()):
-    with open(f"{room}/{name}.tcl", "w", encoding="utf-8") as file:
-        file.write(script)
-    got = tested.run([*options, f"{name}.tcl"], room)
-    return got.status, got.stdout.replace(b"::", b""), got.stderr.replace(b"::", b"").replace(name.encode(), b"FILE")
+# ---- each name, changed in each place
+
+# What a change of a name does as it is called the third time, and later.
+CHANGES = [
+    "3 {rename NAME@ kept}",
+    "3 {rename NAME@ {}}",
+    "3 {rename NAME@ kept; proc NAME@ args {puts {own NAME}; uplevel 1 [list kept {*}$args]}}",
+    "3 {rename NAME@ kept} 4 {rename kept NAME@}",
+    "3 {rename NAME@ kept; proc NAME@ args {puts {own NAME}; return 1}} 5 {rename NAME@ {}; rename kept NAME@}",
+]
+# Where it is called, in each of four turns twice; more answers 1 four times.
+PLACES = [
+    "while@ {[more]} {change; change; USES}",
+    "while@ {[more]} {USES; change; change}",
+    "while@ {[more] && [change; change]} {USES}",
+    "for@ {set@ i 0} {[more]} {incr@ i} {change; change; USES}",
+    "for@ {set@ i 0} {[more] && [change; change]} {incr@ i} {USES}",
+    "for@ {set@ i 0} {[more]} {incr@ i; change; change; USES} {puts $i}",
+    "foreach@ o {1 2 3 4} {for@ {change; change; set@ i 0} {$i < 2} {incr@ i} {USES}}",
+    "foreach@ i {1 2 3 4} {change; change; USES}",
+    "foreach@ {i j} {1 2 3 4 5} k {1 2 3 4} {change; change; USES}",
+    "foreach@ i {1 2 3 4} {if@ {[change; change]} {USES} else {puts no}}",
+    "foreach@ i {1 2 3 4} {if@ {0} {puts no} elseif {[change; change]} {USES}}",
+    "foreach@ i {1 2 3 4} {if@ {$i} {change; change; USES}; USES}",
+    "foreach@ i {1 2 3 4} {if@ [change; change] {USES}}",
+    "foreach@ i {1 2 3 4} {puts [expr@ {$i + [change; change]}]; USES}",
+    "foreach@ i {1 2 3 4} {foreach@ x {1 2 3} {if@ {$x == 2} {change; change; continue@}; puts $x; change; break@}; USES}",
+]
+# Places in words of a command: by the manual its name is looked up when they are there, and tclsh has compiled it before.
+PLACES_IN_WORDS = [
+    "foreach@ o {1 2 3 4} {foreach@ i [change; change] {USES}}",
+    "foreach@ i {1 2 3 4} {set@ v [change; change]; USES}",
+    "foreach@ i {1 2 3 4} {incr@ v [change; change]; USES}",
+]
+USES = (
+    "set@ a $n; puts [expr@ {$a * 2}]; if@ {$n > 3} {puts big} else {puts small}; "
+    "foreach@ x {1 2 3} {if@ {$x == 2} {continue@}; puts $x; incr@ n}; "
+    "for@ {set@ k 0} {$k < 9} {incr@ k} {if@ {$k == 1} {break@}; puts k$k}; "
+    "set@ k {}; while@ {$k eq {}} {append k .; incr@ n}; foreach@ x {1 2} y {a b} {puts $x$y}"
+)
+BEGIN = "catch {rename unknown {}}; proc more {} {string match {[1-4]} [llength [lappend ::passed x]]}; "
 
 
-def compare(tested, room, seed):
-    """Raises Wrong where a script that is inlined and one that isn't end otherwise."""
-    script = Script(seed)
-    rand = random.Random(-seed)
-    for options in ([], ["-slice", str(rand.randint(1, 5))]):
-        options = ["-budget", str(rand.choice([BUDGET, rand.randint(0, 60)])), *options]
-        one = ended(tested, room, f"one{seed}", script.inlined(), options)
-        two = ended(tested, room, f"two{seed}", script.called(), options)
-        if one != two:
-            raise Wrong(f"seed {seed}, {' '.join(options)}:\n{script.inlined()}\n    inlined: {one}\n    called: {two}")
+def changed(name, places):
+    """Scripts in which a name is changed in each of the places, at the top and in a procedure."""
+    for change in CHANGES:
+        begin = f"{BEGIN}proc change {{}} {{switch [llength [lappend ::turns x]] {{{change.replace('NAME', name)}}}; return 1}}\n"
+        for place in places:
+            text = f"set@ n 0; {place.replace('USES', USES)}; puts [list $n $k]"
+            yield f"{name}: {change}: {place}: at the top", begin + text
+            yield f"{name}: {change}: {place}: in a procedure", f"{begin}proc run {{}} {{{text}}}; run"
 
 
-def compare_with_tclsh(tested, room, seed):
-    script = Script(seed).inlined()
-    one = ended(tested, room, f"one{seed}", script, ["-budget", str(BUDGET)])
-    if one[0] == 2:
-        return
-    two = ended(Program("tclsh"), room, f"two{seed}", script)
-    two = (two[0], FAULT_OF_TCLSH.sub(b"", two[1]).replace(EMPTY_OPERAND, NO_NUMBER))
-    if one[1] != two[1] or (one[0] == 0) != (two[0] == 0):
-        raise Wrong(f"seed {seed}:\n{script}\n    tclint: {one}\n    tclsh: {two}")
+# ---- runs
+
+def inlined(text):
+    return text.replace("@", "")
+
+
+def called(text):
+    return COMMAND.sub(r"::\1", text).replace("@", "")
+
+
+class Run:
+    """One run of a script. How it ended is a status, what was put out, and the message."""
+
+    def __init__(self, name, text, options):
+        self.name, self.text, self.options, self.end = name, text, options, None
+
+
+def run_all(tested, room, runs):
+    """Notes how each run ended. One shell starts them, and puts its status behind what each has put out."""
+    lines = [f"ulimit -t {SECONDS}\n"]
+    for at, run in enumerate(runs):
+        write(room, run.text, f"{at}.tcl")
+        lines.append(f"\"$1\" {' '.join(run.options)} {at}.tcl; printf '\\0%d\\0' $?; printf '\\0' >&2\n")
+    write(room, "".join(lines), "runs.sh")
+    got = tested.run([], room, by=["sh", "runs.sh"])
+    outs, errors = got.stdout.split(b"\0"), got.stderr.split(b"\0")
+    if (got.status, len(outs), len(errors)) != (0, 2 * len(runs) + 1, len(runs) + 1):
+        raise Wrong(f"the shell ended with status {got.status} after {len(errors) - 1} of {len(runs)} runs")
+    for run, out, status, error in zip(runs, outs[::2], outs[1::2], errors):
+        run.end = int(status), out, error
+
+
+def forms(name, text, short):
+    """A script as it is and with calls, and one of the two in slices, each with the same budget, which may be a short one."""
+    rand = random.Random(f"runs of {name}")
+    budget = rand.choice([BUDGET, rand.randint(0, 60)]) if short else BUDGET
+    options = ["-budget", str(budget)]
+    texts = [inlined(text), called(text)]
+    sliced = Run(name, rand.choice(texts), [*options, "-slice", str(rand.randint(1, 5))])
+    return [*(Run(name, text, options) for text in texts), sliced]
+
+
+def without_colons(run):
+    """How a run ended, by the names without their colons, which messages and procedures show."""
+    status, *texts = run.end
+    return status, *(text.replace(b"::", b"") for text in texts)
+
+
+def compare(tested, room, scripts, short=True):
+    """What is wrong: scripts whose forms end otherwise, or by none of the ends that a script can have."""
+    found = [forms(name, text, short) for name, text in scripts]
+    run_all(tested, room, [run for runs in found for run in runs])
+    for runs in found:
+        if runs[0].end[0] not in (0, 1, 2) or len({without_colons(run) for run in runs}) > 1:
+            told = "".join(f"\n    {' '.join(run.options)}: {run.end}" for run in runs)
+            yield f"{runs[0].name}, inlined, called, in slices:\n{runs[0].text}{told}"
+
+
+# Each script in an interpreter of its own, from which nothing reaches the next one. A break or continue that leaves a script is
+# the error there that it is where tclsh is given the script as its file.
+EACH_BY_TCLSH = f"""
+foreach file $argv {{
+    set one [interp create]
+    interp limit $one time -seconds [expr {{[clock seconds] + {SECONDS}}}]
+    set code [catch {{interp eval $one [list source $file]}} message]
+    interp delete $one
+    if {{$code in {{3 4}}}} {{
+        set message "invoked \\"[lindex {{break continue}} $code-3]\\" outside of a loop"
+        set code 1
+    }}
+    puts -nonewline "\\0$code\\0$message\\0"
+}}
+"""
+
+
+def as_ours(text):
+    return FAULT_OF_TCLSH.sub(b"", text).replace(EMPTY_OPERAND, NO_NUMBER)
+
+
+def run_by_tclsh(room, runs):
+    """How each run ends by tclsh: a status, what was put out, and the message."""
+    names = [write(room, run.text, f"{at}.tcl") for at, run in enumerate(runs)]
+    write(room, EACH_BY_TCLSH, "each.tcl")
+    got = Program("tclsh").run(["each.tcl", *names], room)
+    parts = got.stdout.split(b"\0")
+    if got.status != 0 or len(parts) != 3 * len(runs) + 1:
+        raise Wrong(f"tclsh ended with status {got.status} after {len(parts) // 3} of {len(runs)} scripts: {got.stderr}")
+    ends = zip(parts[::3], parts[1::3], parts[2::3])
+    return [(int(code), as_ours(out), as_ours(message) + b"\n" if code != b"0" else b"") for out, code, message in ends]
+
+
+def compare_with_tclsh(tested, room, scripts):
+    """The same for scripts that tclsh runs otherwise. One that spends its budget may have no end, and isn't compared."""
+    runs = [Run(name, inlined(text), ["-budget", str(BUDGET)]) for name, text in scripts]
+    run_all(tested, room, runs)
+    yield from (f"{run.name}:\n{run.text}\n    tclint: {run.end}" for run in runs if run.end[0] not in (0, 1, 2))
+    runs = [run for run in runs if run.end[0] in (0, 1)]
+    for run, end in zip(runs, run_by_tclsh(room, runs)):
+        if run.end != end:
+            yield f"{run.name}:\n{run.text}\n    tclint: {run.end}\n    tclsh: {end}"
+
+
+def random_scripts(first, count):
+    return [(f"seed {seed}", Script(seed).text) for seed in range(first, first + count)]
+
+
+def all_changed(places):
+    return [script for name in NAMES for script in changed(name, places)]
 
 
 def list_checks():
+    def listed(name, scripts, short):
+        @check(f"inlined/{name}")
+        def _(tested, room):
+            wrong = list(compare(tested, room, scripts(), short))
+            if wrong:
+                raise Wrong("\n".join(wrong))
+
     for first in (0, TOGETHER):
-        @check(f"inlined/{first}")
-        def _(tested, room, first=first):
-            for seed in range(first, first + TOGETHER):
-                compare(tested, room, seed)
+        listed(first, lambda first=first: random_scripts(first, TOGETHER), True)
+    for name in NAMES:
+        listed(f"{name}-changed", lambda name=name: changed(name, PLACES + PLACES_IN_WORDS), False)
 
 
 list_checks()
@@ -179,23 +321,26 @@ list_checks()
 
 def main(words):
     value = lambda name, otherwise: int(words[words.index(name) + 1]) if name in words else otherwise
-    count, seed = value("--count", 2 * TOGETHER), value("--seed", 0)
-    judge = compare_with_tclsh if "--tclsh" in words else compare
+    seed, by_tclsh = value("--seed", 0), "--tclsh" in words
+    judge = compare_with_tclsh if by_tclsh else compare
+    all_scripts = all_changed(PLACES if by_tclsh else PLACES + PLACES_IN_WORDS) if "--names" in words else None
+    count = len(all_scripts) if all_scripts else value("--count", 2 * TOGETHER)
     tested = Program(os.environ.get("TCLINT") or f"{TOP}/crates/tclint/out/tclint")
-    failed = 0
+    begun, done, failed = time.monotonic(), 0, 0
 
-    def one(seed):
+    def batch(first):
+        end = min(first + TOGETHER, count)
+        scripts = all_scripts[first:end] if all_scripts else random_scripts(seed + first, end - first)
         with tempfile.TemporaryDirectory(prefix="tclint-inlined-") as room:
-            try:
-                judge(tested, room, seed)
-            except Wrong as wrong:
-                return str(wrong)
+            return end - first, list(judge(tested, room, scripts))
 
-    with ThreadPoolExecutor(os.cpu_count()) as pool:
-        for wrong in pool.map(one, range(seed, seed + count)):
-            if wrong:
-                failed += 1
-                print(f"FAIL {wrong}")
+    with ThreadPoolExecutor(PROCESSORS) as pool:
+        for size, wrong in pool.map(batch, range(0, count, TOGETHER)):
+            done, failed = done + size, failed + len(wrong)
+            for text in wrong:
+                print(f"FAIL {text}", flush=True)
+            if done % TOLD_EACH == 0:
+                print(f"{done} of {count} scripts, {failed} failed, {time.monotonic() - begun:.0f} s", flush=True)
     print(f"{count - failed} passed, {failed} failed")
     return 1 if failed else 0
 
