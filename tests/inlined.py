@@ -31,6 +31,8 @@ COMMAND = re.compile(r"(?<![\w$:@])(" + "|".join(NAMES) + r")(?=@)")
 FAULT_OF_TCLSH = re.compile(rb" at _@_|\nin expression \"[^\n]*\"(?:;\nshould be [^\n]*)?")
 # It has a text of its own for an operand that is empty (docs/PROFILE.md).
 EMPTY_OPERAND, NO_NUMBER = b"can't use empty string as operand", b"can't use non-numeric string as operand"
+# Behind the incr of a local variable that isn't there it answers break and continue with this.
+LEFT_OVER = re.compile(rb'^([34])can\'t read "[^"\n]*": no such variable$', re.MULTILINE)
 BUDGET = 400
 TOGETHER = 200  # scripts of one batch
 SECONDS = 20  # of a processor, for one run
@@ -268,7 +270,7 @@ foreach file $argv {{
 
 
 def as_ours(text):
-    return FAULT_OF_TCLSH.sub(b"", text).replace(EMPTY_OPERAND, NO_NUMBER)
+    return LEFT_OVER.sub(rb"\1", FAULT_OF_TCLSH.sub(b"", text)).replace(EMPTY_OPERAND, NO_NUMBER)
 
 
 def run_by_tclsh(room, runs):
