@@ -330,6 +330,13 @@ text_check("brackets-left-open", lambda: b"puts a\nputs " + b"[" * MANY, b"a\n",
 # ---- whole programs, at the edge
 
 text_check("many-turns", b"set s 0; for {set i 0} {$i < 100000} {incr i} {incr s $i}; puts $s", b"4999950000\n")
+A_LONG_BODY = b"incr n;" * (LONG // 70)  # a megabyte
+text_check("long-body-of-while", lambda: b"set i 0; while {[incr i] < 3} {" + A_LONG_BODY + b"}; puts $n", b"285714\n")
+text_check("long-body-of-for", lambda: b"for {set i 0} {$i < 2} {incr i} {" + A_LONG_BODY + b"}; puts $n", b"285714\n")
+text_check("long-next-of-for", lambda: b"for {set i 0} {$i < 2} {incr i;" + A_LONG_BODY + b"} {puts $i}; puts $n", b"0\n1\n285714\n")
+text_check("long-body-of-foreach", lambda: b"foreach x {1 2} {if {$x} {" + A_LONG_BODY + b"}}; puts $n", b"285714\n")
+text_check("long-body-malformed", lambda: b"while 1 {" + A_LONG_BODY + b"puts $n; puts {", b"", 1, b"missing close-brace\n")
+text_check("long-body-that-fails", lambda: b"while 1 {" + A_LONG_BODY + b"puts $n; set x \"a\"b}", b"142857\n", 1, b"extra characters after close-quote\n")
 text_check("many-list-elements", b"for {set i 0} {$i < 100000} {incr i} {lappend l $i}; puts [llength $l],[lindex $l end]", b"100000,99999\n")
 text_check("many-keys", b"for {set i 0} {$i < 20000} {incr i} {dict set d k$i $i}; puts [dict size $d],[dict get $d k19999]", b"20000,19999\n")
 text_check("many-array-elements", b"for {set i 0} {$i < 100000} {incr i} {set a($i) $i}; puts [array size a],$a(99999)", b"100000,99999\n")

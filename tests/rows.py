@@ -18,6 +18,11 @@ NAMED = """
     pages/gets/ill-formed-byte pages/gets/ill-formed-parts pages/flush/basic pages/flush/faulty-calls
     pages/eval/again-and-again pages/dict/lappend-again pages/foreach/long-list pages/format/many-fields pages/split/many-parts
     pages/string/map-of-many-keys pages/switch/many-patterns
+    inlined/break-replaced inlined/codes-in-start inlined/codes-in-the-test-of-for inlined/expr-replaced
+    inlined/faults-when-they-are-reached inlined/for-put-back inlined/for-replaced-in-next
+    inlined/foreach-deleted-in-its-body inlined/foreach-several-lists-replaced inlined/if-replaced-in-a-branch
+    inlined/incr-replaced-in-a-loop inlined/loops-in-tests inlined/nested-loops inlined/set-replaced-in-a-loop
+    inlined/seventeen-levels inlined/while-renamed-in-its-body
 """.split()
 # programs with more growths than are tried one by one
 LONG = "settings-read stacks-and-queues reverse-polish-calculator graph-search assembler netlist-in-levels".split()
