@@ -15,6 +15,9 @@ pub mod FillsWords
 pub mod Forward
 pub mod FoundIsFault
 pub mod Fronts
+pub mod GoesOn
+pub mod GoesOnMoves
+pub mod GoesOnRuns
 pub mod Levels
 pub mod Longer
 pub mod LongerEscapes

@@ -6,4 +6,5 @@ pub mod Laws
 pub mod Parts
 pub mod Spelling
 pub mod Syntax
+pub mod Waiting
 pub mod Words

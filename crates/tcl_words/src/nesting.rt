@@ -83,7 +83,7 @@ pub(crate) fn bracket(reader: Reader, text: &str) -> Result<(Piece<'_>, &str), R
 /// The next piece, or none where the word ends.
 #[tactic(auto, unfolding(crate::specs::Words::piece_at))]
 #[cycle(nesting)]
-fn next_piece(
+pub(crate) fn next_piece(
     reader: Reader,
     mode: Mode,
     text: &str,
@@ -149,7 +149,7 @@ pub(crate) fn quoted(
     Ok((pieces, tail(rest)))
 }
 
-fn form_of(text: &str) -> Form
+pub(crate) fn form_of(text: &str) -> Form
     ensures { result ≡ spec.form_of (chars text.now) }
 {
     if begins('{', text) {
@@ -260,7 +260,7 @@ fn words(
 }
 
 /// What follows the end of a command: a `]` stays.
-fn after_command(text: &str) -> &str
+pub(crate) fn after_command(text: &str) -> &str
     ensures { chars result.now ≡ spec.after_command (chars text.now) }
 {
     if begins(']', text) { text } else { tail(text) }
