@@ -1,5 +1,5 @@
 -- A reading that goes on: each move leaves what comes of the text as it is.
-use Rattle.std.proofs.Common.{◌≡◌, ℕ, zero, suc, ◌-◌, Bool, true, false, not, ◌&&◌, ◌||◌, ◌==◌, List, [], ◌∷◌, ◌++◌, Option, Some, None, Result, Ok, Err, refl, sym, ap, subst, ◌∙◌, arith, inl, inr}
+use Rattle.std.proofs.Common.{◌≡◌, ℕ, suc, ◌-◌, Bool, true, false, ◌==◌, List, [], ◌∷◌, Option, Some, None, Result, Ok, Err, refl, sym, ap, ◌∙◌, arith, inl, inr}
 use Rattle.std.specs.Prelude.{if◌then◌else◌}
 use Rattle.std.proofs.lemmas.Bool.{cases_Bool}
 use Rattle.tcl_chars.specs.Place.{tail, place, before}
@@ -8,21 +8,17 @@ use Rattle.tcl_chars.proofs.Ends.{forward_shrinks}
 use Rattle.tcl_chars.proofs.Turns.{Shrinks, one_turn, last_turn, bad_turn}
 use Rattle.tcl_words.specs.declared.blanks.Gap.TheVariants as gap
 use Rattle.tcl_words.specs.declared.fault.Syntax.{Syntax}
-use Rattle.tcl_words.specs.declared.fault.Syntax.TheVariants.{AfterBrace, AfterQuote, MissingBracket}
+use Rattle.tcl_words.specs.declared.fault.Syntax.TheVariants.{AfterBrace, AfterQuote}
 use Rattle.tcl_words.specs.declared.front.Kind.{Kind}
 use Rattle.tcl_words.specs.declared.front.Kind.TheVariants as kind
 use Rattle.tcl_words.specs.declared.front.Mode.{Mode}
 use Rattle.tcl_words.specs.declared.front.Mode.TheVariants as mode
 use Rattle.tcl_words.specs.declared.word.Form.TheVariants as form
 use Rattle.tcl_words.specs.Parts.{Part, text, bracket, Shape}
-use Rattle.tcl_words.specs.Waiting.{is_firm, is_settled, Script, mode_in, commands_then, words_then, behind, word_ends, pieces_then, braces_then, form_then, in_bracket, script_in}
+use Rattle.tcl_words.specs.Waiting.{Script, mode_in, commands_then, words_then, behind, word_ends, pieces_then, form_then, in_bracket}
 use Rattle.tcl_words.specs.Words.{after_blanks, after_gaps, ends_word, kind_of, is_plain, after_plain, at_brace, braced_at, after_command, marked, pieces_at, piece_at, piece_of, quoted_at, closed, word_of, word_at, next_word, words_at, first_at, commands_at, after_commands, closing, inner_at, stretch, verbatim_at}
 use Rattle.tcl_words.proofs.Forward.{piece_forward, word_forward, first_forward, inner_inside}
-use Rattle.tcl_words.proofs.Longer.{firm, blanks_longer, gaps_longer, ends_longer}
-use Rattle.tcl_words.proofs.LongerKinds.{settled, kind_longer}
-use Rattle.tcl_words.proofs.LongerPieces.{inside_fine, piece_kept}
-use Rattle.tcl_words.proofs.LongerTurns.{Open, KeptTurn}
-use Rattle.tcl_words.proofs.LongerWords.{inner_nested}
+use Rattle.tcl_words.proofs.LongerPieces.{inside_fine}
 
 -- ---- turns, and what follows them
 
@@ -44,22 +40,9 @@ rest_then : {A : Type 0} (r : Result (A × List ℕ) Syntax) (j : List ℕ → R
 rest_then (Ok p) j = refl
 rest_then (Err m) j = refl
 
-pub firm_is : (t : List ℕ) → is_firm t ≡ firm t
-firm_is [] = refl
-firm_is (c ∷ []) = refl
-firm_is (c ∷ d ∷ t) = refl
-
-pub settled_is : (c : ℕ) (t : List ℕ) → is_settled c t ≡ settled c t
-settled_is c [] = refl
-settled_is c (d ∷ []) = refl
-settled_is c (d ∷ e ∷ t) = refl
-
 -- ---- scripts
 
 module _ (size : ℕ) (s : Script) where
-  command_step : Reading Syntax (Option (List Shape))
-  command_step = first_at size (inner_at size s.levels) s.nested
-
   commands_shrink : Shrinks (first_at size (inner_at size s.levels) s.nested)
   commands_shrink = forward_shrinks _ (first_forward size (inner_at size s.levels) (inner_inside size s.levels) s.nested)
 

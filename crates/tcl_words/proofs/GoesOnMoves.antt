@@ -1,5 +1,5 @@
 -- The moves of a reading that goes on, as the code finds them.
-use Rattle.std.proofs.Common.{◌≡◌, ℕ, zero, suc, ◌+◌, ◌-◌, ◌<◌, Bool, true, false, not, ◌&&◌, ◌||◌, ◌==◌, List, [], ◌∷◌, ◌++◌, Option, Some, None, Result, Ok, Err, refl, sym, ap, subst, ◌∙◌, arith, inl, inr}
+use Rattle.std.proofs.Common.{◌≡◌, ℕ, suc, ◌-◌, ◌<◌, Bool, true, false, not, ◌&&◌, ◌==◌, List, [], ◌∷◌, ◌++◌, Option, Some, None, Result, Ok, refl, sym, ap, subst, ◌∙◌, arith, inl, inr}
 use Rattle.std.specs.Prelude.{if◌then◌else◌, is_some}
 use Rattle.std.proofs.lemmas.Bool.{cases_Bool, eqb-true}
 use Rattle.std.proofs.lemmas.List.{append-nil}
@@ -13,7 +13,6 @@ use Rattle.tcl_words.specs.declared.front.Kind.TheVariants as kind
 use Rattle.tcl_words.specs.declared.front.Mode.{Mode}
 use Rattle.tcl_words.specs.declared.word.Form.{Form}
 use Rattle.tcl_words.specs.declared.word.Form.TheVariants as form
-use Rattle.tcl_words.specs.declared.moves.At.{At}
 use Rattle.tcl_words.specs.declared.moves.At.TheVariants as place
 use Rattle.tcl_words.specs.declared.moves.Move.{Move}
 use Rattle.tcl_words.specs.declared.moves.Move.TheVariants as move
@@ -22,46 +21,35 @@ use Rattle.tcl_words.specs.Parts.{Part}
 use Rattle.tcl_words.specs.Waiting.{is_firm, is_settled, has_more, Script, mode_in, commands_then, words_then, behind, word_ends, pieces_then, braces_then, form_then, at_then, in_bracket, Moves, Forms, Behind, Ended}
 use Rattle.tcl_words.specs.Words.{after_blanks, after_gaps, ends_word, begins_variable, marked, ends_pieces, kind_of, at_brace, form_of, after_command, pieces_at, piece_at, closing, inner_at}
 use Rattle.tcl_words.proofs.Forward.{inner_inside}
-use Rattle.tcl_words.proofs.GoesOn.{firm_is, settled_is, then_more, then_done, pieces_shrink, command_begins, commands_end, words_end, word_begins, marked_begins, plain_moves, bracket_opens}
-use Rattle.tcl_words.proofs.Longer.{firm, some, blanks_longer, gaps_longer, ends_longer}
+use Rattle.tcl_words.proofs.GoesOn.{then_more, then_done, pieces_shrink, command_begins, commands_end, words_end, word_begins, marked_begins, plain_moves, bracket_opens}
+use Rattle.tcl_words.proofs.Longer.{blanks_longer, gaps_longer, ends_longer}
 use Rattle.tcl_words.proofs.LongerKinds.{kind_longer}
-use Rattle.tcl_words.proofs.LongerPieces.{piece_kept}
+use Rattle.tcl_words.proofs.LongerPieces.{firm_some, piece_kept}
 use Rattle.tcl_words.proofs.LongerTurns.{Open, KeptTurn}
 use Rattle.tcl_words.proofs.LongerWords.{inner_nested, command_longer}
 
-firm_here : (t : List ℕ) → is_firm t ≡ true → firm t ≡ true
-firm_here t h = sym (firm_is t) ∙ h
-
-firm_has : (t : List ℕ) → is_firm t ≡ true → some t ≡ true
-firm_has [] h = absurd cc
-firm_has (c ∷ t) h = refl
-
-has_some : (t : List ℕ) → has_more t ≡ true → some t ≡ true
-has_some [] h = absurd cc
-has_some (c ∷ t) h = refl
-
-tail_on : (t y : List ℕ) → some t ≡ true → tail (t ++ y) ≡ tail t ++ y
+tail_on : (t y : List ℕ) → has_more t ≡ true → tail (t ++ y) ≡ tail t ++ y
 tail_on [] y h = absurd cc
 tail_on (c ∷ t) y h = refl
 
 ends_on : (nested b : Bool) (s : Script) (t y : List ℕ) → s.nested ≡ nested → is_firm t ≡ true → ends_word nested t ≡ b → ends_word s.nested (t ++ y) ≡ b
-ends_on nested b s t y n f e = ap (λ x. ends_word x (t ++ y)) n ∙ ends_longer nested t y (firm_here t f) ∙ e
+ends_on nested b s t y n f e = ap (λ x. ends_word x (t ++ y)) n ∙ ends_longer nested t y f ∙ e
 
 -- ---- between commands
 
 gaps_on : (cs rest y : List ℕ) → rest ≡ after_gaps gap.Between cs → is_firm rest ≡ true → after_gaps gap.Between (cs ++ y) ≡ rest ++ y
-gaps_on cs rest y e f = gaps_longer gap.Between cs y (ap firm (sym e) ∙ firm_here rest f) ∙ ap (λ (t : List ℕ). t ++ y) (sym e)
+gaps_on cs rest y e f = gaps_longer gap.Between cs y (ap is_firm (sym e) ∙ f) ∙ ap (λ (t : List ℕ). t ++ y) (sym e)
 
 pub commands_go : (nested : Bool) (cs rest : List ℕ) → rest ≡ after_gaps gap.Between cs → is_firm rest ≡ true → ends_word nested rest ≡ false
     → (levels size : ℕ) (s : Script) (y : List ℕ) → s.levels ≡ levels → s.nested ≡ nested → at_then size place.Commands s (cs ++ y) ≡ at_then size place.Words s (rest ++ y)
 unfolding at_then
 commands_go nested cs rest e f open_ levels size s y l n = command_begins size s (cs ++ y) (rest ++ y) (gaps_on cs rest y e f) (ends_on nested false s rest y n f open_)
 
-closing_at : (t : List ℕ) (k : List ℕ → Result (List ℕ) Syntax) → some t ≡ true → (closing t >>= k) ≡ k t
+closing_at : (t : List ℕ) (k : List ℕ → Result (List ℕ) Syntax) → has_more t ≡ true → (closing t >>= k) ≡ k t
 closing_at [] k h = absurd cc
 closing_at (c ∷ t) k h = refl
 
-some_on : (t y : List ℕ) → some t ≡ true → some (t ++ y) ≡ true
+some_on : (t y : List ℕ) → has_more t ≡ true → has_more (t ++ y) ≡ true
 some_on [] y h = absurd cc
 some_on (c ∷ t) y h = refl
 
@@ -69,13 +57,10 @@ pub commands_close : (nested : Bool) (cs rest after : List ℕ) → rest ≡ aft
     → (levels size : ℕ) (s : Script) (quoted : Bool) (y : List ℕ) → nested ≡ true → at_then size place.Commands (in_bracket size quoted s) (cs ++ y) ≡ at_then size (place.Pieces quoted) s (after ++ y)
 unfolding at_then
 commands_close nested cs rest after e f ends is levels size s quoted y n =
-    let has = firm_has rest f in
+    let has = firm_some rest f in
     commands_end size (in_bracket size quoted s) (cs ++ y) (rest ++ y) (gaps_on cs rest y e f) (ends_on nested true (in_bracket size quoted s) rest y (sym n) f ends)
     ∙ closing_at (rest ++ y) (λ close. pieces_then size quoted s (tail close)) (some_on rest y has)
     ∙ ap (pieces_then size quoted s) (tail_on rest y has ∙ ap (λ (t : List ℕ). t ++ y) (sym is))
-
-ends_nothing : (b : Bool) → ends_word b [] ≡ true
-ends_nothing b = refl
 
 pub commands_stop : (cs rest : List ℕ) → rest ≡ after_gaps gap.Between cs → rest ≡ [] → (levels size : ℕ) (s : Script) (nested : Bool) → s.nested ≡ nested → at_then size place.Commands s cs ≡ s.next []
 unfolding at_then
@@ -84,16 +69,16 @@ commands_stop cs rest e none levels size s nested n = commands_end size s cs [] 
 -- ---- between words
 
 blanks_on : (cs rest y : List ℕ) → rest ≡ after_blanks cs → is_firm rest ≡ true → after_blanks (cs ++ y) ≡ rest ++ y
-blanks_on cs rest y e f = blanks_longer cs y (ap firm (sym e) ∙ firm_here rest f) ∙ ap (λ (t : List ℕ). t ++ y) (sym e)
+blanks_on cs rest y e f = blanks_longer cs y (ap is_firm (sym e) ∙ f) ∙ ap (λ (t : List ℕ). t ++ y) (sym e)
 
 pub words_stop : (nested : Bool) (cs rest after : List ℕ) → rest ≡ after_blanks cs → is_firm rest ≡ true → ends_word nested rest ≡ true → after ≡ after_command rest
     → (levels size : ℕ) (s : Script) (y : List ℕ) → s.levels ≡ levels → s.nested ≡ nested → at_then size place.Words s (cs ++ y) ≡ at_then size place.Commands s (after ++ y)
 unfolding at_then
 words_stop nested cs rest after e f ends is levels size s y l n =
     words_end size s (cs ++ y) (rest ++ y) (blanks_on cs rest y e f) (ends_on nested true s rest y n f ends)
-    ∙ ap (commands_then size s) (command_longer rest y (firm_has rest f) ∙ ap (λ (t : List ℕ). t ++ y) (sym is))
+    ∙ ap (commands_then size s) (command_longer rest y (firm_some rest f) ∙ ap (λ (t : List ℕ). t ++ y) (sym is))
 
-begun : (size : ℕ) (s : Script) (cs rest : List ℕ) → after_blanks cs ≡ rest → some rest ≡ true → ends_word s.nested rest ≡ false → marked s.nested rest ≡ false → words_then size s cs ≡ form_then size s rest
+begun : (size : ℕ) (s : Script) (cs rest : List ℕ) → after_blanks cs ≡ rest → has_more rest ≡ true → ends_word s.nested rest ≡ false → marked s.nested rest ≡ false → words_then size s cs ≡ form_then size s rest
 begun size s cs [] e h open_ m = absurd cc
 begun size s cs (c ∷ t) e h open_ m = word_begins size s cs c t e open_ m
 
@@ -111,7 +96,7 @@ pub unmarked_go : (nested : Bool) (cs rest : List ℕ) (m : Move) → rest ≡ a
     → (levels : ℕ) → Moves levels nested place.Words cs m
 unmarked_go nested cs rest m e f open_ mark forms levels =
     by_form levels nested cs rest m
-    (λ size s y n. begun size s (cs ++ y) (rest ++ y) (blanks_on cs rest y e f) (some_on rest y (firm_has rest f)) (ends_on nested false s rest y n f open_) (ap (λ x. marked x (rest ++ y)) n ∙ mark y))
+    (λ size s y n. begun size s (cs ++ y) (rest ++ y) (blanks_on cs rest y e f) (some_on rest y (firm_some rest f)) (ends_on nested false s rest y n f open_) (ap (λ x. marked x (rest ++ y)) n ∙ mark y))
     forms
 
 both_true : (a b : Bool) → (a && b) ≡ true → (a ≡ true) × (b ≡ true)
@@ -175,11 +160,11 @@ form_at size s cs y f h e = form_is size s (cs ++ y) ∙ ap (λ x. formed size s
 
 pub braced_form : (cs rest : List ℕ) → has_more cs ≡ true → form_of cs ≡ form.Braced → rest ≡ tail cs → (size : ℕ) (s : Script) (y : List ℕ) → form_then size s (cs ++ y) ≡ at_then size (place.Braces false 0) s (rest ++ y)
 unfolding at_then formed
-braced_form cs rest h f is size s y = form_at size s cs y form.Braced h f ∙ ap (braces_then size false 0 s) (tail_on cs y (has_some cs h) ∙ ap (λ (t : List ℕ). t ++ y) (sym is))
+braced_form cs rest h f is size s y = form_at size s cs y form.Braced h f ∙ ap (braces_then size false 0 s) (tail_on cs y h ∙ ap (λ (t : List ℕ). t ++ y) (sym is))
 
 pub quoted_form : (cs rest : List ℕ) → has_more cs ≡ true → form_of cs ≡ form.Quoted → rest ≡ tail cs → (size : ℕ) (s : Script) (y : List ℕ) → form_then size s (cs ++ y) ≡ at_then size (place.Pieces true) s (rest ++ y)
 unfolding at_then formed
-quoted_form cs rest h f is size s y = form_at size s cs y form.Quoted h f ∙ ap (pieces_then size true s) (tail_on cs y (has_some cs h) ∙ ap (λ (t : List ℕ). t ++ y) (sym is))
+quoted_form cs rest h f is size s y = form_at size s cs y form.Quoted h f ∙ ap (pieces_then size true s) (tail_on cs y h ∙ ap (λ (t : List ℕ). t ++ y) (sym is))
 
 pub bare_form : (cs : List ℕ) → has_more cs ≡ true → form_of cs ≡ form.Bare → (size : ℕ) (s : Script) (y : List ℕ) → form_then size s (cs ++ y) ≡ at_then size (place.Pieces false) s (cs ++ y)
 unfolding at_then formed
@@ -235,7 +220,7 @@ unfolding at_then pieces_at piece_at all_turns turns kind_of
 quotes_open cs quoted e q size s nested n = rw (e, q) refl
 
 kind_on : (nested quoted : Bool) (s : Script) (c : ℕ) (rest y : List ℕ) (k : Kind) → s.nested ≡ nested → is_settled c rest ≡ true → kind_of (mode_in nested quoted) (c ∷ rest) ≡ k → kind_of (mode_in s.nested quoted) (c ∷ (rest ++ y)) ≡ k
-kind_on nested quoted s c rest y k n f e = ap (λ x. kind_of (mode_in x quoted) (c ∷ (rest ++ y))) n ∙ kind_longer (mode_in nested quoted) c rest y (sym (settled_is c rest) ∙ f) ∙ e
+kind_on nested quoted s c rest y k n f e = ap (λ x. kind_of (mode_in x quoted) (c ∷ (rest ++ y))) n ∙ kind_longer (mode_in nested quoted) c rest y f ∙ e
 
 pub plain_goes : (nested quoted : Bool) (cs rest : List ℕ) (c : ℕ) → cs ≡ c ∷ rest → kind_of (mode_in nested quoted) cs ≡ kind.Plain → is_settled c rest ≡ true
     → (levels size : ℕ) (s : Script) (y : List ℕ) → s.levels ≡ levels → s.nested ≡ nested → at_then size (place.Pieces quoted) s (cs ++ y) ≡ at_then size (place.Pieces quoted) s (rest ++ y)
@@ -276,14 +261,6 @@ opening_goes nested quoted cs rest c levels e k more size s y l n =
     ∙ bracket_opens size s quoted (rest ++ y) (levels - 1) below (kind_on nested quoted s 91 rest y kind.Opening n (bracket_settled rest) (subst P is here))
 
 -- a piece that is read at once, or the end of the word
-some_is : (found : Option Part) → is_some found ≡ true → (p : Part) × (found ≡ Some p)
-some_is (Some p) h = (p, refl)
-some_is None h = absurd cc
-
-none_is : (found : Option Part) → is_some found ≡ false → found ≡ None
-none_is (Some p) h = absurd cc
-none_is None h = refl
-
 module _ (n : ℕ) (nested quoted : Bool) (t rest : List ℕ) (size : ℕ) (s : Script) (y : List ℕ) where
   kept_piece : (found : Option Part) (levels : ℕ) → s.levels ≡ levels → s.nested ≡ nested → piece_at n (inner_at n levels) (mode_in nested quoted) t ≡ Ok (found, rest)
       → KeptTurn {A = Part} Open y t (Ok (found, rest)) (piece_at size (inner_at size s.levels) (mode_in s.nested quoted) (t ++ y))
@@ -297,11 +274,11 @@ module _ (n : ℕ) (nested quoted : Bool) (t rest : List ℕ) (size : ℕ) (s : 
       → at_then size (place.Pieces quoted) s (t ++ y) ≡ at_then size (place.Pieces quoted) s (rest ++ y)
   unfolding at_then pieces_at
   piece_goes (Some p) levels e h f l b =
-      let (z, same) = kept_piece (Some p) levels l b e (firm_here rest f) in
+      let (z, same) = kept_piece (Some p) levels l b e f in
       then_more (piece_at size (inner_at size s.levels) (mode_in s.nested quoted)) (pieces_shrink size s (mode_in s.nested quoted)) (word_ends size quoted s) (t ++ y) z (rest ++ y) same
   piece_goes None levels e h f l b = absurd cc
 
-  pub word_goes : (found : Option Part) (levels : ℕ) → piece_at n (inner_at n levels) (mode_in nested quoted) t ≡ Ok (found, rest) → is_some found ≡ false → some rest ≡ true → s.levels ≡ levels → s.nested ≡ nested
+  pub word_goes : (found : Option Part) (levels : ℕ) → piece_at n (inner_at n levels) (mode_in nested quoted) t ≡ Ok (found, rest) → is_some found ≡ false → has_more rest ≡ true → s.levels ≡ levels → s.nested ≡ nested
       → at_then size (place.Pieces quoted) s (t ++ y) ≡ word_ends size quoted s (rest ++ y)
   unfolding at_then pieces_at
   word_goes (Some p) levels e h f l b = absurd cc
@@ -312,7 +289,7 @@ pub quote_ended : (nested quoted : Bool) (rest after : List ℕ) (m : Move) → 
 quote_ended nested quoted rest after (move.Goes then_ left) q is h b = (
   h,
   λ size s y n.
-      ap (λ x. word_ends size x s (rest ++ y)) q ∙ ap (behind size AfterQuote s) (tail_on rest y (has_some rest h) ∙ ap (λ (t : List ℕ). t ++ y) (sym is)) ∙ b size s AfterQuote y n,
+      ap (λ x. word_ends size x s (rest ++ y)) q ∙ ap (behind size AfterQuote s) (tail_on rest y h ∙ ap (λ (t : List ℕ). t ++ y) (sym is)) ∙ b size s AfterQuote y n,
 )
 quote_ended nested quoted rest after (move.Opens marked left) q is h b = absurd b
 quote_ended nested quoted rest after (move.Closes left) q is h b = absurd b
@@ -326,7 +303,7 @@ bare_ended nested quoted rest q size s y n = ap (λ x. word_ends size x s (rest 
 
 pub word_ended : (n levels : ℕ) (nested quoted : Bool) (t rest : List ℕ) (found : Option Part) (m : Move) → piece_at n (inner_at n levels) (mode_in nested quoted) t ≡ Ok (found, rest) → is_some found ≡ false → Ended nested quoted rest m
     → Moves levels nested (place.Pieces quoted) t m
-word_ended n levels nested quoted t rest found (move.Goes then_ left) e h b = λ size s y l k. word_goes n nested quoted t rest size s y found levels e h (has_some rest b.0) l k ∙ b.1 size s y k
+word_ended n levels nested quoted t rest found (move.Goes then_ left) e h b = λ size s y l k. word_goes n nested quoted t rest size s y found levels e h b.0 l k ∙ b.1 size s y k
 word_ended n levels nested quoted t rest found (move.Opens marked left) e h b = absurd b
 word_ended n levels nested quoted t rest found (move.Closes left) e h b = absurd b
 word_ended n levels nested quoted t rest found move.Ends e h b = absurd b

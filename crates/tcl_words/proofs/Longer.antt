@@ -8,22 +8,13 @@ use Rattle.tcl_words.specs.declared.blanks.Gap.{Gap}
 use Rattle.tcl_words.specs.declared.blanks.Gap.TheVariants as gap
 use Rattle.tcl_words.specs.declared.fault.Syntax.{Syntax}
 use Rattle.tcl_words.specs.Complete.{is_open}
+pub use Rattle.tcl_words.specs.Waiting.{has_more as some, is_firm as firm}
 use Rattle.tcl_words.specs.Words.{after_blanks, after_gaps, ends_word, after_name, at_variable_brace, at_brace}
 use Rattle.tcl_chars.proofs.Ends.{if_cond}
 
 pub same_cond : {A : Type 0} (P : A → A → Type 0) (b : Bool) (x y u v : A) → P x u → P y v → P (cond b x y) (cond b u v)
 same_cond P true x y u v h k = h
 same_cond P false x y u v h k = k
-
-abbrev pub some : List ℕ → Bool
-some [] = false
-some (c ∷ cs) = true
-
--- Nothing, a colon or a backslash may be read otherwise where the text goes on.
-abbrev pub firm : List ℕ → Bool
-firm [] = false
-firm (c ∷ []) = not (c == colon || c == backslash)
-firm (c ∷ d ∷ cs) = true
 
 -- a rest that is firm has what follows behind it
 abbrev pub Firm : List ℕ → List ℕ → List ℕ → Type 0

@@ -5,14 +5,9 @@ use Rattle.tcl_chars.specs.Characters.{backslash, dollar, colon}
 use Rattle.tcl_words.specs.declared.front.Kind.TheVariants as kind
 use Rattle.tcl_words.specs.declared.front.Mode.{Mode}
 use Rattle.tcl_words.specs.declared.front.Mode.TheVariants as mode
+pub use Rattle.tcl_words.specs.Waiting.{is_settled as settled}
 use Rattle.tcl_words.specs.Words.{kind_of, is_plain, after_plain, begins_variable}
 use Rattle.tcl_words.proofs.Longer.{same_cond, firm, Firm}
-
--- the end of the text is not so near that what begins at c hangs on what follows
-abbrev pub settled : ℕ → List ℕ → Bool
-settled c [] = not (c == backslash || c == dollar)
-settled c (d ∷ []) = not (c == dollar && d == colon)
-settled c (d ∷ e ∷ t) = true
 
 -- texts of which it does, or of which what is read before them does
 pub data Short : List ℕ → Type 0 where

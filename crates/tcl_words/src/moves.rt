@@ -19,7 +19,7 @@ use std::alloc::AllocError;
 use tcl_chars::{ReadFault, begins, split_first, tail};
 
 /// Where the reading of a script stands.
-#[derive(Clone, Copy, Debug, PartialEq, Eq)]
+#[derive(Clone, Copy, Debug)]
 pub(crate) enum At {
     /// Between commands.
     Commands,
@@ -32,7 +32,7 @@ pub(crate) enum At {
 }
 
 /// What comes next.
-#[derive(Clone, Copy, Debug)]
+#[derive(Clone, Copy)]
 pub(crate) enum Move<'a> {
     /// What is left is read there.
     Goes(At, &'a str),
@@ -49,7 +49,7 @@ pub(crate) enum Move<'a> {
 }
 
 /// What is known of a text at its end.
-#[derive(Clone, Copy, Debug, PartialEq, Eq)]
+#[derive(Clone, Copy)]
 pub(crate) enum Verdict {
     /// Nothing is open.
     Whole,

@@ -27,7 +27,7 @@ pub struct Waiting {
 }
 
 /// What a move comes to.
-#[derive(Clone, Copy, Debug)]
+#[derive(Clone, Copy)]
 enum Turn<'a> {
     /// What is left is read there.
     Goes(At, &'a str),

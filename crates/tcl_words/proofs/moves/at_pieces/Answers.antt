@@ -1,4 +1,4 @@
-use Rattle.std.proofs.Common.{◌≡◌, ap, sym, ◌∙◌, subst}
+use Rattle.std.proofs.Common.{ap, sym, ◌∙◌, subst}
 use Rattle.std.specs.Str.{chars}
 use Rattle.tcl_words.specs.declared.moves.At.TheVariants as place
 use Rattle.tcl_words.specs.declared.moves.Move.{Move}
