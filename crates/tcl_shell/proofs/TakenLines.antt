@@ -69,6 +69,16 @@ took_none (Some bytes) t line after met met' n e h =
     took_line (Some bytes) t (option_map rc_str_bytes line) after met met' t e h
     (sym (ap (λ (x : Option (RcStr Global)). t ++ (or_empty (option_map chars (option_map rc_str_bytes x)) ++ unless_ended met')) n ∙ ap (λ (x : Bool). t ++ unless_ended x) ended ∙ append-nil t))
 
+-- a line that was taken alone, and was written behind a text
+pub taken_alone : (t fresh line t' : Text) (now now' : Option Text) (met : Bool) → fresh ≡ [] → TakenBy (line_behind fresh) now line now' met → t' ≡ t ++ line → TakenBy (line_behind t) now t' now' met
+taken_alone t fresh line t' None now' met f h e = tt
+taken_alone t fresh line t' (Some cs) now' met f (rest, after, same) e =
+    let alone : line_behind [] cs ≡ record { text = line; left = rest; met_end = met } = ap (λ (x : Text). line_behind x cs) (sym f) ∙ same in (
+      rest,
+      after,
+      ap (λ (x : Taken). record { text = t ++ x.text; left = x.left; met_end = x.met_end }) alone ∙ ap (λ (x : Text). record { text = x; left = rest; met_end = met }) (sym e),
+    )
+
 -- ---- the lines taken so far
 
 abbrev pub Gathering : Option Text → Text → Option Text → Type 0

@@ -17,7 +17,7 @@ use tcl_chan::device::{Input, Output};
 use tcl_chan::fault::ChanFault;
 use tcl_chan::world::World;
 use tcl_chars::{push, push_text};
-use tcl_words::is_complete;
+use tcl_words::{at_beginning, is_complete_behind};
 
 // Takes a line of the input, with its newline if it has one, and writes it behind a text.
 fn take_line<R: Input, W: Output, E: Output>(
@@ -56,14 +56,19 @@ fn take_text<R: Input, W: Output, E: Output>(
     ensures devices { SameDevices world.old world.new }
 {
     let mut text = String::new(alloc);
+    let mut waiting = at_beginning(alloc);
     'lines: for _ in 0..u64::MAX {
-        take_line(world, &mut text)?;
+        let mut line = String::new(alloc);
+        take_line(world, &mut line)?;
+        push_text(&mut text, line.as_str())?;
         if world.eof() {
             return Ok(text);
         }
-        if is_complete(alloc, text.as_str())? {
+        let (next, complete) = is_complete_behind(alloc, waiting, line.as_str(), text.as_str())?;
+        if complete {
             return Ok(text);
         }
+        waiting = next;
     }
     // No memory holds a text of so many lines.
     Err(ChanFault::Memory)
