@@ -28,10 +28,10 @@ returns-then-eof-clause-taken g c =
     let channels = channels_of g.R.Input.to_come g.W.Output.written g.E.Output.written in
     let world = c.take_line.new.world in
     let joined : chars (string_bytes c.push_text.new.text) ≡ chars (string_bytes c.lines.text) ++ chars (string_bytes c.take_line.new.text) =
-        c.in_ok-push_text.ensures.ok ∙ ap (λ (t : List ℕ). chars (string_bytes c.lines.text) ++ chars t) c.as_str.ensures.value in
+    c.in_ok-push_text.ensures.ok ∙ ap (λ (t : List ℕ). chars (string_bytes c.lines.text) ++ chars t) c.as_str.ensures.value in
     let taken =
-        taken_alone (chars (string_bytes c.lines.text)) (chars (string_bytes c.new-line.result)) (chars (string_bytes c.take_line.new.text)) (chars (string_bytes c.push_text.new.text)) (channels c.lines.world).input (channels world).input (met_end world)
-        (ap chars c.new-line.ensures.bytes ∙ chars-nil) c.in_ok-take_line.ensures.taken joined in
+    taken_alone (chars (string_bytes c.lines.text)) (chars (string_bytes c.new-line.result)) (chars (string_bytes c.take_line.new.text)) (chars (string_bytes c.push_text.new.text)) (channels c.lines.world).input (channels world).input (met_end world)
+    (ap chars c.new-line.ensures.bytes ∙ chars-nil) c.in_ok-take_line.ensures.taken joined in
     gathering_ended (channels c.args.world.now).input (chars (string_bytes c.lines.text)) (channels c.lines.world).input (chars (string_bytes c.push_text.new.text)) (channels world).input (met_end world) c.lines.invariant.1 taken (sym c.eof.ensures ∙ c.if-eof.true)
 
 pub is_complete_behind-requires : goal.is_complete_behind-requires
@@ -48,10 +48,10 @@ returns-then-complete-clause-taken g c =
     let channels = channels_of g.R.Input.to_come g.W.Output.written g.E.Output.written in
     let world = c.take_line.new.world in
     let joined : chars (string_bytes c.push_text.new.text) ≡ chars (string_bytes c.lines.text) ++ chars (string_bytes c.take_line.new.text) =
-        c.in_ok-push_text.ensures.ok ∙ ap (λ (t : List ℕ). chars (string_bytes c.lines.text) ++ chars t) c.as_str.ensures.value in
+    c.in_ok-push_text.ensures.ok ∙ ap (λ (t : List ℕ). chars (string_bytes c.lines.text) ++ chars t) c.as_str.ensures.value in
     let taken =
-        taken_alone (chars (string_bytes c.lines.text)) (chars (string_bytes c.new-line.result)) (chars (string_bytes c.take_line.new.text)) (chars (string_bytes c.push_text.new.text)) (channels c.lines.world).input (channels world).input (met_end world)
-        (ap chars c.new-line.ensures.bytes ∙ chars-nil) c.in_ok-take_line.ensures.taken joined in
+    taken_alone (chars (string_bytes c.lines.text)) (chars (string_bytes c.new-line.result)) (chars (string_bytes c.take_line.new.text)) (chars (string_bytes c.push_text.new.text)) (channels c.lines.world).input (channels world).input (met_end world)
+    (ap chars c.new-line.ensures.bytes ∙ chars-nil) c.in_ok-take_line.ensures.taken joined in
     let whole : is_complete (chars (string_bytes c.push_text.new.text)) ≡ true = ap (λ t. is_complete (chars t)) (sym c.as_str-in-lines-2.ensures.value) ∙ sym c.in_ok-next.ensures.complete ∙ c.if-complete.true in
     gathering_whole (channels c.args.world.now).input (chars (string_bytes c.lines.text)) (channels c.lines.world).input (chars (string_bytes c.push_text.new.text)) (channels world).input (met_end world) c.lines.invariant.1 taken whole
 
@@ -60,10 +60,10 @@ lines-preserved g c =
     let channels = channels_of g.R.Input.to_come g.W.Output.written g.E.Output.written in
     let world = c.take_line.new.world in
     let joined : chars (string_bytes c.push_text.new.text) ≡ chars (string_bytes c.lines.text) ++ chars (string_bytes c.take_line.new.text) =
-        c.in_ok-push_text.ensures.ok ∙ ap (λ (t : List ℕ). chars (string_bytes c.lines.text) ++ chars t) c.as_str.ensures.value in
+    c.in_ok-push_text.ensures.ok ∙ ap (λ (t : List ℕ). chars (string_bytes c.lines.text) ++ chars t) c.as_str.ensures.value in
     let taken =
-        taken_alone (chars (string_bytes c.lines.text)) (chars (string_bytes c.new-line.result)) (chars (string_bytes c.take_line.new.text)) (chars (string_bytes c.push_text.new.text)) (channels c.lines.world).input (channels world).input (met_end world)
-        (ap chars c.new-line.ensures.bytes ∙ chars-nil) c.in_ok-take_line.ensures.taken joined in
+    taken_alone (chars (string_bytes c.lines.text)) (chars (string_bytes c.new-line.result)) (chars (string_bytes c.take_line.new.text)) (chars (string_bytes c.push_text.new.text)) (channels c.lines.world).input (channels world).input (met_end world)
+    (ap chars c.new-line.ensures.bytes ∙ chars-nil) c.in_ok-take_line.ensures.taken joined in
     let took = c.in_ok-take_line.ensures in
     let goes_on = sym c.eof.ensures ∙ c.if-eof.false in
     let waits : is_complete (chars (string_bytes c.push_text.new.text)) ≡ false = ap (λ t. is_complete (chars t)) (sym c.as_str-in-lines-2.ensures.value) ∙ sym c.in_ok-next.ensures.complete ∙ c.if-complete.false in
