@@ -27,6 +27,7 @@ sys.dont_write_bytecode = True
 from program import TOP, Program, Wrong, check, write
 
 NAMES = ("set", "incr", "expr", "if", "while", "for", "foreach", "break", "continue")
+OTHERS = [name for name in NAMES if name != "foreach"]  # words of a foreach that change its own name: PLACES_IN_WORDS
 COMMAND = re.compile(r"(?<![\w$:@])(" + "|".join(NAMES) + r")(?=@)")
 # What tclsh says beyond the message of a malformed expression.
 FAULT_OF_TCLSH = re.compile(rb" at _@_|\nin expression \"[^\n]*\"(?:;\nshould be [^\n]*)?")
@@ -35,6 +36,7 @@ EMPTY_OPERAND, NO_NUMBER = b"can't use empty string as operand", b"can't use non
 # What break and continue have come to, which by the manual is nothing. Where tclsh runs them in place it may be what came before.
 NOTHING = (b"caught 3:", b"caught 4:")
 BUDGET = 400
+FAULTS = 0.02  # how often a number or a condition is none: the script mostly ends there
 TOGETHER = 200  # scripts of one batch
 SECONDS = 20  # of a processor, for one run
 PROCESSORS = len(os.sched_getaffinity(0))
@@ -53,7 +55,7 @@ class Script:
         if self.random.random() < 0.5:
             yield f"proc p {{}} {{{self.body(1, True)}; return@ $a}}".replace("return@", "return")
             yield "proc q {x args} {upvar 1 a y; set@ y $x; return -code [lindex {ok break continue error} [expr@ {$x % 4}]] r$x}"
-        for _ in range(self.random.randint(2, 6)):
+        for _ in range(self.random.randint(3, 8)):
             yield self.command(0, False)
         yield "puts [list $a $b $n]"
 
@@ -63,22 +65,25 @@ class Script:
         return chosen() if callable(chosen) else chosen
 
     def number(self):
-        return self.pick("0", "1", "2", "3", "$a", "$b", "[incr@ n]", "[set@ a]", "007", "x")
+        fault = self.random.random() < FAULTS
+        return "x" if fault else self.pick("0", "1", "2", "3", "$a", "$b", "[incr@ n]", "[set@ a]", "007")
 
     def condition(self):
         left, right = self.number(), self.number()
         plain = f"{left} {self.pick('<', '>', '==', '!=', '<=', 'eq')} {right}"
-        return self.pick(plain, plain, plain, f"!({plain})", f"{plain} && [incr@ n] < 9", f"{left} || [puts o]", "1", "0", "$a <", "[break@]")
+        if self.random.random() < FAULTS:
+            return self.pick("$a <", "[break@]", f"{left} || [puts o]")
+        return self.pick(plain, plain, plain, f"!({plain})", f"{plain} && [incr@ n] < 9", "1", "0", "[llength $l] > 2")
 
     def braced(self, depth, inner):
         body = self.body(depth + 1, inner)
         return self.pick(f"{{{body}}}", f"{{{body}}}", f"{{{body}}}", f"[list {body}]" if re.fullmatch(r"[\w@ ]+", body) else "{}")
 
     def body(self, depth, inner):
-        return "; ".join(self.command(depth, inner) for _ in range(self.random.randint(0, 3)))
+        return "; ".join(self.command(depth, inner) for _ in range(self.random.randint(0, 4)))
 
     def elements(self):
-        return self.pick("{1 2 3}", "{1 2 3 4 5}", "$l", "$l", "{}", "$n", "[list a b]", "[set@ l {4 5}]", "[incr@ n]", f"[{self.changed()}]", '"\\{ $a"')
+        return self.pick("{1 2 3}", "{1 2 3 4 5}", "$l", "$l", "{}", "$n", "[list a b]", "[set@ l {4 5}]", "[incr@ n]", f"[{self.changed(OTHERS)}]", '"\\{ $a"')
 
     def lists(self, count):
         """Several lists with their names."""
@@ -104,9 +109,9 @@ class Script:
             text += f" elseif {{{self.condition()}}} {self.braced(depth, inner)}"
         return text + self.pick("", lambda: f" else {self.braced(depth, inner)}", lambda: f" {self.braced(depth, inner)}")
 
-    def changed(self):
+    def changed(self, names=NAMES):
         """A name that is renamed, replaced or put back."""
-        name = self.pick(*NAMES)
+        name = self.pick(*names)
         return self.pick(
             f"rename {name}@ old_{name}",
             f"rename {name}@ {{}}",
