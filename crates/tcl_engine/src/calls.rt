@@ -281,7 +281,8 @@ impl<V: Devices> Host<'_, '_, '_, '_, V> {
         self.command(dialect, word.as_str(), &first, &mut words[1..])
     }
 
-    /// Calls the command whose words lie on top of a code's texts, where they stay until it is done.
+    /// Calls the command whose words lie on top of a code's texts, where they stay until it is done. It stands apart, as `instruct` does.
+    #[inline(never)]
     pub(crate) fn call(
         &mut self,
         dialect: Dialect,

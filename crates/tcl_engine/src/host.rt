@@ -57,7 +57,8 @@ impl<V: Devices> Host<'_, '_, '_, '_, V> {
         self.units
     }
 
-    /// One instruction of a code, or its end.
+    /// One instruction of a code, or its end. It stands apart, so that the way of those that are done at once stays small.
+    #[inline(never)]
     pub(crate) fn instruct(
         &mut self,
         dialect: Dialect,
