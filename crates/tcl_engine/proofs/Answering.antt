@@ -36,8 +36,6 @@ use Rattle.tcl_steps.proofs.FrameCounts.{given_count}
 use Rattle.tcl_steps.specs.Comes.{state_of}
 use Rattle.tcl_steps.specs.Ends.{Does, DoesAsk, DoesIn}
 use Rattle.tcl_engine.specs.Answered.{host_views, Answered}
-use Rattle.tcl_engine.specs.AsStep.{as_step, told_step}
-use Rattle.tcl_engine.specs.declared.told.Told.{Told}
 use Rattle.tcl_engine.proofs.Scoping.{no_channels}
 
 abbrev Asked : Type 0
@@ -126,17 +124,6 @@ broken_as result page s t is same free = subst (λ r. Answered page s r t) (sym 
 
 pub asked_as : (r : Result Asked AllocError) (a : Asked) (page : Asks) (s : State) → r ≡ Ok a → IsAsked r page → Answered page s (Ok a) s
 asked_as r a page s is asks = asked_answers page a s (subst (λ x. IsAsked x page) is asks)
-
--- the same, told without a step
-pub told_as : (r : Result Told AllocError) (x : Told) (page : Asks) (s : State) → r ≡ Ok x → IsAsked (as_step r) page → Answered page s (Ok (told_step x)) s
-told_as r x page s is asks = asked_answers page (told_step x) s (subst (λ y. IsAsked (as_step y) page) is asks)
-
-pub told_broken : (result : Result Told Stop) (page : Asks) (s t : State) → result ≡ Err stop.Memory → t.channels ≡ s.channels → t.units ≡ s.units → Answered page s (as_step result) t
-told_broken result page s t is same free = subst (λ r. Answered page s (as_step r) t) (sym is) (broken_answers page s t same free)
-
--- what is told is what was asked
-pub told_answers : (page : Asks) (s : State) (x y : Result Asked Stop) (t : State) → x ≡ y → Answered page s y t → Answered page s x t
-told_answers page s x y t is h = subst (λ r. Answered page s r t) (sym is) h
 
 pub asked_over_as : (r : Result Asked AllocError) (a : Asked) (page : Asks) (f g : Standing) → r ≡ Ok a → DoesAsk page f r g
     → (cs : Commands) (channels : Channels) (units : ℕ) → Answered page (state_of cs channels units f) (Ok a) (state_of cs channels units g)

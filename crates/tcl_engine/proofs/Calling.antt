@@ -10,14 +10,12 @@ use Rattle.tcl_meaning.specs.Ensembles.{subcommands, page_among}
 use Rattle.tcl_meaning.specs.Names.{without_colons}
 use Rattle.tcl_meaning.specs.Pages.{page_asks, subcommand_asks, ensemble_asks, command_asks, invoked}
 use Rattle.tcl_meaning.specs.State.{Command, State}
-use Rattle.tcl_meaning.specs.VariablePages.{lassign_page, pure_page, seen_page, set_page, update_page}
+use Rattle.tcl_meaning.specs.VariablePages.{seen_page}
 use Rattle.tcl_meaning.specs.declared.page.Ensemble.{Ensemble}
 use Rattle.tcl_meaning.specs.declared.page.Page.{Page}
 use Rattle.tcl_meaning.specs.declared.page.Page.TheVariants as page
 use Rattle.tcl_meaning.specs.declared.page.SeenPage.{SeenPage}
 use Rattle.tcl_pages.specs.Texts.{Text}
-use Rattle.tcl_pages.specs.declared.pages.PurePage.{PurePage}
-use Rattle.tcl_pages.specs.declared.pages.UpdatePage.{UpdatePage}
 use Rattle.tcl_steps.specs.declared.step.Step.{Step}
 use Rattle.tcl_steps.specs.declared.step.Scope.{Scope}
 use Rattle.tcl_steps.specs.declared.step.Owes.{Owes}
@@ -32,22 +30,6 @@ module _ (dialect : Dialect) (s : State) (r : Told) (t : State) where
   pub seen_answers : (p : Page) (q : SeenPage) (ws : List Text) → p ≡ page.Seen q → Answered (seen_page q ws) s r t → Answered (page_asks dialect p ws) s r t
   unfolding page_asks
   seen_answers p q ws is h = subst (λ x. Answered (page_asks dialect x ws) s r t) (sym is) h
-
-  pub pure_answers : (p : Page) (q : PurePage) (ws : List Text) → p ≡ page.Pure q → Answered (pure_page dialect q ws) s r t → Answered (page_asks dialect p ws) s r t
-  unfolding page_asks
-  pure_answers p q ws is h = subst (λ x. Answered (page_asks dialect x ws) s r t) (sym is) h
-
-  pub update_answers : (p : Page) (q : UpdatePage) (ws : List Text) → p ≡ page.Update q → Answered (update_page dialect q ws) s r t → Answered (page_asks dialect p ws) s r t
-  unfolding page_asks
-  update_answers p q ws is h = subst (λ x. Answered (page_asks dialect x ws) s r t) (sym is) h
-
-  pub set_answers : (p : Page) (ws : List Text) → p ≡ page.Set → Answered (set_page ws) s r t → Answered (page_asks dialect p ws) s r t
-  unfolding page_asks
-  set_answers p ws is h = subst (λ x. Answered (page_asks dialect x ws) s r t) (sym is) h
-
-  pub lassign_answers : (p : Page) (ws : List Text) → p ≡ page.Lassign → Answered (lassign_page ws) s r t → Answered (page_asks dialect p ws) s r t
-  unfolding page_asks
-  lassign_answers p ws is h = subst (λ x. Answered (page_asks dialect x ws) s r t) (sym is) h
 
   pub exit_answers : (p : Page) (ws : List Text) → p ≡ page.Exit → Answered (exit_page dialect ws) s r t → Answered (page_asks dialect p ws) s r t
   unfolding page_asks

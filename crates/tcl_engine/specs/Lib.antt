@@ -1,5 +1,4 @@
 pub mod Answered
-pub mod AsStep
 pub mod AtOnce
 pub mod Hosts
 pub mod Hurried

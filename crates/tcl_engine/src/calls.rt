@@ -7,13 +7,11 @@ ghost use Rattle.tcl_activation.specs.Called.{words_of, without_words};
 ghost use Rattle.tcl_chars.specs.declared.numbers.Dialect.{Dialect as Numbers};
 ghost use Rattle.tcl_steps.specs.Asked.{IsAsked};
 ghost use Rattle.tcl_engine.specs.Answered.{Answered};
-ghost use Rattle.tcl_engine.specs.AsStep.{as_step, told_step};
 ghost use Rattle.tcl_engine.specs.Hosts.{shown, HostLeaves};
 ghost use Rattle.tcl_meaning.specs.Asking as asking;
 ghost use Rattle.tcl_meaning.specs.Completions.{nothing};
 ghost use Rattle.tcl_meaning.specs.Names as names;
 ghost use Rattle.tcl_meaning.specs.State.{State};
-ghost use Rattle.tcl_meaning.specs.VariablePages as spec;
 ghost use Rattle.tcl_meaning.specs.Pages.{page_asks, command_asks, built_in_asks, ensemble_asks, subcommand_asks, invoked};
 ghost use Rattle.tcl_pages.specs.Texts.{Text};
 ghost use Rattle.tcl_vm.specs.Engines.{is_io};
@@ -21,27 +19,24 @@ ghost use Rattle.tcl_vm.specs.Engines.{is_io};
 use crate::at_once::command_named;
 use crate::channels::over_channels;
 use crate::control::at_once;
-use crate::frames::{done, over_frames};
+use crate::frames::over_frames;
 use crate::host::Host;
 use crate::lifts::{asked, asked_over, done_in, exited};
 use crate::looking::seen;
 use crate::pages::over_commands;
-use crate::told::Told;
 use std::alloc::{AllocError, Global};
 use tcl_activation::Activation;
 use tcl_arguments::text_at;
 use tcl_channels::Devices;
-use tcl_chars::{Dialect, Fault};
+use tcl_chars::Dialect;
 use tcl_control::exit_page;
 use tcl_frames::without_colons;
 use tcl_meaning::{BuiltIn, Ensemble, Page};
-use tcl_pages::PurePage;
 use tcl_procs::call_procedure;
-use tcl_pure::{pure_page, subcommand, subcommand_usage, unknown_subcommand};
+use tcl_pure::{subcommand, subcommand_usage, unknown_subcommand};
 use tcl_steps::{Completion, Loop, Owes, Scope, Step};
 use tcl_table::{Command, Meaning, Table};
 use tcl_values::Value;
-use tcl_vars::{lassign, set, update};
 use tcl_vm::Stop;
 
 // A command without words.
@@ -87,56 +82,6 @@ fn found<'a>(table: &'a Table, word: &str, first: &Value) -> Option<&'a Command>
     }
 }
 
-// What a command asks for, or how it is done.
-#[inline(always)]
-fn told_by(step: Step<Scope, Owes, Loop>) -> Told
-    ensures { told_step result ≡ step }
-{
-    match step {
-        Step::Done(completion) => Told::Done(completion),
-        step => Told::Asks(step),
-    }
-}
-
-// The same, unless it was broken off.
-#[inline(always)]
-fn told(step: Result<Step<Scope, Owes, Loop>, Stop>) -> Result<Told, Stop>
-    ensures same { as_step result ≡ step }
-    ensures io { is_io result ≡ is_io step }
-{
-    match step {
-        Ok(step) => Ok(told_by(step)),
-        Err(stop) => Err(stop),
-    }
-}
-
-// A command whose answer its words alone decide.
-#[inline(always)]
-#[tactic(auto, unfolding(tcl_meaning::specs::VariablePages::pure_page))]
-fn pure_told(
-    alloc: Global,
-    dialect: Dialect,
-    page: PurePage,
-    words: &mut [Value],
-) -> Result<Told, AllocError>
-    ensures { IsAsked (as_step result) (spec.pure_page dialect page words.old) }
-{
-    match pure_page(alloc, dialect, page, words) {
-        Ok(value) => Ok(Told::Value(value)),
-        Err(Fault::Error(message)) => Ok(Told::Done(Completion::failure(alloc, message))),
-        Err(Fault::Memory) => Err(AllocError),
-    }
-}
-
-// A command that asks at once.
-#[inline(always)]
-fn asked_told(told: Result<Told, AllocError>) -> Result<Told, Stop>
-    ensures answered { (page : asking.Asks) (s : State) → IsAsked (as_step told) page → Answered page s (as_step result) s }
-    ensures quiet { is_io result ≡ false }
-{
-    Ok(told?)
-}
-
 impl<V: Devices> Host<'_, '_, '_, '_, V> {
     // A command, or a subcommand, by its page.
     fn page(
@@ -174,27 +119,6 @@ impl<V: Devices> Host<'_, '_, '_, '_, V> {
         }
     }
 
-    // A command, or a subcommand, by its page. Those that scripts call most, and that ask for nothing, are done without a step.
-    #[inline(always)]
-    fn page_told(&mut self, dialect: Dialect, page: Page, words: &mut [Value]) -> Result<Told, Stop>
-        ensures answered { Answered (page_asks dialect page words.old) (shown V.channels self.old) (as_step result) (shown V.channels self.new) }
-        ensures leaves { HostLeaves V.leaves (is_io result) self.old self.new }
-    {
-        match page {
-            Page::Pure(page) => asked_told(pure_told(self.alloc, dialect, page, words)),
-            Page::Update(page) => told(asked_over(done(update(
-                self.alloc,
-                dialect,
-                self.frames,
-                page,
-                words,
-            )))),
-            Page::Set => told(asked_over(done(set(self.alloc, self.frames, words)))),
-            Page::Lassign => told(asked_over(done(lassign(self.alloc, self.frames, words)))),
-            _ => told(self.page(dialect, page, words)),
-        }
-    }
-
     // The subcommand of a command that a word names.
     fn subcommand(
         &mut self,
@@ -202,13 +126,13 @@ impl<V: Devices> Host<'_, '_, '_, '_, V> {
         ensemble: Ensemble,
         word: &str,
         words: &mut [Value],
-    ) -> Result<Told, Stop>
-        ensures answered { Answered (ensemble_asks dialect ensemble (chars word.now ∷ words.old)) (shown V.channels self.old) (as_step result) (shown V.channels self.new) }
+    ) -> Result<Step<Scope, Owes, Loop>, Stop>
+        ensures answered { Answered (ensemble_asks dialect ensemble (chars word.now ∷ words.old)) (shown V.channels self.old) result (shown V.channels self.new) }
         ensures leaves { HostLeaves V.leaves (is_io result) self.old self.new }
     {
         match subcommand(ensemble, word) {
-            None => told(asked(unknown_word(self.alloc, ensemble, word))),
-            Some(page) => self.page_told(dialect, page, words),
+            None => asked(unknown_word(self.alloc, ensemble, word)),
+            Some(page) => self.page(dialect, page, words),
         }
     }
 
@@ -218,12 +142,12 @@ impl<V: Devices> Host<'_, '_, '_, '_, V> {
         dialect: Dialect,
         ensemble: Ensemble,
         words: &mut [Value],
-    ) -> Result<Told, Stop>
-        ensures answered { Answered (ensemble_asks dialect ensemble words.old) (shown V.channels self.old) (as_step result) (shown V.channels self.new) }
+    ) -> Result<Step<Scope, Owes, Loop>, Stop>
+        ensures answered { Answered (ensemble_asks dialect ensemble words.old) (shown V.channels self.old) result (shown V.channels self.new) }
         ensures leaves { HostLeaves V.leaves (is_io result) self.old self.new }
     {
         if words.len() == 0 {
-            return told(asked(no_subcommand(self.alloc, ensemble)));
+            return asked(no_subcommand(self.alloc, ensemble));
         }
         let word = text_at(self.alloc, words, 0)?;
         self.subcommand(dialect, ensemble, word.as_str(), &mut words[1..])
@@ -235,12 +159,12 @@ impl<V: Devices> Host<'_, '_, '_, '_, V> {
         dialect: Dialect,
         built_in: BuiltIn,
         words: &mut [Value],
-    ) -> Result<Told, Stop>
-        ensures answered { Answered (built_in_asks dialect built_in words.old) (shown V.channels self.old) (as_step result) (shown V.channels self.new) }
+    ) -> Result<Step<Scope, Owes, Loop>, Stop>
+        ensures answered { Answered (built_in_asks dialect built_in words.old) (shown V.channels self.old) result (shown V.channels self.new) }
         ensures leaves { HostLeaves V.leaves (is_io result) self.old self.new }
     {
         match built_in {
-            BuiltIn::Page(page) => self.page_told(dialect, page, words),
+            BuiltIn::Page(page) => self.page(dialect, page, words),
             BuiltIn::Ensemble(ensemble) => self.ensemble(dialect, ensemble, words),
         }
     }
@@ -252,32 +176,39 @@ impl<V: Devices> Host<'_, '_, '_, '_, V> {
         word: &str,
         first: &Value,
         words: &mut [Value],
-    ) -> Result<Told, Stop>
+    ) -> Result<Step<Scope, Owes, Loop>, Stop>
         requires { first.now ≡ chars word.now }
-        ensures answered { Answered (invoked dialect (chars word.now ∷ words.old)) (shown V.channels self.old) (as_step result) (shown V.channels self.new) }
+        ensures answered { Answered (invoked dialect (chars word.now ∷ words.old)) (shown V.channels self.old) result (shown V.channels self.new) }
         ensures leaves { HostLeaves V.leaves (is_io result) self.old self.new }
     {
         match found(self.table, word, first) {
-            None => told(asked(unknown(self.alloc, word))),
+            None => asked(unknown(self.alloc, word)),
             Some(command) => match command.meaning() {
                 Meaning::BuiltIn(built_in) => self.built_in(dialect, built_in, words),
                 Meaning::Procedure(procedure) => {
-                    told(asked(call_procedure(self.alloc, word, procedure, words)))
+                    asked(call_procedure(self.alloc, word, procedure, words))
                 }
             },
         }
     }
 
     // Calls a command: the first of its words is looked up now.
-    fn invoke(&mut self, dialect: Dialect, words: &mut [Value]) -> Result<Told, Stop>
-        ensures answered { Answered (invoked dialect words.old) (shown V.channels self.old) (as_step result) (shown V.channels self.new) }
+    fn invoke(
+        &mut self,
+        dialect: Dialect,
+        words: &mut [Value],
+    ) -> Result<Step<Scope, Owes, Loop>, Stop>
+        ensures answered { Answered (invoked dialect words.old) (shown V.channels self.old) result (shown V.channels self.new) }
         ensures leaves { HostLeaves V.leaves (is_io result) self.old self.new }
     {
         if words.len() == 0 {
-            return told(asked(no_words(self.alloc)));
+            return asked(no_words(self.alloc));
+        }
+        let first = words[0].copy()?;
+        if let Some(word) = first.shown() {
+            return self.command(dialect, word, &first, &mut words[1..]);
         }
         let word = text_at(self.alloc, words, 0)?;
-        let first = words[0].copy()?;
         self.command(dialect, word.as_str(), &first, &mut words[1..])
     }
 
@@ -288,14 +219,14 @@ impl<V: Devices> Host<'_, '_, '_, '_, V> {
         dialect: Dialect,
         activation: &mut Activation,
         count: usize,
-    ) -> Result<Told, Stop>
+    ) -> Result<Step<Scope, Owes, Loop>, Stop>
         requires { count ≤ length activation.old.spot.stack.texts }
         ensures taken { activation.new ≡ without_words count activation.old }
-        ensures answered { Answered (invoked dialect (words_of count activation.old.spot)) (shown V.channels self.old) (as_step result) (shown V.channels self.new) }
+        ensures answered { Answered (invoked dialect (words_of count activation.old.spot)) (shown V.channels self.old) result (shown V.channels self.new) }
         ensures leaves { HostLeaves V.leaves (is_io result) self.old self.new }
     {
-        let told = self.invoke(dialect, activation.words(count));
+        let step = self.invoke(dialect, activation.words(count));
         activation.drop_words(count);
-        told
+        step
     }
 }

@@ -16,7 +16,6 @@ mod owed;
 mod pages;
 mod scopes;
 mod stride;
-mod told;
 mod undone;
 
 pub use host::{Host, host_over};

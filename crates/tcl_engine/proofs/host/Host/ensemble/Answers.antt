@@ -1,11 +1,11 @@
 use Rattle.std.proofs.Common.{Err, refl, ap, ◌∙◌}
 use Rattle.std.proofs.lemmas.Result.{err_from_is_err_and}
-use Rattle.tcl_engine.proofs.Answering.{told_answers, told_broken}
+use Rattle.tcl_engine.proofs.Answering.{broken_as}
 use Rattle.tcl_engine.proofs.Calling.{bare_answers}
 use Rattle.tcl_engine.proofs.host.Host.ensemble.Goals as goal
 
 pub returns-in_err-word-clause-answered : goal.returns-in_err-word-clause-answered
-returns-in_err-word-clause-answered g c = let p = err_from_is_err_and c.from_residual.result c.from_residual.ensures.1 in told_broken c.from_residual.result _ _ _ (p.1 ∙ ap Err p.2) refl refl
+returns-in_err-word-clause-answered g c = let p = err_from_is_err_and c.from_residual.result c.from_residual.ensures.1 in broken_as c.from_residual.result _ _ _ (p.1 ∙ ap Err p.2) refl refl
 
 pub returns-then-words-eq0-clause-answered : goal.returns-then-words-eq0-clause-answered
-returns-then-words-eq0-clause-answered g c = bare_answers c.args.dialect _ _ _ c.args.ensemble c.args.words.now c.if-words-eq0.true (told_answers _ _ _ _ _ c.told.ensures.same (c.asked.ensures.answered _ _ (c.no_subcommand.ensures c.args.dialect)))
+returns-then-words-eq0-clause-answered g c = bare_answers c.args.dialect _ _ _ c.args.ensemble c.args.words.now c.if-words-eq0.true (c.asked.ensures.answered _ _ (c.no_subcommand.ensures c.args.dialect))
