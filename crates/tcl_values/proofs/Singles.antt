@@ -1,10 +1,10 @@
 -- Texts that are read as a list of one element, themselves: numbers, and words of characters that stand for themselves.
-use Rattle.std.proofs.Common.{◌≡◌, ◌≤◌, ◌<◌, ℕ, ◌^◌, Bool, true, false, not, ◌||◌, ◌&&◌, ◌==◌, List, [], ◌∷◌, append-nil, length, Ok, refl, sym, subst, ap, ◌∙◌, arith, suc, ℤ, pos, negsuc, FitsSigned}
+use Rattle.std.proofs.Common.{◌≡◌, ◌≤◌, ◌<◌, ℕ, ◌^◌, true, false, not, ◌||◌, ◌&&◌, ◌==◌, List, [], ◌∷◌, append-nil, length, Ok, refl, sym, subst, ap, ◌∙◌, arith, suc, ℤ, pos, negsuc, FitsSigned}
 use Rattle.std.specs.Int.{w64}
 use Rattle.std.specs.Fmt.{decimal, signed_decimal}
 use Rattle.std.specs.List.{list_all}
 use Rattle.std.specs.Str.Parse.{AllDigits}
-use Rattle.std.proofs.lemmas.Bool.{and_parts, and_from, or_parts, ne_eqb, cond-true}
+use Rattle.std.proofs.lemmas.Bool.{and_parts, and_from, or_parts, ne_eqb, cond-true, not-true}
 use Rattle.std.proofs.lemmas.Fmt.{decimal_is_IsNumeral, decimal_nonempty}
 use Rattle.std.proofs.lemmas.Str.Parse.{digit_from_value}
 use Rattle.tcl_chars.specs.Characters.{number_sign}
@@ -14,12 +14,8 @@ use Rattle.tcl_list.specs.Written.{is_special, needs_no_backslash, is_comment, s
 use Rattle.tcl_values.specs.Singles.{is_plain}
 use Rattle.tcl_values.proofs.Joined.{reads_written}
 
-not_true : (b : Bool) → not b ≡ true → b ≡ false
-not_true true e = sym e
-not_true false e = refl
-
 plain_parts : (c : ℕ) → is_plain c ≡ true → ((is_list_space c || is_special c) ≡ false) × ((c == number_sign) ≡ false)
-plain_parts c h = or_parts (is_list_space c || is_special c) (c == number_sign) (not_true _ h)
+plain_parts c h = or_parts (is_list_space c || is_special c) (c == number_sign) (not-true _ h)
 
 no_backslash : (cs : List ℕ) → list_all is_plain cs ≡ true → needs_no_backslash cs ≡ true
 no_backslash [] h = refl

@@ -1,6 +1,6 @@
 -- A complete text is closed: it ends in no hidden newline, and no command in it is open.
 use Rattle.std.proofs.Common.{◌≡◌, ℕ, Bool, true, false, not, List, Result, Ok, Err, refl, sym, ap, ◌∙◌}
-use Rattle.std.proofs.lemmas.Bool.{and_from, and_parts, true≢false}
+use Rattle.std.proofs.lemmas.Bool.{and_from, and_parts, not-true, true≢false}
 use Rattle.tcl_chars.specs.Place.{bytes}
 use Rattle.tcl_chars.specs.Reading.{◌>>=◌}
 use Rattle.tcl_words.specs.declared.fault.Syntax.{Syntax}
@@ -13,10 +13,6 @@ use Rattle.tcl_words.specs.Words.{inner_at, commands_at, after_commands}
 use Rattle.tcl_words.proofs.FaultIsFound.{commands_found, faults_found}
 use Rattle.tcl_words.proofs.FoundIsFault.{commands_bad, nest_found}
 use Rattle.tcl_words.proofs.OneReading.{if_err}
-
-is_false : (b : Bool) → not b ≡ true → b ≡ false
-is_false true h = absurd (true≢false (sym h))
-is_false false h = refl
 
 is_not : (b : Bool) → b ≡ false → not b ≡ true
 is_not true h = absurd (true≢false h)
@@ -39,6 +35,6 @@ pub complete_is_closed : CompleteIsClosed
 complete_is_closed cs = (
   λ e.
       let both = and_parts (not (ends_hidden false false cs)) (not (ends_open (after_all cs))) e in
-      (is_false (ends_hidden false false cs) both.0, λ m b. sym (ap ends_open (bad_all cs m b)) ∙ is_false (ends_open (after_all cs)) both.1),
+      (not-true (ends_hidden false false cs) both.0, λ m b. sym (ap ends_open (bad_all cs m b)) ∙ not-true (ends_open (after_all cs)) both.1),
   λ (h, k). and_from (not (ends_hidden false false cs)) (not (ends_open (after_all cs))) (is_not (ends_hidden false false cs) h) (is_not (ends_open (after_all cs)) (all_closed cs k)),
 )

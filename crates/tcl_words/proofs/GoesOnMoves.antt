@@ -1,7 +1,7 @@
 -- The moves of a reading that goes on, as the code finds them.
 use Rattle.std.proofs.Common.{◌≡◌, ℕ, suc, ◌-◌, ◌<◌, Bool, true, false, not, ◌&&◌, ◌==◌, List, [], ◌∷◌, ◌++◌, Option, Some, None, Result, Ok, refl, sym, ap, subst, ◌∙◌, arith, inl, inr}
 use Rattle.std.specs.Prelude.{if◌then◌else◌, is_some}
-use Rattle.std.proofs.lemmas.Bool.{cases_Bool, eqb-true}
+use Rattle.std.proofs.lemmas.Bool.{cases_Bool, eqb-true, not-true}
 use Rattle.std.proofs.lemmas.List.{append-nil}
 use Rattle.tcl_chars.specs.Place.{begins, tail}
 use Rattle.tcl_chars.specs.Reading.{◌>>=◌, turns, all_turns}
@@ -195,15 +195,11 @@ brace_end : (cs rest : List ℕ) (c : ℕ) (hidden : Bool) (depth size : ℕ) (s
 unfolding at_then at_brace
 brace_end cs rest c hidden depth size s y e h is d = rw (e, h, is, d) refl
 
-not_hidden : (b : Bool) → not b ≡ true → b ≡ false
-not_hidden true h = absurd cc
-not_hidden false h = refl
-
 pub brace_word : (cs rest : List ℕ) (c : ℕ) (hidden : Bool) (depth : ℕ) (nested : Bool) (m : Move) → cs ≡ c ∷ rest → (not hidden && c == 125 && depth == 0) ≡ true → Behind nested rest m → (levels : ℕ) → Moves levels nested (place.Braces hidden depth) cs m
 brace_word cs rest c hidden depth nested (move.Goes then_ left) e h b levels =
     let (front, third) = both_true (not hidden && c == 125) (depth == 0) h in
     let (first, second) = both_true (not hidden) (c == 125) front in
-    λ size s y l n. brace_end cs rest c hidden depth size s y e (not_hidden hidden first) (eqb-true c 125 second) (eqb-true depth 0 third) ∙ b size s AfterBrace y n
+    λ size s y l n. brace_end cs rest c hidden depth size s y e (not-true hidden first) (eqb-true c 125 second) (eqb-true depth 0 third) ∙ b size s AfterBrace y n
 brace_word cs rest c hidden depth nested (move.Opens quoted left) e h b levels = absurd b
 brace_word cs rest c hidden depth nested (move.Closes left) e h b levels = absurd b
 brace_word cs rest c hidden depth nested move.Ends e h b levels = absurd b
