@@ -253,6 +253,16 @@ def _(tested, room):
     expect_installed(checkout, f"{room}/p", f"{checkout.top}/crates/tclint/out/tclint")
 
 
+@check("launcher/install-both")
+def _(tested, room):
+    checkout = Checkout(room)
+    checkout.script("top/release/tclwhere", ECHO)
+    expect(checkout.run("--install", "p"), 0, b"tclint: installed p/bin/tclint, p/bin/tclwhere and p/share/man/man1/tclint.1\n")
+    expect_installed(checkout, f"{room}/p", f"{checkout.top}/release/tclint")
+    ran = subprocess.run([f"{room}/p/bin/tclwhere", "x"], capture_output=True)
+    expect(Result(ran.returncode, ran.stdout, ran.stderr), 0, b"x\n")
+
+
 @check("launcher/install-nothing")
 def _(tested, room):
     checkout = Checkout(room)

@@ -1,7 +1,7 @@
 """Checks of what README.md and docs/MANUAL.md show of the shell and of sessions: each block of lines that begins with `$ `.
 
-Behind `$ ` stands a command of the shell, and then what it puts out on both outputs, in a folder in which `tclint` is the
-program. `$ cat NAME` shows a file, which is written where it isn't there yet. In a session `% ` is the prompt and what
+Behind `$ ` stands a command of the shell, and then what it puts out on both outputs, in a folder in which `tclint` and `tclwhere` are the
+programs. `$ cat NAME` shows a file, which is written where it isn't there yet. In a session `% ` is the prompt and what
 stands behind it is typed, as are the lines that a text goes on with, and the one behind `gets stdin`.
 """
 import os
@@ -9,6 +9,7 @@ import re
 import subprocess
 
 from program import SECONDS, TOP, Wrong, check
+from where import is_left_out, tclwhere
 
 PAGES = ("README.md", "docs/MANUAL.md")
 BLOCK = re.compile(r"^```(?:console)?\n(\$ .*?)^```$", re.MULTILINE | re.DOTALL)
@@ -71,9 +72,12 @@ def look(command, shown, room):
 def transcript_check(name, text):
     @check(f"shell/{name}")
     def _(tested, room):
+        if "tclwhere" in text and is_left_out():
+            return False
         os.mkdir(f"{room}/bin")
-        for link in ("bin/tclint", "tclint"):
-            os.symlink(tested.path, f"{room}/{link}")
+        for name, program in (("tclint", tested), ("tclwhere", tclwhere())):
+            for folder in ("bin/", ""):
+                os.symlink(program.path, f"{room}/{folder}{name}")
         for command, shown in STEP.findall(text):
             look(command, shown, room)
 

@@ -73,7 +73,19 @@ impl Last {
     fn forget(&mut self)
         ensures { self.new ≡ nothing }
     {
-        discard(mem::replace(self, Last::nothing()));
+        self.change(Last::nothing());
+    }
+
+    // Another one in its place. Where it has nothing to give back, it isn't moved.
+    #[inline(always)]
+    fn change(&mut self, last: Last)
+        ensures { self.new ≡ last }
+    {
+        if self.is_plain() {
+            mem::forget(mem::replace(self, last));
+            return;
+        }
+        drop(mem::replace(self, last));
     }
 
     // Has it nothing to give back when it is dropped?
@@ -197,7 +209,7 @@ impl Results {
         ensures { self.new ≡ last ∷ drop 1 self.old }
     {
         let newest = self.items.len() - 1;
-        discard(mem::replace(&mut self.items[newest], last));
+        self.items[newest].change(last);
     }
 
     /// The newest is let go.

@@ -68,6 +68,7 @@ impl Stack {
     }
 
     /// Where the code ends, how its script's last command has ended.
+    #[inline(always)]
     pub fn finish(&mut self, alloc: Global) -> Result<Completion, AllocError>
         requires texts { length self.old.texts ≡ 0 }
         requires lists { length self.old.lists ≡ 0 }

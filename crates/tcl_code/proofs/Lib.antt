@@ -4,6 +4,7 @@ pub mod Ends
 pub mod Found
 pub mod Guarding
 pub mod Holding
+mod Keeping
 pub mod Noting
 pub mod Numbering
 pub mod Place

@@ -15,7 +15,7 @@ use std::marker::Model;
 const SLOTS: usize = 256;
 
 /// How many slots a shape may be in.
-const TRIES: usize = 4;
+const TRIES: usize = 32;
 
 /// The shape that was found at each place of a code. Few differ, so each is kept once, and a place has its number: one more than its
 /// index, or 0 where no shape was found.
@@ -85,6 +85,9 @@ fn seek(shapes: &[Shape], slots: &[u32; SLOTS], shape: Shape) -> Option<u32>
     let first = slot_of(shape);
     for step in 0..TRIES {
         let number = slots[(first + step) % SLOTS];
+        if number == 0 {
+            return None;
+        }
         if is_number(shapes, number, shape) {
             return Some(number);
         }

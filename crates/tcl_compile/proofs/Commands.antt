@@ -124,7 +124,7 @@ module _ (dialect : Dialect) where
     pays = λ h l d p o. fits_one CallGathered (shape h (l + 1) d (p + 1) o) (shape h l d p o) _ (omega arith, omega arith) refl (shapes_same refl (omega arith) (omega arith));
   }
 
-  taken_word : (i : Instruction) (c more : List Instruction) (h l d p o : ℕ) → IsFine i (shape (h + 1) (l + 1) d (p + 1) o) → ways_of i (shape (h + 1) (l + 1) d (p + 1) o) ≡ (Ahead 0, shape (h + 1 - 1 + 0) (l + 1) d (p + 1) o) ∷ [] → Adds c → Fits more (shape h (l + 1) d (p + 1) o) (shape h l d p o) → Fits (c ++ i ∷ more) (shape h (l + 1) d (p + 1) o) (shape h l d p o)
+  pub taken_word : (i : Instruction) (c more : List Instruction) (h l d p o : ℕ) → IsFine i (shape (h + 1) (l + 1) d (p + 1) o) → ways_of i (shape (h + 1) (l + 1) d (p + 1) o) ≡ (Ahead 0, shape (h + 1 - 1 + 0) (l + 1) d (p + 1) o) ∷ [] → Adds c → Fits more (shape h (l + 1) d (p + 1) o) (shape h l d p o) → Fits (c ++ i ∷ more) (shape h (l + 1) d (p + 1) o) (shape h l d p o)
   taken_word i c more h l d p o f w a b =
       fits_joined c (i ∷ more) (shape h (l + 1) d (p + 1) o) (shape (h + 1) (l + 1) d (p + 1) o) (shape h l d p o) (a h (l + 1) d (p + 1) o)
       (fits_joined (i ∷ []) more (shape (h + 1) (l + 1) d (p + 1) o) (shape h (l + 1) d (p + 1) o) (shape h l d p o)

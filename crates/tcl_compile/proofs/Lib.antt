@@ -1,3 +1,4 @@
+pub mod ListCalls
 pub mod Bodies
 pub mod Changing
 pub mod Clauses

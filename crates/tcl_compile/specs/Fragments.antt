@@ -12,7 +12,7 @@ use Rattle.tcl_meaning.specs.Script.{Run, most_depth, with_words}
 use Rattle.tcl_meaning.specs.Substitution.{pieces_text, words_text}
 use Rattle.tcl_meaning.specs.Tasks.{Task, Script}
 use Rattle.tcl_meaning.specs.Value.{Value, ◌>>=◌, give, behind}
-use Rattle.tcl_code.specs.Instructions.{Instruction, Gather, Add, AddAll}
+use Rattle.tcl_code.specs.Instructions.{Instruction, Push, Gather, Add, AddAll, CallGathered}
 use Rattle.tcl_code.specs.Machine.{Texts, Stack, stack_of, with_result, text_at, result_at, spot}
 use Rattle.tcl_code.specs.Valid.{shape}
 use Rattle.tcl_code.specs.Parts.{Fits, Keeps, HasAt, LandsValue, Lands}
@@ -41,6 +41,10 @@ pieces_value d ts ps = behind (concat ts) (pieces_text d ps)
 abbrev pub adding : Bool → Instruction
 adding true = AddAll
 adding false = Add
+
+-- the call of the command whose words are the elements of a list
+abbrev pub call_of_list : Text → List Instruction
+call_of_list list = Gather ∷ Push list ∷ AddAll ∷ CallGathered ∷ []
 
 -- no word has `{*}` in front
 abbrev pub Plain : List Shape → Type 0

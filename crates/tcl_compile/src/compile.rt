@@ -1,6 +1,6 @@
 //! Codes of whole texts.
 
-ghost use Rattle.std.specs.Prelude.{◌≡◌, IfOk};
+ghost use Rattle.std.specs.Prelude.{◌≡◌, [], IfOk};
 ghost use Rattle.std.specs.Str.{chars};
 ghost use Rattle.tcl_code.specs.Means.{Means, MeansExpr};
 ghost use Rattle.tcl_code.specs.Shown.{shown_by};
@@ -26,7 +26,28 @@ pub fn compile_script(
     ensures means { IfOk result (λ code. Means dialect (shown_by code) (chars text.now)) }
     ensures turns { IfOk result (λ code. HasTurns (chars text.now) (shown_by code)) }
 {
-    let mut code = CodeBuilder::new(alloc);
+    script_behind(CodeBuilder::new(alloc), alloc, text, dialect)
+}
+
+/// The same, for a script that is run once.
+pub(crate) fn compile_once(alloc: Global, text: &str, dialect: Dialect) -> Result<Code, AllocError>
+    ensures { IfOk result (λ code. Means dialect (shown_by code) (chars text.now)) }
+{
+    script_behind(CodeBuilder::for_one_run(alloc), alloc, text, dialect)
+}
+
+// The code of a script, emitted into a builder that has no instruction yet.
+fn script_behind(
+    empty: CodeBuilder,
+    alloc: Global,
+    text: &str,
+    dialect: Dialect,
+) -> Result<Code, AllocError>
+    requires { empty ≡ [] }
+    ensures means { IfOk result (λ code. Means dialect (shown_by code) (chars text.now)) }
+    ensures turns { IfOk result (λ code. HasTurns (chars text.now) (shown_by code)) }
+{
+    let mut code = empty;
     emit_script(&mut code, Context::new(alloc, dialect), text)?;
     finished(code)
 }

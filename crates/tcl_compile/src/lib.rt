@@ -5,6 +5,7 @@
 //! - [`Codes`]: what is kept. `script` and `expression` answer the code of a text, kept or new.
 #![tactic(auto)]
 
+mod beside;
 mod change;
 mod codes;
 mod compile;
@@ -13,6 +14,7 @@ mod each;
 mod inlining;
 mod kept;
 mod literals;
+mod long;
 mod pages;
 mod script;
 mod skips;

@@ -14,6 +14,7 @@ ghost use Rattle.tcl_compile.specs.Fragments.{Grown, Plain, adding};
 ghost use Rattle.tcl_compile.specs.Whiles.{CommandMade, IsWhile, ScriptMade};
 ghost use Rattle.tcl_compile.specs.Within.{ArgumentsAreShort, PartWithin, PartsWithin, WordsWithin};
 
+use crate::beside::emit_listed;
 use crate::change::{change_of, emit_change};
 use crate::context::Context;
 use crate::each::{each_of, emit_each};
@@ -149,8 +150,28 @@ fn emit_inlined(
     let past = code.len();
     code.emit(Instr::Skip(0))?;
     lead_here(code, guard)?;
-    emit_plain(code, context, whole, words)?;
+    emit_beside(code, context, whole, words)?;
     lead_here(code, past)
+}
+
+// The call of a command beside its page.
+#[cycle(emitting)]
+fn emit_beside(
+    code: &mut CodeBuilder,
+    context: Context,
+    whole: &str,
+    words: &[Word<'_>],
+) -> Result<(), AllocError>
+    requires plain { Plain (map shape_of words.now) }
+    requires some { 0 < length (chars whole.now) }
+    requires nests { WordsNest most_levels (map shape_of words.now) }
+    requires within { WordsWithin (length (chars whole.now) - 1) (map shape_of words.now) }
+    ensures { OnOk result (Grown (CommandCode context.dialect (map shape_of words.now)) code.old code.new) }
+{
+    if emit_listed(code, context.alloc, words)? {
+        return Ok(());
+    }
+    emit_plain(code, context, whole, words)
 }
 
 // A command that changes a variable by the text of its last word.

@@ -73,7 +73,7 @@ impl<'a> Arms<'a> {
     {
         match self {
             Arms::Words(words) => words[place].shown(),
-            Arms::Elements(elements) => Some(elements[place].text()),
+            Arms::Elements(elements) => elements[place].shown(),
         }
     }
 

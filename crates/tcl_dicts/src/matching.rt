@@ -55,7 +55,8 @@ fn matching_values(
 {
     let mut found = Vec::new(alloc);
     for value in values {
-        if passes(pattern, value.text()) {
+        let text = value.text(alloc)?;
+        if passes(pattern, text.as_str()) {
             found.push(value.copy()?)?;
         }
     }

@@ -7,6 +7,7 @@ mod calls;
 mod channels;
 mod control;
 mod engine;
+mod following;
 mod frames;
 mod host;
 mod kept;

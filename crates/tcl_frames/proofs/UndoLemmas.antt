@@ -3,7 +3,7 @@ use Rattle.std.proofs.Common.{◌≡◌, List, [], ◌∷◌, ◌++◌, true, fa
 use Rattle.std.specs.Cmp.Lexicographic.{nat_list_cmp_total}
 use Rattle.std.specs.FinMap as map
 use Rattle.std.specs.FinMap.{same_map, get-insert, get-remove}
-use Rattle.std.specs.Str.{chars}
+use Rattle.tcl_chars.specs.Texts.{text_of}
 use Rattle.tcl_names.proofs.Entries.{exact, same, same_text, insert_same}
 use Rattle.tcl_pages.specs.Texts.{Text}
 use Rattle.tcl_meaning.specs.Arrays.{Elements}
@@ -62,6 +62,6 @@ by_answer (Ok x) m n i t o at put stays = ap (with_earlier i o) put ∙ undone_p
 by_answer (Err x) m n i t o at put stays = ap (with_earlier i o) stays ∙ as_it_was m i o at
 
 -- a text that is put under a name, or is refused, once what stood there is noted
-pub noted : {A E : Type 0} (r : Result A E) (es : List Earlier) (e : Earlier) (m n : Elements) (t : Text) → map.get m (chars e.name.now) ≡ e.value
-    → OnOk r (n ≡ map.insert m (chars e.name.now) t) → OnErr r (n ≡ m) → undone (es ++ e ∷ []) n ≡ undone es m
-noted r es e m n t at put stays = last_first es e n ∙ ap (undone es) (by_answer r m n (chars e.name.now) t e.value at put stays)
+pub noted : {A E : Type 0} (r : Result A E) (es : List Earlier) (e : Earlier) (m n : Elements) (i t : Text) → text_of e.name ≡ i → map.get m i ≡ e.value
+    → OnOk r (n ≡ map.insert m i t) → OnErr r (n ≡ m) → undone (es ++ e ∷ []) n ≡ undone es m
+noted r es e m n i t named at put stays = last_first es e n ∙ ap (undone es) (ap (λ q. with_earlier q e.value n) named ∙ by_answer r m n i t e.value at put stays)

@@ -1,69 +1,71 @@
 //! What stood under the names of an array, noted so that it is put back where a change is refused half way.
 ghost use Rattle.std.specs.Prelude.{◌≡◌, IfOk, OnOk};
 ghost use Rattle.std.specs.FinMap as map;
-ghost use Rattle.std.specs.Str.{chars};
+ghost use Rattle.tcl_chars.specs.Texts.{text_of};
 ghost use Rattle.tcl_frames.specs.Undone.{restored, undone};
 
-use std::alloc::{AllocError, Global};
+use std::alloc::AllocError;
+use std::rc::RcStr;
 use tcl_names::HashedNames;
 use tcl_values::Value;
 
 /// What stood under a name.
 #[derive(Drop)]
-pub(crate) struct Earlier<'a> {
-    name: &'a str,
+pub(crate) struct Earlier {
+    name: RcStr,
     value: Option<Value>,
 }
 
-// The text that stands under a name.
-fn standing(elements: &HashedNames<Value>, name: &str) -> Result<Option<Value>, AllocError>
-    ensures { IfOk result (λ text. text ≡ map.get elements.now (chars name.now)) }
+// What stands under a name, for a note.
+fn standing(elements: &HashedNames<Value>, name: &RcStr) -> Result<Earlier, AllocError>
+    ensures name { IfOk result (λ e. text_of e.name ≡ text_of name.now) }
+    ensures value { IfOk result (λ e. map.get elements.now (text_of name.now) ≡ e.value) }
 {
-    match elements.get(name) {
-        Some(value) => Ok(Some(value.copy()?)),
-        None => Ok(None),
-    }
+    let value = match elements.get(name.as_str()) {
+        Some(value) => Some(value.copy()?),
+        None => None,
+    };
+    Ok(Earlier {
+        name: name.clone()?,
+        value,
+    })
 }
 
 /// Puts a text under a name. What stood there is noted first, behind the earlier notes.
-pub(crate) fn put_noted<'a>(
-    alloc: Global,
+pub(crate) fn put_noted(
     elements: &mut HashedNames<Value>,
-    name: &'a str,
+    name: RcStr,
     value: Value,
-    notes: &mut Vec<Earlier<'a>>,
+    notes: &mut Vec<Earlier>,
 ) -> Result<(), AllocError>
-    ensures done { OnOk result (elements.new ≡ map.insert elements.old (chars name.now) value) }
+    ensures done { OnOk result (elements.new ≡ map.insert elements.old (text_of name) value) }
     ensures noted { undone notes.new.items elements.new ≡ undone notes.old.items elements.old }
 {
-    let before = standing(elements, name)?;
-    notes.push(Earlier {
-        name,
-        value: before,
-    })?;
-    elements.insert(alloc, name, value)
+    let before = standing(elements, &name)?;
+    notes.push(before)?;
+    elements.insert_shared(name, value)
 }
 
 // Puts back what stood under a name. It takes no memory.
-fn put_back(elements: &mut HashedNames<Value>, earlier: Earlier<'_>)
-    ensures { elements.new ≡ restored earlier.entry elements.old }
+fn put_back(elements: &mut HashedNames<Value>, earlier: Earlier)
+    ensures { elements.new ≡ restored earlier elements.old }
 {
     let Earlier { name, value } = earlier;
     match value {
         Some(value) => {
-            if let Some(place) = elements.get_mut(name) {
+            if let Some(place) = elements.get_mut(name.as_str()) {
                 *place = value;
             }
         }
         None => {
-            elements.remove(name);
+            elements.remove(name.as_str());
         }
     }
 }
 
 /// Puts back what was noted, the last first. It takes no memory.
-pub(crate) fn undo(elements: &mut HashedNames<Value>, mut notes: Vec<Earlier<'_>>)
-    ensures { elements.new ≡ undone notes.entry.items elements.old }
+pub(crate) fn undo(elements: &mut HashedNames<Value>, mut notes: Vec<Earlier>)
+    ensures { elements.new ≡ undone notes.items elements.old }
 {
     while let Some(earlier) = notes.pop() {
         put_back(elements, earlier);

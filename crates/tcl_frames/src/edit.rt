@@ -60,19 +60,20 @@ fn put_pairs(
 }
 
 // Puts names and texts in turn into an array, up to one that is refused. What stood under the names is noted.
-fn put_each<'a>(
+fn put_each(
     alloc: Global,
     elements: &mut HashedNames<Value>,
-    pairs: &'a [Element],
-    notes: &mut Vec<Earlier<'a>>,
+    pairs: &[Element],
+    notes: &mut Vec<Earlier>,
 ) -> Result<(), AllocError>
     ensures done { OnOk result (elements.new ≡ with_pairs elements.old (texts pairs.now)) }
     ensures noted { undone notes.new.items elements.new ≡ undone notes.old.items elements.old }
 {
     let mut place = 0;
     while pairs.len() - place > 1 {
+        let name = pairs[place].shared_text(alloc)?;
         let value = pairs[place + 1].copy()?;
-        put_noted(alloc, elements, pairs[place].text(), value, notes)?;
+        put_noted(elements, name, value, notes)?;
         place += 2;
     }
     Ok(())

@@ -31,7 +31,7 @@ use tcl_chars::{Dialect, Fault};
 use tcl_compile::Codes;
 use tcl_frames::{Frames, Variable};
 use tcl_names::NameMap;
-use tcl_run::run;
+use tcl_run::{Place, run, run_noted};
 use tcl_table::Table;
 
 /// An interpreter: the variables and commands that scripts leave. Contracts see its dialect, its global frame, its commands,
@@ -138,6 +138,47 @@ impl Interp {
             world,
             &mut units,
             script,
+        );
+        let _active = self.frames.active();
+        self.frames.unwind();
+        let outcome = outcome_of(self.alloc, ended, units);
+        self.failed = outcome_fails(&outcome);
+        outcome
+    }
+
+    /// Evaluates a script as `eval` does, and tells where an error that ended it has left codes, from the inside out. They are places
+    /// of texts, of which no more is said.
+    pub(crate) fn eval_noted<R: Input, W: Output, E: Output>(
+        &mut self,
+        world: &mut World<'_, '_, '_, R, W, E>,
+        script: &str,
+        budget: u64,
+        places: &mut Vec<Place>,
+    ) -> Outcome
+        ensures failed { (result ≡ outcome.Failed) ↔ IsTrue self.old.failed }
+        ensures idle { IsTrue self.old.failed → self.new ≡ self.old }
+        ensures still { IsTrue self.old.failed → world.new ≡ world.old }
+        ensures run { self.old.failed ≡ false →
+            Ends result (run_script self.old.dialect (chars script.now) (state_at R.to_come W.written E.written self.old world.old budget))
+            (remains_at R.to_come W.written E.written self.new world.new) }
+        ensures grows { OutputsBegin (channels_of R.to_come W.written E.written world.old) (channels_of R.to_come W.written E.written world.new) }
+        ensures fails { self.old.failed ≡ false → self.new.failed ≡ outcome_fails result }
+        ensures dialect { self.new.dialect ≡ self.old.dialect }
+        ensures leaves { Leaves R.failed_calls W.failed_calls E.failed_calls (outcome_is_io result) world.old world.new }
+    {
+        if self.failed {
+            return Outcome::Failed;
+        }
+        let mut units = budget;
+        let ended = run_noted(
+            self.alloc,
+            &mut self.frames,
+            &mut self.table,
+            &mut self.codes,
+            world,
+            &mut units,
+            script,
+            places,
         );
         let _active = self.frames.active();
         self.frames.unwind();

@@ -63,12 +63,15 @@ fn joined(alloc: Global, words: &mut [Value]) -> Result<Value, AllocError>
 }
 
 /// Does the first element begin with a number sign? Then it is written otherwise there than behind others.
-fn begins_with_sign(elements: &[Element]) -> bool
-    ensures { result ≡ begins_sign (texts elements.now) }
+fn begins_with_sign(alloc: Global, elements: &[Element]) -> Result<bool, AllocError>
+    ensures { IfOk result (λ b. b ≡ begins_sign (texts elements.now)) }
 {
     match elements.first() {
-        Some(element) => begins('#', element.text()),
-        None => false,
+        Some(element) => {
+            let text = element.text(alloc)?;
+            Ok(begins('#', text.as_str()))
+        }
+        None => Ok(false),
     }
 }
 
@@ -93,7 +96,8 @@ fn chained(alloc: Global, words: &[Value], room: usize) -> Result<Option<Value>,
         let Some(row) = word.unwritten()? else {
             return Ok(None);
         };
-        if begins_with_sign(row.items()) {
+        let has_sign = begins_with_sign(alloc, row.items())?;
+        if has_sign {
             return Ok(None);
         }
         all = all.with_part(&row, 0, row.len())?;

@@ -108,7 +108,8 @@ fn first_hit(
     ensures { IfOk result (λ v. v ≡ spec.first_found options.inline (spec.wanted options (chars pattern.now) 0 (texts elements.now))) }
 {
     for (place, element) in elements.iter().enumerate() {
-        if is_wanted(options, pattern, element.text()) {
+        let text = element.text(alloc)?;
+        if is_wanted(options, pattern, text.as_str()) {
             return hit(place, element, options.inline);
         }
     }
@@ -130,7 +131,8 @@ fn all_hits(
 {
     let mut hits = Vec::new(alloc);
     for (place, element) in elements.iter().enumerate() {
-        if is_wanted(options, pattern, element.text()) {
+        let text = element.text(alloc)?;
+        if is_wanted(options, pattern, text.as_str()) {
             hits.push(hit(place, element, options.inline)?)?;
         }
     }

@@ -89,8 +89,8 @@ fn items_of(
 {
     let mut items = Vec::with_capacity(alloc, elements.len())?;
     for element in elements {
-        let number = sort_number(alloc, element.text(), options, dialect)?;
-        let text = element.copy()?.text(alloc)?;
+        let text = element.shared_text(alloc)?;
+        let number = sort_number(alloc, text.as_str(), options, dialect)?;
         items.push(Item { number, text })?;
     }
     Ok(items)

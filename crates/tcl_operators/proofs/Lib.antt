@@ -1,2 +1,3 @@
+pub mod Emptiness
 pub mod NumbersLemmas
 pub mod OfNumbers

@@ -1,5 +1,6 @@
 //! Comparison and membership: expr(n), Operators. The operands stay as they were.
-ghost use Rattle.std.specs.Prelude.{◌≡◌, IfOk};
+ghost use Rattle.std.specs.Prelude.{◌≡◌, [], false, IfOk};
+ghost use Rattle.std.specs.Bool.{OnTrue};
 ghost use Rattle.std.specs.Ordering.{nat_cmp};
 ghost use Rattle.std.specs.Cmp.Lexicographic.{slice_cmp};
 ghost use Rattle.tcl_chars.specs.Answers.{Answers};
@@ -14,7 +15,7 @@ ghost use Rattle.std.specs.Str.{chars};
 use crate::numbers::too_large;
 use std::alloc::{AllocError, Global};
 use std::cmp::Ordering;
-use tcl_chars::{Dialect, Fault, Whole, compare, is_text};
+use tcl_chars::{Dialect, Fault, Whole, compare, is_text, split_first};
 use tcl_expr::BinaryOp;
 use tcl_values::{Element, Value};
 
@@ -24,9 +25,24 @@ fn by_texts(alloc: Global, left: &mut Value, right: &mut Value) -> Result<Orderi
     ensures left { left.new ≡ left.old }
     ensures right { right.new ≡ right.old }
 {
+    if let (Some(first), Some(second)) = (left.shown(), right.shown()) {
+        return Ok(compare(first, second));
+    }
     let first = left.text(alloc)?;
     let second = right.text(alloc)?;
     Ok(compare(first.as_str(), second.as_str()))
+}
+
+// How a text stands to the empty one.
+#[tactic(auto, using(crate::proofs::Emptiness::beyond_nothing))]
+fn beside_nothing(alloc: Global, value: &mut Value) -> Result<Ordering, AllocError>
+    ensures order { IfOk result (λ o. o ≡ slice_cmp nat_cmp value.old []) }
+    ensures same { value.new ≡ value.old }
+{
+    if is_empty(alloc, value)? {
+        return Ok(Ordering::Equal);
+    }
+    Ok(Ordering::Greater)
 }
 
 /// How two numbers or texts stand to one another. A number of more than 64 bits is an error where both are number texts.
@@ -40,6 +56,9 @@ pub(crate) fn compared(
     ensures left { left.new ≡ left.old }
     ensures right { right.new ≡ right.old }
 {
+    if is_shown_empty(&*right) {
+        return Ok(beside_nothing(alloc, left)?);
+    }
     let first = left.whole(alloc, dialect)?;
     let second = right.whole(alloc, dialect)?;
     match (first, second) {
@@ -47,6 +66,44 @@ pub(crate) fn compared(
         (Whole::Not, _) | (_, Whole::Not) => Ok(by_texts(alloc, left, right)?),
         _ => Err(Fault::Error(too_large(alloc)?)),
     }
+}
+
+// Is the text known to be empty?
+fn is_shown_empty(value: &Value) -> bool
+    ensures { OnTrue result (value.now ≡ []) }
+{
+    match value.shown() {
+        Some(text) => split_first(text).is_none(),
+        None => false,
+    }
+}
+
+// Has the dictionary a key that the text is read as? Then the text isn't empty.
+fn has_keys(alloc: Global, value: &mut Value) -> Result<bool, AllocError>
+    ensures keys { IfOk result (λ b. OnTrue b (same_text value.old [] ≡ false)) }
+    ensures same { value.new ≡ value.old }
+{
+    match value.dict_size(alloc) {
+        Ok(size) => Ok(0 < size),
+        Err(Fault::Error(_)) => Ok(false),
+        Err(Fault::Memory) => Err(AllocError),
+    }
+}
+
+// Is the text empty? That of a list or of a dictionary that has elements isn't written for it.
+#[tactic(auto, using(crate::proofs::Emptiness::empty_list))]
+fn is_empty(alloc: Global, value: &mut Value) -> Result<bool, AllocError>
+    ensures empty { IfOk result (λ b. b ≡ same_text value.old []) }
+    ensures same { value.new ≡ value.old }
+{
+    if let Some(row) = value.unwritten()? {
+        return Ok(row.len() == 0);
+    }
+    if value.number().is_none() && has_keys(alloc, value)? {
+        return Ok(false);
+    }
+    let text = value.text(alloc)?;
+    Ok(split_first(text.as_str()).is_none())
 }
 
 /// Are the texts the same?
@@ -59,21 +116,31 @@ pub(crate) fn same_texts(
     ensures left { left.new ≡ left.old }
     ensures right { right.new ≡ right.old }
 {
+    if let (Some(first), Some(second)) = (left.shown(), right.shown()) {
+        return Ok(is_text(first, second));
+    }
+    if is_shown_empty(&*left) {
+        return is_empty(alloc, right);
+    }
+    if is_shown_empty(&*right) {
+        return is_empty(alloc, left);
+    }
     let first = left.text(alloc)?;
     let second = right.text(alloc)?;
     Ok(is_text(first.as_str(), second.as_str()))
 }
 
 // Is the text one of the elements?
-fn is_among(text: &str, elements: &[Element]) -> bool
-    ensures { result ≡ is_in (chars text.now) (texts elements.now) }
+fn is_among(alloc: Global, text: &str, elements: &[Element]) -> Result<bool, AllocError>
+    ensures { IfOk result (λ b. b ≡ is_in (chars text.now) (texts elements.now)) }
 {
     for element in elements {
-        if is_text(text, element.text()) {
-            return true;
+        let own = element.text(alloc)?;
+        if is_text(text, own.as_str()) {
+            return Ok(true);
         }
     }
-    false
+    Ok(false)
 }
 
 /// Is the left text an element of the right list?
@@ -84,7 +151,7 @@ pub(crate) fn is_member(alloc: Global, left: &mut Value, right: &mut Value) -> R
 {
     let row = right.row(alloc)?;
     let text = left.text(alloc)?;
-    Ok(is_among(text.as_str(), row.items()))
+    Ok(is_among(alloc, text.as_str(), row.items())?)
 }
 
 /// The answer of an operator that compares: numbers or texts, texts alone, or a text and a list's elements.

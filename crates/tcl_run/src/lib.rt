@@ -3,4 +3,5 @@
 
 mod scripts;
 
-pub use scripts::{resume, run, start};
+pub use scripts::{resume, run, run_noted, start};
+pub use tcl_noting::Place;

@@ -19,6 +19,7 @@ use tcl_chars::message;
 use tcl_compile::Codes;
 use tcl_engine::{Undone, host_over};
 use tcl_frames::Frames;
+use tcl_noting::Place;
 use tcl_steps::{Completion, Loop, Owes, Scope};
 use tcl_table::Table;
 use tcl_values::Value;
@@ -48,6 +49,34 @@ pub fn run<V: Devices>(
     let text = Value::of_text(message(alloc, script)?);
     let mut host = host_over(alloc, frames, table, codes, devices, *units);
     let ended = tcl_vm::run(alloc, &mut host, text, 1);
+    *units = host.units();
+    ended
+}
+
+/// Runs a script as `run` does, and tells where an error that ended it has left codes, from the inside out: nothing where it ended
+/// otherwise, or where memory was refused to one of the places.
+///
+/// # Errors
+///
+/// As those of `run`.
+pub fn run_noted<V: Devices>(
+    alloc: Global,
+    frames: &mut Frames,
+    table: &mut Table,
+    codes: &mut Codes,
+    devices: &mut V,
+    units: &mut u64,
+    script: &str,
+    places: &mut Vec<Place>,
+) -> Result<Completion, Stop>
+    ensures follows { Follows result (Run codes.old (Script 1 nothing (chars script.now)) (state_of table.old (V.channels devices.old) units.old frames.old)) (state_of table.new (V.channels devices.new) units.new frames.new) }
+    ensures onward { Onward (state_of table.old (V.channels devices.old) units.old frames.old) (state_of table.new (V.channels devices.new) units.new frames.new) }
+    ensures leaves { V.leaves (is_io result) devices.old devices.new }
+    ensures dialect { codes.new ≡ codes.old }
+{
+    let text = Value::of_text(message(alloc, script)?);
+    let mut host = host_over(alloc, frames, table, codes, devices, *units);
+    let ended = tcl_noting::run_noted(alloc, &mut host, text, 1, places);
     *units = host.units();
     ended
 }

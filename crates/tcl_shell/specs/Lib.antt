@@ -3,6 +3,7 @@ pub mod Ends
 pub mod Faults
 pub mod Lines
 pub mod Program
+pub mod Scripts
 pub mod Session
 pub mod Turns
 pub mod Words

@@ -1,46 +1,21 @@
 //! The program over devices.
-ghost use Rattle.std.specs.Prelude.{◌≡◌, ◌<◌, length, map, option_map, IfOk};
+ghost use Rattle.std.specs.Prelude.{◌≡◌, ◌<◌, length, map, option_map};
 ghost use Rattle.std.specs.Str.{chars};
-ghost use Rattle.std.specs.String.{string_bytes};
-ghost use Rattle.tcl_chan.specs.Newlines.{is_joined_return, joined_newlines};
 ghost use Rattle.tcl_shell.specs.Lines.{told, SaidIf, usage_line};
 ghost use Rattle.tcl_shell.specs.Program.{RanSession, Refused, RunsWords, RunsFile, devices, outcome_by, outcome_line, status_of};
 ghost use Rattle.tcl_shell.specs.Words.{request_of};
 
 use crate::end::SessionEnd;
 use crate::lines::{Line, say};
+use crate::newlines::script_of;
 use crate::run::session_with;
 use crate::words::read_request;
-use std::alloc::{AllocError, Global};
+use std::alloc::Global;
 use tcl_chan::device::{Input, Output};
-use tcl_chars::{begins, push, split_first};
 use tcl_interp::{Config, Outcome, Report, run_sliced};
 
-// Is the character the CR of a CR LF, where this follows it?
-#[tactic(auto, using(crate::proofs::JoinedNewlines::return_is))]
-fn is_joined_return(c: char, after: &str) -> bool
-    ensures { result ≡ is_joined_return c (chars after.now) }
-{
-    c == '\r' && begins('\n', after)
-}
-
-// The script of a file: CR LF is read as LF.
-fn joined_lines(alloc: Global, text: &str) -> Result<String, AllocError>
-    ensures { IfOk result (λ script. chars (string_bytes script) ≡ joined_newlines (chars text.now)) }
-{
-    let mut script = String::new(alloc);
-    let mut rest = text;
-    'characters: while let Some((c, after)) = split_first(rest) {
-        if !is_joined_return(c, after) {
-            push(&mut script, c)?;
-        }
-        rest = after;
-    }
-    Ok(script)
-}
-
-// The status of a run, and its line where it is neither 0 nor the script's own.
-fn tell<R: Input, W: Output, E: Output>(
+/// The status of a run, and its line where it is neither 0 nor the script's own.
+pub(crate) fn tell<R: Input, W: Output, E: Output>(
     alloc: Global,
     reader: &mut R,
     out: &mut W,
@@ -100,7 +75,7 @@ fn run_file<R: Input, W: Output, E: Output>(
         say(alloc, reader, out, err, Line::NotUtf8(name));
         return 5;
     };
-    let Ok(script) = joined_lines(alloc, text) else {
+    let Ok(script) = script_of(alloc, text) else {
         return tell(alloc, reader, out, err, Outcome::Memory);
     };
     let Report { outcome, interp: _ } = run_sliced(

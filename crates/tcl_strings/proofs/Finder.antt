@@ -14,7 +14,7 @@ use Rattle.tcl_strings.proofs.Bytes.{clamped_le}
 
 -- ---- where the needle begins what is left
 
-begun : (needle t : Text) → is_beginning needle t ≡ true → (length needle ≤ length t) × (take (length needle) t ≡ needle)
+pub begun : (needle t : Text) → is_beginning needle t ≡ true → (length needle ≤ length t) × (take (length needle) t ≡ needle)
 begun [] t h = (omega arith, refl)
 begun (c ∷ cs) [] h = absurd (false≢true h)
 begun (c ∷ cs) (d ∷ ds) h =
@@ -150,13 +150,13 @@ ends_by_clamped size (negsuc m) n k s l =
     sym (lt-leb (k + size) (clamp (negsuc m +ℤ pos 1) n) (omega (arith, none)))
 
 -- what ends by a place stands in front of it
-occurs_front : (hay needle : Text) (e j : ℕ) → e ≤ length hay → j + length needle ≤ e → OccursAt hay needle j → OccursAt (take e hay) needle j
+pub occurs_front : (hay needle : Text) (e j : ℕ) → e ≤ length hay → j + length needle ≤ e → OccursAt hay needle j → OccursAt (take e hay) needle j
 occurs_front hay needle e j w l h = record {
   fits = omega (arith, length-take-le e hay w);
   reads = λ i b. get_or-take e hay (j + i) 0 (omega arith) ∙ h.reads i b;
 }
 
-occurs_whole : (hay needle : Text) (e j : ℕ) → e ≤ length hay → OccursAt (take e hay) needle j → (j + length needle ≤ e) × OccursAt hay needle j
+pub occurs_whole : (hay needle : Text) (e j : ℕ) → e ≤ length hay → OccursAt (take e hay) needle j → (j + length needle ≤ e) × OccursAt hay needle j
 occurs_whole hay needle e j w h =
     let fits = h.fits in
     let by : j + length needle ≤ e = omega (arith, length-take-le e hay w) in
@@ -216,7 +216,7 @@ first_found hay needle bytes ours start from place n b o f h =
     (subst (λ t. FindsNeedle (drop (clamp start (length hay)) hay) t 0 (Some place)) o (subst (λ t. FindsNeedle t ours 0 (Some place)) part h))
     ∙ ap (λ n. Some (n + place)) (sym f)
 
-last_of_part : (needle hay : Text) (end : ℤ) (r : Option ℕ) → 0 < length needle → FindsLastNeedle (take (clamp (end +ℤ pos 1) (length hay)) hay) needle r
+pub last_of_part : (needle hay : Text) (end : ℤ) (r : Option ℕ) → 0 < length needle → FindsLastNeedle (take (clamp (end +ℤ pos 1) (length hay)) hay) needle r
     → last_until (length needle) end None (found_at needle hay) ≡ r
 last_of_part needle hay end None n h = no_last needle hay end h
 last_of_part needle hay end (Some place) n h = is_last needle hay end place n h
@@ -262,11 +262,3 @@ pub left_from_start : (t rest : Text) (start : ℤ) (place count : ℕ) → plac
 left_from_start t rest start place count p n r =
     let size : length rest ≡ length (drop place t) = ap length r in
     omega (arith, p, n, size, length-drop place t, clamped_le start (length t))
-
-ends_later : (size : ℕ) (end : ℤ) (k j : ℕ) → ends_by size end k ≡ false → ends_by size end (k + j) ≡ false
-ends_later size (pos n) k j e = lt-leb (k + j + size) (suc n) (omega (arith, leb-false (k + size) (suc n) e))
-ends_later size (negsuc n) k j e = refl
-
--- none that comes is one either
-pub none_ends_by : (needle t : Text) (size : ℕ) (end : ℤ) (found : Option ℕ) (k : ℕ) → ends_by size end k ≡ false → last_until size end found (places_of needle k t) ≡ found
-none_ends_by needle t size end found k e = last_none needle t size end found k (λ j l b. ends_later size end k j e)

@@ -8,7 +8,6 @@ use Rattle.tcl_chars.specs.Truth.{is_beginning}
 use Rattle.tcl_pages.specs.Dictionaries.{pairs}
 use Rattle.tcl_pages.specs.Strings.{pair_for, key_begins}
 use Rattle.tcl_pages.specs.Texts.{Text}
-use Rattle.tcl_values.specs.Kept.{Kept, texts}
 use Rattle.tcl_strings.specs.Taken.{taken_by}
 use Rattle.tcl_strings.specs.Grouped.{Pair, group_of, falls_into, Grouped, GroupedUpTo, put, put_by, with_pair, pair_among}
 
@@ -99,19 +98,23 @@ none_more (g ∷ groups) h (suc k) = none_more groups (λ j. h (suc j)) k
 
 -- ---- keys and values in turn
 
-pub few : (ks : List Kept) → length ks < 2 → pairs (texts ks) ≡ []
+pub few : (ts : List Text) → length ts < 2 → pairs ts ≡ []
 few [] h = refl
 few (k ∷ []) h = refl
-few (k ∷ v ∷ ks) h = absurd (omega arith)
+few (k ∷ v ∷ ts) h = absurd (omega arith)
 
-two : (ks : List Kept) (k v : Kept) → 2 ≤ length ks → k ≡ get_or ks 0 k → v ≡ get_or ks 1 v → pairs (texts ks) ≡ (k.text, v.text) ∷ pairs (texts (take (length ks - 2) (drop 2 ks)))
+two : (ts : List Text) (k v : Text) → 2 ≤ length ts → k ≡ get_or ts 0 k → v ≡ get_or ts 1 v → pairs ts ≡ (k, v) ∷ pairs (take (length ts - 2) (drop 2 ts))
 two [] k v h e f = absurd (omega arith)
 two (a ∷ []) k v h e f = absurd (omega arith)
-two (a ∷ b ∷ ks) k v h e f =
-    let rest : take (length (a ∷ b ∷ ks) - 2) ks ≡ ks = take_all _ ks (omega arith) in
-    ap (λ (x : Kept). (x.text, b.text) ∷ pairs (texts ks)) (sym e) ∙ ap (λ (y : Kept). (k.text, y.text) ∷ pairs (texts ks)) (sym f) ∙ ap (λ r. (k.text, v.text) ∷ pairs (texts r)) (sym rest)
+two (a ∷ b ∷ ts) k v h e f =
+    let rest : take (length (a ∷ b ∷ ts) - 2) ts ≡ ts = take_all _ ts (omega arith) in
+    ap (λ x. (x, b) ∷ pairs ts) (sym e) ∙ ap (λ y. (k, y) ∷ pairs ts) (sym f) ∙ ap (λ r. (k, v) ∷ pairs r) (sym rest)
 
-pub next_two : (all : List Pair) (ks : List Kept) (k v : Kept) (key value : Text) (old new : List (List Pair)) → 2 ≤ length ks → k ≡ get_or ks 0 k → v ≡ get_or ks 1 v → key ≡ k.text → value ≡ v.text
-    → new ≡ with_pair (key, value) old → GroupedUpTo all (pairs (texts ks)) old → GroupedUpTo all (pairs (texts (take (length ks - 2) (drop 2 ks)))) new
-next_two all ks k v key value old new h e f s t n g =
-    next_put all (pairs (texts (take (length ks - 2) (drop 2 ks)))) old new (k.text, v.text) (n ∙ ap (λ a. with_pair (a, value) old) s ∙ ap (λ b. with_pair (k.text, b) old) t) (subst (λ rest. GroupedUpTo all rest old) (two ks k v h e f) g)
+pub next_two : (all : List Pair) (ts : List Text) (k v : Text) (key value : Text) (old new : List (List Pair)) → 2 ≤ length ts → k ≡ get_or ts 0 k → v ≡ get_or ts 1 v → key ≡ k → value ≡ v
+    → new ≡ with_pair (key, value) old → GroupedUpTo all (pairs ts) old → GroupedUpTo all (pairs (take (length ts - 2) (drop 2 ts))) new
+next_two all ts k v key value old new h e f s t n g =
+    next_put all (pairs (take (length ts - 2) (drop 2 ts))) old new (k, v) (n ∙ ap (λ a. with_pair (a, value) old) s ∙ ap (λ b. with_pair (k, b) old) t) (subst (λ rest. GroupedUpTo all rest old) (two ts k v h e f) g)
+
+-- the groups of the pairs of texts that are others
+pub grouped_by : (ts us vs : List Text) (groups : List (List Pair)) → ts ≡ us → us ≡ vs → Grouped (pairs ts) groups → Grouped (pairs vs) groups
+grouped_by ts us vs groups e f g = subst (λ xs. Grouped (pairs xs) groups) (e ∙ f) g

@@ -1,3 +1,4 @@
+pub mod Backwards
 pub mod Bytes
 pub mod Empty
 pub mod FieldArguments

@@ -6,13 +6,12 @@ ghost use Rattle.tcl_pages.specs.Dictionaries.{pairs};
 ghost use Rattle.tcl_pages.specs.Strings as spec;
 ghost use Rattle.tcl_strings.specs.Grouped.{Grouped, group_of, pair_among, with_pair};
 ghost use Rattle.tcl_strings.specs.Taken.{taken_by};
-ghost use Rattle.tcl_values.specs.Kept.{texts};
 
 use crate::search::behind_front;
 use std::alloc::{AllocError, Global};
 use std::marker::Model;
 use tcl_chars::split_first;
-use tcl_values::Element;
+use tcl_values::ElementText;
 
 /// A list of keys and values makes one group if it has at most this number of elements.
 const FEW: usize = 16;
@@ -116,14 +115,17 @@ fn put_pair<'a>(groups: &mut Vec<Group<'a>>, key: &'a str, value: &'a str) -> Re
 }
 
 /// Keys and values in turn, in groups by the first characters of the keys: one group where they are few.
-pub(crate) fn grouped<'a>(alloc: Global, items: &'a [Element]) -> Result<Vec<Group<'a>>, AllocError>
-    ensures { IfOk result (λ groups. Grouped (pairs (texts items.now)) groups.items) }
+pub(crate) fn grouped<'a>(
+    alloc: Global,
+    items: &'a [ElementText<'a>],
+) -> Result<Vec<Group<'a>>, AllocError>
+    ensures { IfOk result (λ groups. Grouped (pairs items.now) groups.items) }
 {
     let count = if items.len() <= FEW { 1 } else { GROUPS };
     let mut groups = empty_groups(alloc, count)?;
     let mut left = items;
     while let [key, value, more @ ..] = left {
-        put_pair(&mut groups, key.text(), value.text())?;
+        put_pair(&mut groups, key.as_str(), value.as_str())?;
         left = more;
     }
     Ok(groups)

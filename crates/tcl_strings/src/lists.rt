@@ -86,14 +86,19 @@ pub fn split(alloc: Global, words: &mut [Value]) -> Result<Value, Fault>
 }
 
 /// The elements behind the first, each behind what stands between them.
-fn push_behind(text: &mut String, elements: &[Element], between: &str) -> Result<(), AllocError>
+fn push_behind(
+    alloc: Global,
+    text: &mut String,
+    elements: &[Element],
+    between: &str,
+) -> Result<(), AllocError>
     ensures { OnOk result (chars (string_bytes text.new)
         ≡ chars (string_bytes text.old) ++ spec.joined_behind (chars between.now) (texts elements.now)) }
 {
     let mut left = elements;
     while let [next, more @ ..] = left {
         push_text(text, between)?;
-        push_text(text, next.text())?;
+        next.write_to(alloc, text)?;
         left = more;
     }
     Ok(())
@@ -105,8 +110,8 @@ fn joined(alloc: Global, elements: &[Element], between: &str) -> Result<String, 
 {
     let mut text = room(alloc, 0)?;
     if let [first, more @ ..] = elements {
-        push_text(&mut text, first.text())?;
-        push_behind(&mut text, more, between)?;
+        first.write_to(alloc, &mut text)?;
+        push_behind(alloc, &mut text, more, between)?;
     }
     Ok(text)
 }

@@ -13,13 +13,25 @@ use crate::places::room;
 use std::alloc::{AllocError, Global};
 use tcl_arguments::two_texts;
 use tcl_chars::{Fault, message, push, push_text, split_first};
-use tcl_values::{Element, Value};
+use tcl_values::{Element, ElementText, Value};
+
+/// The texts of elements.
+fn texts_of(alloc: Global, elements: &[Element]) -> Result<Vec<ElementText<'_>>, AllocError>
+    ensures { IfOk result (λ v. v.items ≡ texts elements.now) }
+{
+    let mut texts = Vec::with_capacity(alloc, elements.len())?;
+    for element in elements {
+        texts.push(element.text(alloc)?)?;
+    }
+    Ok(texts)
+}
 
 /// The text with values in place of keys, from the left; what was written isn't read again.
 fn mapped(alloc: Global, items: &[Element], text: &str) -> Result<String, AllocError>
     ensures { IfOk result (λ s. chars (string_bytes s) ≡ spec.mapped (pairs (texts items.now)) 0 (chars text.now)) }
 {
-    let groups = grouped(alloc, items)?;
+    let texts = texts_of(alloc, items)?;
+    let groups = grouped(alloc, &texts)?;
     let mut said = room(alloc, text.len())?;
     let mut rest = text;
     while let Some((c, after)) = split_first(rest) {

@@ -1,6 +1,6 @@
 //! Texts compared and sought in one another: string(n), compare, equal, match, first, last.
 
-ghost use Rattle.std.specs.Prelude.{◌≡◌, true, false, length, drop, option_map, MatchOption, IfOk, IfSome, ◌<◌};
+ghost use Rattle.std.specs.Prelude.{◌≡◌, true, false, length, drop, reverse, option_map, MatchOption, IfOk, IfSome};
 ghost use Rattle.std.specs.Str.{chars};
 ghost use Rattle.tcl_chars.specs.Answers.{Answers};
 ghost use Rattle.tcl_chars.specs.Texts.{text_of};
@@ -12,8 +12,8 @@ use crate::places::{count, text_if, value_of};
 use std::alloc::{AllocError, Global};
 use std::cmp::Ordering;
 use std::rc::RcStr;
-use tcl_arguments::{index_of, two_or_three_texts, two_texts};
-use tcl_chars::{Dialect, Fault, clamp, compare, is_text, split_first};
+use tcl_arguments::{behind, index_of, two_or_three_texts, two_texts};
+use tcl_chars::{Dialect, Fault, clamp, compare, is_text, split_first, split_last};
 use tcl_glob::glob_match;
 use tcl_values::{Places, Value};
 
@@ -54,14 +54,6 @@ fn is_before(place: usize, start: i128) -> bool
     i128::from(place as u64) < start
 }
 
-/// Does what is so long and begins at the place end at another one at the latest?
-fn ends_by(size: usize, end: i128, place: usize) -> bool
-    requires { 0 < size }
-    ensures { result ≡ spec.ends_by size end place }
-{
-    i128::from(place as u64) + i128::from(size as u64) - 1 <= end
-}
-
 /// The first place, not before the start, where the needle stands.
 #[tactic(auto, using(crate::proofs::Finder::from_start, crate::proofs::Finder::left_from_start))]
 fn first_place(needle: &str, places: &Places<'_>, start: i128) -> Option<usize>
@@ -81,28 +73,42 @@ fn first_place(needle: &str, places: &Places<'_>, start: i128) -> Option<usize>
     None
 }
 
-/// The last place where the needle stands and ends at `end` at the latest. No place behind that is looked at.
-#[tactic(auto, using(crate::proofs::Finder::none_ends_by))]
+/// Does the text end with this one?
+fn ends_with(text: &str, end: &str) -> bool
+    ensures { result ≡ is_beginning (reverse (chars end.now)) (reverse (chars text.now)) }
+{
+    let mut wanted = end;
+    let mut rest = text;
+    while let Some((before, c)) = split_last(wanted) {
+        let Some((front, d)) = split_last(rest) else {
+            return false;
+        };
+        if c != d {
+            return false;
+        }
+        wanted = before;
+        rest = front;
+    }
+    true
+}
+
+/// The last place where the needle stands and ends at `end` at the latest. It is sought from there backwards.
+#[tactic(auto, using(crate::proofs::Backwards::ended))]
 fn last_place(needle: &str, places: &Places<'_>, end: i128) -> Option<usize>
     ensures { result ≡ spec.last_until (length (chars needle.now)) end None (spec.found_at (chars needle.now) places.now) }
 {
     split_first(needle)?;
     let size = count(needle);
-    let text_size = places.len();
-    let mut found = None;
-    let mut rest = places.text();
-    let mut place = 0;
-    while let Some((_, after)) = split_first(rest) {
-        if !ends_by(size, end, place) {
-            return found;
+    let mut place = behind(end, places.len());
+    let mut rest = places.front(place);
+    while let Some((front, _)) = split_last(rest) {
+        if ends_with(rest, needle) {
+            return Some(place - size);
         }
-        if behind_front(needle, rest).is_some() {
-            found = Some(place);
-        }
-        place += 1;
-        rest = after;
+        place -= 1;
+        rest = front;
     }
-    found
+    None
 }
 
 /// The value that is a place in decimal, or -1 where there is none.
@@ -154,6 +160,11 @@ pub fn string_compare(alloc: Global, words: &mut [Value]) -> Result<Value, Fault
     ensures answer { Answers (λ v. v) result (spec.string_compare words.old) }
     ensures same { words.new ≡ words.old }
 {
+    if words.len() == 2 {
+        if let (Some(a), Some(b)) = (words[0].shown(), words[1].shown()) {
+            return Ok(value_of(alloc, order_text(compare(a, b)))?);
+        }
+    }
     let (a, b) = two_texts(alloc, words, "string compare string1 string2")?;
     Ok(value_of(alloc, order_text(compare(a.as_str(), b.as_str())))?)
 }
@@ -167,6 +178,11 @@ pub fn string_equal(alloc: Global, words: &mut [Value]) -> Result<Value, Fault>
     ensures answer { Answers (λ v. v) result (spec.string_equal words.old) }
     ensures same { words.new ≡ words.old }
 {
+    if words.len() == 2 {
+        if let (Some(a), Some(b)) = (words[0].shown(), words[1].shown()) {
+            return Ok(Value::of_truth(is_text(a, b)));
+        }
+    }
     let (a, b) = two_texts(alloc, words, "string equal string1 string2")?;
     Ok(Value::of_truth(is_text(a.as_str(), b.as_str())))
 }

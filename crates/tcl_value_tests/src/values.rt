@@ -120,7 +120,9 @@ fn item(alloc: Global, start: &str, place: usize) -> Result<RcStr, Fault> {
 fn lengths(alloc: Global, start: &str) -> Result<usize, Fault> {
     let mut lengths = 0usize;
     for element in value(alloc, start)?.row(alloc)?.items() {
-        lengths = lengths.wrapping_mul(10).wrapping_add(element.text().len());
+        lengths = lengths
+            .wrapping_mul(10)
+            .wrapping_add(element.text(alloc)?.as_str().len());
     }
     Ok(lengths)
 }
@@ -191,14 +193,14 @@ fn numbers(alloc: Global, count: u32) -> Result<Value, Fault> {
     Ok(list)
 }
 
-/// A number in a list, as the text that its row lends and as the value that is taken out.
+/// A number in a list, as the text that its element tells and as the value that is taken out.
 fn kept_number(alloc: Global, number: i64) -> Result<String, Fault> {
     let mut items = Vec::new(alloc);
     items.push(Value::of_int(number))?;
     let mut list = Value::of_list(alloc, items)?;
     let mut kept = String::new(alloc);
     for element in list.row(alloc)?.items() {
-        kept.push_str(element.text())?;
+        kept.push_str(element.text(alloc)?.as_str())?;
         kept.push(' ')?;
         kept.push_str(text(alloc, element.copy()?)?.as_str())?;
     }

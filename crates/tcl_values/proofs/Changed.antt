@@ -1,69 +1,30 @@
 -- A value under a key that is changed: a list that grows beside its text, pairs of which one value becomes another.
-use Rattle.std.proofs.Common.{◌≡◌, ℕ, zero, suc, ◌+◌, ◌<◌, ◌≤◌, ◌==◌, Bool, List, [], ◌∷◌, ◌++◌, length, max, get_or, slice_set, None, Result, Ok, Err, refl, sym, subst, ap, ◌∙◌, arith}
-use Rattle.std.specs.Str.{chars}
-use Rattle.std.specs.String.{string_bytes}
-use Rattle.std.specs.declared.string.String.{String}
-use Rattle.std.specs.declared.alloc.Global.{Global}
-use Rattle.std.proofs.lemmas.Bool.{ne_eqb}
-use Rattle.std.proofs.lemmas.List.{map_push, map-set}
+use Rattle.std.proofs.Common.{◌≡◌, ℕ, zero, suc, ◌+◌, ◌<◌, ◌≤◌, List, [], ◌∷◌, ◌++◌, length, take, drop, get_or, slice_set, Result, Ok, Err, OnOk, OnErr, refl, sym, subst, ap, ◌∙◌, arith}
+use Rattle.std.proofs.lemmas.List.{map-set}
 use Rattle.tcl_chars.specs.Answers.{Answers, Stops}
 use Rattle.tcl_chars.specs.declared.fault.Fault.{Fault}
 use Rattle.tcl_chars.specs.declared.fault.Fault.TheVariants as fault
-use Rattle.tcl_list.specs.Elements.{elements_of}
-use Rattle.tcl_list.specs.Laws.{has_none}
-use Rattle.tcl_list.specs.Written.{appended, written}
-use Rattle.tcl_list.proofs.Joining.{appended_is_longer}
 use Rattle.tcl_pages.specs.Answers.{Answer, ◌>>=◌}
 use Rattle.tcl_pages.specs.Texts.{Text}
 use Rattle.tcl_values.proofs.ElementPlaces.{text_there}
 use Rattle.tcl_values.specs.Changes.{after, after_at}
 use Rattle.tcl_values.specs.Kept.{Kept, texts, depth_over}
 use Rattle.tcl_values.specs.declared.change.Change.{Change}
-use Rattle.tcl_values.specs.Shape.{elements, items_text, shared_text, shown, AreKept, IsWritten}
+use Rattle.tcl_values.specs.Shape.{elements, AreKept}
 use Rattle.tcl_values.specs.declared.element.Items.{Items}
-use Rattle.tcl_values.proofs.Depths.{depth_added, depth_below}
-use Rattle.tcl_values.proofs.Joined.{reads_written}
+use Rattle.tcl_values.proofs.Depths.{depth_below, depth_inserted, depth_over-push}
 
--- ---- a list without a text of its own
+-- ---- a list that grows
 
-pub bare_is : (r : Items) (t : String Global) → IsWritten r t → items_text r ≡ chars (string_bytes t)
-bare_is r t w = ap (λ s. shown (shared_text s) (elements r)) w.bare ∙ sym w.written
+-- an element behind others, which is not too deep
+pub depth_low : (ks more : List Kept) (k : Kept) → depth_over ks < 64 → more ≡ ks ++ k ∷ [] → k.depth < 63 → depth_over more < 64
+depth_low ks more k low m l = omega (arith, low, ap depth_over m, depth_over-push ks k, l)
 
-none_in : (ks : List Kept) → has_none (texts ks) ≡ (length ks == 0)
-none_in [] = refl
-none_in (k ∷ ks) = sym (ne_eqb (suc (length ks)) 0 (λ z. omega arith))
-
--- the text of a list, and one element more behind it
-pub written_more : (ks ls : List Kept) (k : Kept) (first : Bool) (old new : Text) → old ≡ written (texts ks) → first ≡ (length ks == 0) → ls ≡ ks ++ k ∷ [] → new ≡ old ++ appended first k.text → new ≡ written (texts ls)
-written_more ks ls k first old new is at_first more e =
-    e ∙ ap (λ t. t ++ appended first k.text) is ∙ ap (λ (b : Bool). written (texts ks) ++ appended b k.text) (at_first ∙ sym (none_in ks))
-    ∙ appended_is_longer (texts ks) k.text ∙ ap written (sym (ap texts more ∙ map_push (λ (q : Kept). q.text) ks k))
-
-pub bare_kept : (r : Items) → r.depth ≤ 64 → r.depth ≡ depth_over (elements r) → r.text ≡ None → AreKept r
-bare_kept r limit exact bare = record {
-  limit = limit;
-  exact = exact;
-  reading = ap (λ s. elements_of (shown (shared_text s) (elements r))) bare ∙ reads_written (texts (elements r));
-}
-
-last_is : (ks : List Kept) (k d : Kept) → get_or (ks ++ k ∷ []) (length ks) d ≡ k
-last_is [] k d = refl
-last_is (x ∷ ks) k d = last_is ks k d
-
--- the element that is read behind the others is the one that came
-pub came_last : (ks ls : List Kept) (k x : Kept) (n : ℕ) → ls ≡ ks ++ k ∷ [] → n ≡ length ks → x ≡ get_or ls n x → x.text ≡ k.text
-came_last ks ls k x n more last is = ap (λ (q : Kept). q.text) (is ∙ (λ i. get_or (more i) (last i) x) ∙ last_is ks k x)
-
-pub longer_kept : (old new : Items) (k x : Kept) (n : ℕ) (first : Bool) (s t : String Global) → IsWritten old s → k.depth < 63 → old.depth < 64 → elements new ≡ elements old ++ k ∷ [] → n ≡ length (elements old) → x ≡ get_or (elements new) n x
-    → first ≡ (length (elements old) == 0) → new.text ≡ None → (e : ℕ) → e ≡ k.depth → new.depth ≡ max old.depth (e + 1) → (u : Text) → u ≡ x.text → chars (string_bytes t) ≡ chars (string_bytes s) ++ appended first u → IsWritten new t
-longer_kept old new k x n first s t was low limit more last is at_first bare e same depth u read new_text = record {
-  kept = bare_kept new (omega (arith, low, limit, same, depth)) (depth_added (elements old) (elements new) k _ _ _ was.kept.exact more same depth) bare;
-  bare = bare;
-  written = written_more (elements old) (elements new) k first _ _ was.written at_first more (new_text ∙ ap (λ v. chars (string_bytes s) ++ appended first v) (read ∙ came_last (elements old) (elements new) k x n more last is));
-}
-
-pub bare_written : (r : Items) (t : String Global) → r.depth ≡ depth_over (elements r) → r.depth < 64 → r.text ≡ None → chars (string_bytes t) ≡ written (texts (elements r)) → IsWritten r t
-bare_written r t exact limit bare is = record { kept = bare_kept r (omega (arith, limit)) exact bare; bare = bare; written = is }
+-- it stays as shallow as what comes
+pub lengthened_low : {A E : Type 0} (r : Result A E) (old new : Items) (more : List Kept) (i : ℕ) → AreKept old → AreKept new → old.depth < 64 → depth_over more < 64
+    → OnOk r (elements new ≡ take i (elements old) ++ more ++ drop (i + 0) (elements old)) → OnErr r (new.depth ≡ old.depth) → new.depth < 64
+lengthened_low (Ok x) old new more i was is low less done same = omega (arith, is.exact, depth_inserted (elements old) more (elements new) i 0 old.depth (depth_over more) done was.exact refl refl, low, less)
+lengthened_low (Err x) old new more i was is low less done same = omega (arith, same, low)
 
 -- ---- a value that becomes another
 

@@ -8,7 +8,6 @@ pub mod Gathered
 pub mod Grown
 pub mod Growth
 pub mod Joined
-pub mod Lengthened
 pub mod PairKept
 pub mod PairPlaces
 pub mod PairTexts
@@ -16,3 +15,4 @@ pub mod PairWriting
 pub mod Replaced
 pub mod Singles
 pub mod Truths
+pub mod Unrepeated

@@ -2,13 +2,11 @@
 use Rattle.std.specs.Prelude.{ℕ, ℤ, IfSome, ◌≤◌, ◌≡◌, Bool, true, false, List, [], length, map, Option, None, Some, ⊤, Ok, FitsSigned, option_map}
 use Rattle.std.specs.Int.{w64}
 use Rattle.std.specs.Fmt.{signed_decimal}
-use Rattle.std.specs.Option.{IsSome}
 use Rattle.std.specs.Bool.{OnTrue}
 use Rattle.std.specs.Rc.{rc_str_bytes}
 use Rattle.std.specs.Str.{chars, IsAscii}
 use Rattle.std.specs.String.{string_bytes}
 use Rattle.std.specs.declared.rc.RcStr.{RcStr}
-use Rattle.std.specs.declared.string.String.{String}
 use Rattle.std.specs.declared.alloc.Global.{Global}
 use Rattle.tcl_chars.specs.Whole.{whole_of}
 use Rattle.tcl_chars.specs.declared.numbers.Dialect.{Dialect}
@@ -20,14 +18,12 @@ use Rattle.tcl_list.specs.Texts.{text_of}
 use Rattle.tcl_names.specs.Keys.{IsKeyOf}
 use Rattle.tcl_values.specs.Kept.{Kept, texts, depth_over}
 use Rattle.tcl_values.specs.Marks.{AreMarks}
-use Rattle.tcl_values.specs.Numerals.{digits, AreDigits}
 use Rattle.tcl_values.specs.Paired.{zipped}
 use Rattle.tcl_pages.specs.Dictionaries.{pairs_of}
 use Rattle.tcl_pages.specs.Dictionaries as dictionaries
 use Rattle.tcl_pages.specs.DictPages.{dictionary}
 use Rattle.tcl_values.specs.declared.composed.Composed.{Composed}
 use Rattle.tcl_values.specs.declared.element.Items.{Items}
-use Rattle.tcl_values.specs.declared.element.Lengthening.{Lengthening}
 use Rattle.tcl_values.specs.declared.element.Pairs.{Pairs}
 use Rattle.tcl_values.specs.declared.element.Entry.{Entry}
 use Rattle.tcl_values.specs.declared.element.Entry.TheVariants as entry
@@ -133,40 +129,26 @@ pub record IsNamed (n : Named) : Type 0 where
   pub key : IsKeyOf n.key (rc_str_bytes n.text)
   pub ascii : OnTrue n.ascii (IsAscii (rc_str_bytes n.text))
 
--- a list without a text of its own, and how it is written
-pub record IsWritten (r : Items) (t : String Global) : Type 0 where
-  pub kept : AreKept r
-  pub bare : r.text ≡ None
-  pub written : chars (string_bytes t) ≡ written (texts (elements r))
-
--- the same elements and the same text
-pub record AreSameLengthening (l m : Lengthening) : Type 0 where
-  pub row : l.row.value ≡ m.row.value
-  pub text : string_bytes l.text ≡ string_bytes m.text
-
 abbrev pub entry_text : Entry → List ℕ
 entry_text (entry.Text s) = text_of s
-entry_text (entry.Number d) = chars (digits d)
+entry_text (entry.Number n) = signed_decimal n
 entry_text (entry.Row r) = items_text r.value
 entry_text (entry.Dict r) = pairs_text r.value
 entry_text (entry.Grown s) = chars (string_bytes s.value.text)
-entry_text (entry.Longer l) = chars (string_bytes l.value.text)
 
 abbrev pub entry_depth : Entry → ℕ
 entry_depth (entry.Text s) = 0
-entry_depth (entry.Number d) = 0
+entry_depth (entry.Number n) = 0
 entry_depth (entry.Row r) = r.value.depth
 entry_depth (entry.Dict r) = r.value.depth
 entry_depth (entry.Grown s) = 0
-entry_depth (entry.Longer l) = l.value.row.value.depth
 
 abbrev pub IsEntry : Entry → Type 0
 IsEntry (entry.Text s) = ⊤
-IsEntry (entry.Number d) = AreDigits d
-IsEntry (entry.Row r) = IsSome r.value.text × AreKept r.value
-IsEntry (entry.Dict r) = IsSome r.value.text × ArePaired r.value
+IsEntry (entry.Number n) = FitsSigned w64 n
+IsEntry (entry.Row r) = AreKept r.value
+IsEntry (entry.Dict r) = ArePaired r.value
 IsEntry (entry.Grown s) = IsGrown s.value
-IsEntry (entry.Longer l) = IsWritten l.value.row.value l.value.text
 
 abbrev pub kept : element.Inside → Kept
 kept a = record { text = entry_text a.entry; depth = entry_depth a.entry }

@@ -6,25 +6,23 @@ ghost use Rattle.std.specs.String.{string_bytes};
 ghost use Rattle.tcl_chars.specs.Answers.{Answers};
 ghost use Rattle.tcl_chars.specs.Texts.{text_of};
 ghost use Rattle.tcl_list.specs.Elements.{elements_of};
-ghost use Rattle.tcl_list.specs.Texts.{Extends};
 ghost use Rattle.tcl_list.specs.Written.{written};
 ghost use Rattle.tcl_pages.specs.DictPages.{dictionary};
 ghost use Rattle.tcl_values.specs.Changes.{after, after_at, after_in, after_under};
 ghost use Rattle.tcl_values.specs.Kept.{texts, depth_over};
 ghost use Rattle.tcl_values.specs.Lists.{lengthened, Leaves};
-ghost use Rattle.tcl_values.specs.Shape.{elements, pairs_in, pairs_text, ArePaired, IsWritten};
+ghost use Rattle.tcl_values.specs.Shape.{elements, items_text, pairs_in, pairs_text, AreKept, ArePaired};
 
 use crate::composed::joined;
 use crate::dict::read_dict;
-use crate::element::{Element, Entry, Items, Lengthening, Pairs};
-use crate::items::{copy_elements, deepest, write_text};
-use crate::list::plain_elements;
+use crate::element::{Element, Entry, Items, Pairs};
+use crate::items::splice;
+use crate::list::read_text;
 use crate::pairs::add_pair;
 use crate::value::{Growing, Held, Value, grow};
 use std::alloc::{AllocError, Global};
 use std::rc::{Rc, RcStr};
 use tcl_chars::Fault;
-use tcl_list::{append_element, split};
 
 /// What comes to the value under a key of a dictionary.
 #[derive(Drop)]
@@ -35,123 +33,19 @@ pub enum Change {
     Text(RcStr),
 }
 
-/// Adds an element at the end of a list, and at the end of its text how it is written there. Of the others nothing is looked at.
-fn lengthen(row: &mut Items, text: &mut String, element: Element) -> Result<(), AllocError>
-    requires element { element.depth < 63 }
-    requires limit { row.old.depth < 64 }
-    requires written { IsWritten row.old text.old }
-    ensures added { OnOk result (elements row.new ≡ elements row.old ++ element ∷ []) }
-    ensures back { OnErr result (elements row.new ≡ elements row.old) }
-    ensures behind { Extends (chars (string_bytes text.old)) (chars (string_bytes text.new)) }
-    ensures limit { row.new.depth < 64 }
-    ensures written { IsWritten row.new text.new }
-{
-    let first = row.items.is_empty();
-    let last = row.items.len();
-    let depth = element.depth() + 1;
-    row.items.push(element)?;
-    if let Err(refused) = append_element(text, row.items[last].text(), first) {
-        row.items.pop();
-        return Err(refused);
-    }
-    row.depth = row.depth.max(depth);
-    Ok(())
-}
-
-/// Adds elements at the end of a list, one behind the other. Those that came before one that is refused stay.
-fn lengthen_by(row: &mut Items, text: &mut String, more: Vec<Element>) -> Result<(), AllocError>
+/// Adds elements at the end of a list that is not too deep, in place where nobody else holds the list.
+fn lengthen_row(row: &mut Rc<Items>, more: Vec<Element>) -> Result<(), AllocError>
     requires more { depth_over more.items < 64 }
-    requires limit { row.old.depth < 64 }
-    requires written { IsWritten row.old text.old }
-    ensures added { OnOk result (elements row.new ≡ elements row.old ++ more.items) }
-    ensures front { take (length (elements row.old)) (elements row.new) ≡ elements row.old }
-    ensures behind { Extends (chars (string_bytes text.old)) (chars (string_bytes text.new)) }
-    ensures limit { row.new.depth < 64 }
-    ensures written { IsWritten row.new text.new }
-{
-    for element in more {
-        lengthen(row, text, element)?;
-    }
-    Ok(())
-}
-
-/// Adds elements at the end of a list, all or none.
-fn lengthen_all(row: &mut Items, text: &mut String, more: Vec<Element>) -> Result<(), AllocError>
-    requires more { depth_over more.items < 64 }
-    requires limit { row.old.depth < 64 }
-    requires written { IsWritten row.old text.old }
-    ensures added { OnOk result (elements row.new ≡ elements row.old ++ more.items) }
-    ensures same { OnErr result (string_bytes text.new ≡ string_bytes text.old) }
-    ensures depth { OnErr result (row.new.depth ≡ row.old.depth) }
-    ensures limit { row.new.depth < 64 }
-    ensures written { IsWritten row.new text.new }
+    requires limit { row.old.value.depth < 64 }
+    requires kept { AreKept row.old.value }
+    ensures done { OnOk result (items_text row.new.value ≡ written (texts (elements row.old.value ++ more.items))) }
+    ensures same { OnErr result (items_text row.new.value ≡ items_text row.old.value) }
+    ensures depth { OnErr result (row.new.value.depth ≡ row.old.value.depth) }
+    ensures limit { row.new.value.depth < 64 }
+    ensures kept { AreKept row.new.value }
 {
     let count = row.items.len();
-    let depth = row.depth;
-    let size = text.len();
-    match lengthen_by(row, text, more) {
-        Ok(()) => Ok(()),
-        Err(refused) => {
-            row.items.truncate(count);
-            row.depth = depth;
-            text.truncate(size);
-            Err(refused)
-        }
-    }
-}
-
-/// Adds elements at the end of a list that grows, in place where nobody else holds its elements.
-fn lengthen_own(own: &mut Lengthening, more: Vec<Element>) -> Result<(), AllocError>
-    requires more { depth_over more.items < 64 }
-    requires limit { own.old.row.value.depth < 64 }
-    requires written { IsWritten own.old.row.value own.old.text }
-    ensures added { OnOk result (elements own.new.row.value ≡ elements own.old.row.value ++ more.items) }
-    ensures same { OnErr result (string_bytes own.new.text ≡ string_bytes own.old.text) }
-    ensures depth { OnErr result (own.new.row.value.depth ≡ own.old.row.value.depth) }
-    ensures limit { own.new.row.value.depth < 64 }
-    ensures written { IsWritten own.new.row.value own.new.text }
-{
-    let row = Rc::make_mut(&mut own.row)?;
-    lengthen_all(row, &mut own.text, more)
-}
-
-/// Adds elements at the end of a list that grows, in place where nobody else holds the list.
-fn lengthen_shared(longer: &mut Rc<Lengthening>, more: Vec<Element>) -> Result<(), AllocError>
-    requires more { depth_over more.items < 64 }
-    requires limit { longer.old.value.row.value.depth < 64 }
-    requires written { IsWritten longer.old.value.row.value longer.old.value.text }
-    ensures added { OnOk result (elements longer.new.value.row.value ≡ elements longer.old.value.row.value ++ more.items) }
-    ensures same { OnErr result (string_bytes longer.new.value.text ≡ string_bytes longer.old.value.text) }
-    ensures depth { OnErr result (longer.new.value.row.value.depth ≡ longer.old.value.row.value.depth) }
-    ensures limit { longer.new.value.row.value.depth < 64 }
-    ensures written { IsWritten longer.new.value.row.value longer.new.value.text }
-{
-    let own = Rc::make_mut(longer)?;
-    lengthen_own(own, more)
-}
-
-/// Elements as a list that grows, with others behind them, and how it is written.
-fn longer(alloc: Global, items: Vec<Element>, more: Vec<Element>) -> Result<Element, AllocError>
-    requires more { depth_over more.items < 64 }
-    requires limit { depth_over items.items < 64 }
-    ensures text { IfOk result (λ e. e.text ≡ written (texts (items.items ++ more.items))) }
-    ensures depth { IfOk result (λ e. e.depth < 64) }
-{
-    let mut text = write_text(alloc, &items)?;
-    let depth = deepest(&items);
-    let mut row = Items {
-        text: None,
-        depth,
-        items,
-    };
-    lengthen_by(&mut row, &mut text, more)?;
-    let longer = Lengthening {
-        row: Rc::new(alloc, row)?,
-        text,
-    };
-    Ok(Element {
-        entry: Entry::Longer(Rc::new(alloc, longer)?),
-    })
+    splice(row, count, 0, more)
 }
 
 impl Element {
@@ -166,23 +60,20 @@ impl Element {
         self.plain(alloc)
     }
 
-    /// The elements of the list that its text is read as. What is kept of them is shared.
-    fn read(&self, alloc: Global) -> Result<Vec<Element>, Fault>
+    /// The list that its text is read as. What is kept of it is shared.
+    fn read_list(&self, alloc: Global) -> Result<Rc<Items>, Fault>
         requires { self.now.depth < 64 }
-        ensures read { Answers (λ v. texts v.items) result (elements_of self.now.text) }
-        ensures depth { IfOk result (λ v. depth_over v.items < 64) }
+        ensures read { Answers (λ r. texts (elements r.value)) result (elements_of self.now.text) }
+        ensures limit { IfOk result (λ r. r.value.depth < 64) }
+        ensures kept { IfOk result (λ r. AreKept r.value) }
     {
         match &self.entry {
-            Entry::Row(row) => Ok(copy_elements(alloc, &row.items)?),
-            Entry::Longer(longer) => Ok(copy_elements(alloc, &longer.row.items)?),
-            _ => {
-                let words = split(alloc, self.text())?;
-                Ok(plain_elements(alloc, words)?)
-            }
+            Entry::Row(row) => Ok(row.clone()?),
+            _ => read_text(alloc, self.shared_text(alloc)?),
         }
     }
 
-    /// Adds elements at the end of the list that its text is read as, in place where it has grown before and nobody else holds it.
+    /// Adds elements at the end of the list that its text is read as, in place where it is kept as one that nobody else holds.
     fn lengthen(&mut self, alloc: Global, more: Vec<Element>) -> Result<(), Fault>
         requires more { depth_over more.items < 64 }
         requires limit { self.old.depth < 64 }
@@ -190,13 +81,24 @@ impl Element {
         ensures same { OnErr result (self.new ≡ self.old) }
         ensures limit { self.new.depth < 64 }
     {
-        if let Entry::Longer(longer) = &mut self.entry {
-            lengthen_shared(longer, more)?;
+        if let Entry::Row(row) = &mut self.entry {
+            lengthen_row(row, more)?;
             return Ok(());
         }
-        let items = self.read(alloc)?;
-        *self = longer(alloc, items, more)?;
+        let mut row = self.read_list(alloc)?;
+        lengthen_row(&mut row, more)?;
+        *self = Element {
+            entry: Entry::Row(row),
+        };
         Ok(())
+    }
+
+    /// Its text with another one behind it.
+    fn with_behind(&self, alloc: Global, more: &str) -> Result<String, AllocError>
+        ensures { IfOk result (λ s. chars (string_bytes s) ≡ self.now.text ++ chars more.now) }
+    {
+        let own = self.text(alloc)?;
+        joined(alloc, own.as_str(), more)
     }
 
     /// Writes a text at its end, in place where it has grown before and nobody else holds it.
@@ -209,7 +111,7 @@ impl Element {
         if let Entry::Grown(grown) = &mut self.entry {
             return grow(grown, more);
         }
-        let text = Growing::new(joined(alloc, self.text(), more)?);
+        let text = Growing::new(self.with_behind(alloc, more)?);
         *self = Element {
             entry: Entry::Grown(Rc::new(alloc, text)?),
         };

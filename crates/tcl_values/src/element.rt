@@ -1,19 +1,24 @@
 //! Elements of lists that are kept.
 
-ghost use Rattle.std.specs.Prelude.{◌≡◌, ◌<◌, IfOk};
+ghost use Rattle.std.specs.Prelude.{◌≡◌, ◌<◌, ◌++◌, IfOk, IfSome, OnErr, OnOk};
+ghost use Rattle.std.specs.Fmt.{signed_decimal};
 ghost use Rattle.std.specs.Str.{chars};
+ghost use Rattle.std.specs.String.{string_bytes};
 ghost use Rattle.tcl_list.specs.Texts.{text_of};
 
-use crate::digits::Digits;
+use crate::element_text::ElementText;
+use crate::items::{row_shown, row_text};
 use crate::literal::with_room;
 use crate::marks::Marks;
+use crate::pairs::{dict_text, pairs_shown};
 use crate::value::{Growing, Held, Value};
 use indexmap::IndexSet;
 use std::alloc::{AllocError, Global};
 use std::marker::Model;
 use std::rc::{Rc, RcStr};
+use tcl_chars::{number_text, push_number, push_text};
 
-/// An element of a list that is kept: its text is always there.
+/// An element of a list that is kept. It has a text; that of a list or of a dictionary is written when somebody asks for it.
 #[cycle(element)]
 #[derive(Drop)]
 pub struct Element {
@@ -26,38 +31,14 @@ pub struct Element {
 pub(crate) enum Entry {
     /// Its text alone.
     Text(RcStr),
-    /// A number, by its decimal text, which is short.
-    Number(Digits),
-    /// The list that its text is read as, with the text.
+    /// A number, whose text is its decimal digits.
+    Number(i64),
+    /// The list that its text is read as.
     Row(Rc<Items>),
-    /// The dictionary that its text is read as, with the text.
+    /// The dictionary that its text is read as.
     Dict(Rc<Pairs>),
     /// A text that grows at its end.
     Grown(Rc<Growing>),
-    /// A list that grows at its end.
-    Longer(Rc<Lengthening>),
-}
-
-/// A list that grows at its end, beside its text, which is how it is written and grows with it.
-#[cycle(element)]
-#[derive(Drop)]
-pub(crate) struct Lengthening {
-    pub(crate) row: Rc<Items>,
-    pub(crate) text: String,
-}
-
-impl Clone for Lengthening {
-    ghost use Rattle.tcl_values.specs.Shape.{AreSameLengthening};
-
-    ghost is_clone = { AreSameLengthening };
-
-    /// The elements are shared, the text is copied.
-    fn clone(&self) -> Result<Lengthening, AllocError> {
-        Ok(Lengthening {
-            row: self.row.clone()?,
-            text: self.text.clone()?,
-        })
-    }
 }
 
 /// The elements of a list, beside its text where that has been written or read.
@@ -101,23 +82,66 @@ impl Model for Element {
 }
 
 impl Element {
-    /// Its text.
-    pub fn text(&self) -> &str
-        ensures { chars result.now ≡ self.now.text }
+    /// The element that is a number's decimal text.
+    pub(crate) fn of_number(n: i64) -> Element
+        ensures text { result.text ≡ signed_decimal n }
+        ensures depth { result.depth ≡ 0 }
+    {
+        Element {
+            entry: Entry::Number(n),
+        }
+    }
+
+    /// Its text: lent where it stands ready, else written.
+    ///
+    /// # Errors
+    ///
+    /// `AllocError` where memory for what is written was refused.
+    #[cycle(writing)]
+    pub fn text(&self, alloc: Global) -> Result<ElementText<'_>, AllocError>
+        ensures { IfOk result (λ t. t ≡ self.now.text) }
     {
         match &self.entry {
-            Entry::Text(text) => text.as_str(),
-            Entry::Number(digits) => digits.text(),
+            Entry::Text(text) => Ok(ElementText::lent(text.as_str())),
+            Entry::Number(n) => ElementText::of_number(alloc, *n),
+            Entry::Row(row) => row_shown(row, alloc),
+            Entry::Dict(pairs) => pairs_shown(pairs, alloc),
+            Entry::Grown(grown) => Ok(ElementText::lent(grown.text.as_str())),
+        }
+    }
+
+    /// Writes its text at the end of another one. That of a number isn't made anew for that.
+    ///
+    /// # Errors
+    ///
+    /// `AllocError` where a growth was refused; the other text is then as it was.
+    pub fn write_to(&self, alloc: Global, text: &mut String) -> Result<(), AllocError>
+        ensures done { OnOk result (chars (string_bytes text.new) ≡ chars (string_bytes text.old) ++ self.now.text) }
+        ensures same { OnErr result (string_bytes text.new ≡ string_bytes text.old) }
+    {
+        if let Entry::Number(n) = &self.entry {
+            return push_number(text, *n);
+        }
+        let own = self.text(alloc)?;
+        push_text(text, own.as_str())
+    }
+
+    /// Its text, where it stands ready.
+    pub fn shown(&self) -> Option<&str>
+        ensures { IfSome result (λ t. chars t.now ≡ self.now.text) }
+    {
+        match &self.entry {
+            Entry::Text(text) => Some(text.as_str()),
+            Entry::Number(_) => None,
             Entry::Row(row) => match &row.text {
-                Some(text) => text.as_str(),
-                None => unreachable!(),
+                Some(text) => Some(text.as_str()),
+                None => None,
             },
             Entry::Dict(pairs) => match &pairs.text {
-                Some(text) => text.as_str(),
-                None => unreachable!(),
+                Some(text) => Some(text.as_str()),
+                None => None,
             },
-            Entry::Grown(grown) => grown.text.as_str(),
-            Entry::Longer(longer) => longer.text.as_str(),
+            Entry::Grown(grown) => Some(grown.text.as_str()),
         }
     }
 
@@ -127,11 +151,10 @@ impl Element {
     {
         let held = match &self.entry {
             Entry::Text(text) => Held::Text(text.clone()?),
-            Entry::Number(digits) => Held::Number(digits.number()),
+            Entry::Number(n) => Held::Number(*n),
             Entry::Row(row) => Held::Row(row.clone()?),
             Entry::Dict(pairs) => Held::Dict(pairs.clone()?),
             Entry::Grown(grown) => Held::Grown(grown.clone()?),
-            Entry::Longer(longer) => Held::Row(longer.row.clone()?),
         };
         Ok(Value { held })
     }
@@ -154,11 +177,10 @@ impl Element {
     {
         let entry = match &self.entry {
             Entry::Text(text) => Entry::Text(text.clone()?),
-            Entry::Number(digits) => Entry::Number(*digits),
+            Entry::Number(n) => Entry::Number(*n),
             Entry::Row(row) => Entry::Row(row.clone()?),
             Entry::Dict(pairs) => Entry::Dict(pairs.clone()?),
             Entry::Grown(grown) => Entry::Grown(grown.clone()?),
-            Entry::Longer(longer) => Entry::Longer(longer.clone()?),
         };
         Ok(Element { entry })
     }
@@ -173,27 +195,23 @@ impl Element {
             Entry::Row(row) => row.depth,
             Entry::Dict(pairs) => pairs.depth,
             Entry::Grown(_) => 0,
-            Entry::Longer(longer) => longer.row.depth,
         }
     }
 
-    /// Its text, shared, or copied where it grows.
-    pub(crate) fn shared_text(&self, alloc: Global) -> Result<RcStr, AllocError>
+    /// Its text, shared, or copied where it grows; that of a list or of a dictionary is written where it doesn't stand ready.
+    ///
+    /// # Errors
+    ///
+    /// `AllocError` where memory was refused.
+    pub fn shared_text(&self, alloc: Global) -> Result<RcStr, AllocError>
         ensures { IfOk result (λ t. text_of t ≡ self.now.text) }
     {
         match &self.entry {
             Entry::Text(text) => text.clone(),
-            Entry::Number(digits) => RcStr::from_str(alloc, digits.text()),
-            Entry::Row(row) => match &row.text {
-                Some(text) => text.clone(),
-                None => unreachable!(),
-            },
-            Entry::Dict(pairs) => match &pairs.text {
-                Some(text) => text.clone(),
-                None => unreachable!(),
-            },
+            Entry::Number(n) => number_text(alloc, *n),
+            Entry::Row(row) => row_text(row, alloc),
+            Entry::Dict(pairs) => dict_text(pairs, alloc),
             Entry::Grown(grown) => RcStr::from_str(alloc, grown.text.as_str()),
-            Entry::Longer(longer) => RcStr::from_str(alloc, longer.text.as_str()),
         }
     }
 
@@ -202,9 +220,9 @@ impl Element {
         ensures text { IfOk result (λ e. e.text ≡ self.now.text) }
         ensures depth { IfOk result (λ e. e.depth ≡ 0) }
     {
-        if let Entry::Number(digits) = &self.entry {
+        if let Entry::Number(n) = &self.entry {
             return Ok(Element {
-                entry: Entry::Number(*digits),
+                entry: Entry::Number(*n),
             });
         }
         Ok(Element {

@@ -1,8 +1,7 @@
 //! The elements of a list that is kept, behind a shared pointer: read, written, changed.
 
-ghost use Rattle.std.specs.Prelude.{◌≡◌, ◌<◌, ◌≤◌, ◌+◌, ◌∷◌, [], ◌++◌, None, map, length, max, take, drop, slice_get, slice_set, IfOk, OnOk, OnErr};
+ghost use Rattle.std.specs.Prelude.{◌≡◌, ◌<◌, ◌≤◌, ◌+◌, ◌∷◌, [], ◌++◌, map, length, max, take, drop, slice_get, slice_set, IfOk, OnOk, OnErr};
 ghost use Rattle.std.specs.Str.{chars};
-ghost use Rattle.std.specs.Option.{IsSome};
 ghost use Rattle.std.specs.String.{string_bytes};
 ghost use Rattle.tcl_list.specs.Texts.{text_of};
 ghost use Rattle.tcl_list.specs.Written.{written};
@@ -10,29 +9,36 @@ ghost use Rattle.tcl_values.specs.Kept.{texts, depth_over, rotated};
 ghost use Rattle.tcl_values.specs.Shape.{elements, items_text, shared_text, AreKept, AreSame};
 
 use crate::element::{Element, Items};
+use crate::element_text::ElementText;
 use std::alloc::{AllocError, Global};
 use std::mem::replace;
 use std::rc::{Rc, RcStr};
 use tcl_list::append_element;
 
-/// The elements written as a list, by a text that can grow.
-pub(crate) fn write_text(alloc: Global, items: &[Element]) -> Result<String, AllocError>
-    ensures { IfOk result (λ t. chars (string_bytes t) ≡ written (texts items.now)) }
+/// The elements of a list, written as a list.
+#[cycle(writing)]
+fn write_text(alloc: Global, row: &Items) -> Result<String, AllocError>
+    ensures { IfOk result (λ t. chars (string_bytes t) ≡ written (texts (elements row.now))) }
 {
     let mut text = String::new(alloc);
     let mut first = true;
-    for item in items {
-        append_element(&mut text, item.text(), first)?;
+    for item in &row.items {
+        let shown = item.text(alloc)?;
+        append_element(&mut text, shown.as_str(), first)?;
         first = false;
     }
     Ok(text)
 }
 
-/// The elements written as a list.
-fn write_items(alloc: Global, items: &[Element]) -> Result<RcStr, AllocError>
-    ensures { IfOk result (λ t. text_of t ≡ written (texts items.now)) }
+/// The text of a list: lent where it stands beside it, else written.
+#[cycle(writing)]
+pub(crate) fn row_shown(row: &Items, alloc: Global) -> Result<ElementText<'_>, AllocError>
+    ensures { IfOk result (λ t. t ≡ items_text row.now) }
 {
-    RcStr::from_string(write_text(alloc, items)?)
+    match &row.text {
+        Some(text) => Ok(ElementText::lent(text.as_str())),
+        None => Ok(ElementText::written(write_text(alloc, row)?)),
+    }
 }
 
 /// The text of a list.
@@ -41,7 +47,7 @@ pub(crate) fn row_text(row: &Items, alloc: Global) -> Result<RcStr, AllocError>
 {
     match &row.text {
         Some(text) => text.clone(),
-        None => write_items(alloc, &row.items),
+        None => RcStr::from_string(write_text(alloc, row)?),
     }
 }
 
@@ -55,7 +61,7 @@ pub(crate) fn show(row: &mut Rc<Items>, alloc: Global) -> Result<RcStr, AllocErr
     if let Some(text) = &row.text {
         return text.clone();
     }
-    let text = write_items(alloc, &row.items)?;
+    let text = RcStr::from_string(write_text(alloc, row)?)?;
     let copy = text.clone()?;
     if let Some(own) = Rc::get_mut(row) {
         own.text = Some(copy);
@@ -138,23 +144,6 @@ pub(crate) fn push_element(row: &mut Rc<Items>, element: Element) -> Result<(), 
 {
     let own = Rc::make_mut(row)?;
     add(own, element)
-}
-
-/// Writes the text of a list beside it, where it isn't there yet. A list that has other owners is copied first.
-pub(crate) fn settle(row: &mut Rc<Items>, alloc: Global) -> Result<(), AllocError>
-    requires { AreKept row.old.value }
-    ensures there { OnOk result (IsSome row.new.value.text) }
-    ensures same { items_text row.new.value ≡ items_text row.old.value }
-    ensures depth { row.new.value.depth ≡ row.old.value.depth }
-    ensures kept { AreKept row.new.value }
-{
-    if row.text.is_some() {
-        return Ok(());
-    }
-    let text = write_items(alloc, &row.items)?;
-    let own = Rc::make_mut(row)?;
-    own.text = Some(text);
-    Ok(())
 }
 
 /// How deep a list is, one of whose elements has been replaced: it was `whole` deep, one with the element before as its only
@@ -349,6 +338,7 @@ pub(crate) fn splice(
         ≡ take first (elements row.old.value) ++ inserted.items ++ drop (first + count) (elements row.old.value)) }
     ensures text { OnOk result (items_text row.new.value ≡ written (texts (elements row.new.value))) }
     ensures same { OnErr result (items_text row.new.value ≡ items_text row.old.value) }
+    ensures same_depth { OnErr result (row.new.value.depth ≡ row.old.value.depth) }
     ensures kept { AreKept row.new.value }
 {
     let own = Rc::make_mut(row)?;
@@ -381,6 +371,7 @@ fn splice_own(
         ≡ take first (elements own.old) ++ inserted.items ++ drop (first + count) (elements own.old)) }
     ensures text { OnOk result (items_text own.new ≡ written (texts (elements own.new))) }
     ensures same { OnErr result (items_text own.new ≡ items_text own.old) }
+    ensures same_depth { OnErr result (own.new.depth ≡ own.old.depth) }
     ensures kept { AreKept own.new }
 {
     let new = deepest(&inserted);

@@ -8,11 +8,8 @@ ghost use Rattle.tcl_values.specs.Kept.{texts, depth_over};
 ghost use Rattle.tcl_values.specs.Lists.{count_of, item_of, part_of, pushed, spliced, with_item, Leaves};
 ghost use Rattle.tcl_values.specs.Shape.{elements, elements_held, held_text, is_row, items_text, AreKept, IsHeld};
 
-use crate::digits::number_element;
 use crate::element::{Element, Entry, Items};
-use crate::items::{
-    gathered, part, push_element, row_text, set_element, settle, splice, take_element,
-};
+use crate::items::{gathered, part, push_element, row_text, set_element, splice, take_element};
 use crate::pairs::dict_element;
 use crate::row::Row;
 use crate::single::{is_word, number_row};
@@ -50,6 +47,7 @@ fn words(alloc: Global, text: &RcStr) -> Result<Vec<RcStr>, Fault>
 pub(crate) fn read_text(alloc: Global, text: RcStr) -> Result<Rc<Items>, Fault>
     ensures read { Answers (λ r. texts (elements r.value)) result (elements_of (text_of text)) }
     ensures same { IfOk result (λ r. items_text r.value ≡ text_of text) }
+    ensures flat { IfOk result (λ r. r.value.depth ≡ 1) }
     ensures kept { IfOk result (λ r. AreKept r.value) }
 {
     let words = words(alloc, &text)?;
@@ -108,14 +106,13 @@ pub(crate) fn read_row(held: &mut Held, alloc: Global) -> Result<(), Fault>
     Ok(())
 }
 
-/// A list as an element, with its text; one that is too deep is its text alone.
-fn row_element(mut row: Rc<Items>, alloc: Global) -> Result<Element, AllocError>
+/// A list as an element; one that is too deep is its text alone.
+fn row_element(row: Rc<Items>, alloc: Global) -> Result<Element, AllocError>
     requires { AreKept row.value }
     ensures text { IfOk result (λ e. e.text ≡ items_text row.value) }
     ensures depth { IfOk result (λ e. e.depth < 64) }
 {
     if row.depth < 64 {
-        settle(&mut row, alloc)?;
         return Ok(Element {
             entry: Entry::Row(row),
         });
@@ -149,13 +146,13 @@ fn copy_values(alloc: Global, elements: &[Element]) -> Result<Vec<Value>, AllocE
 }
 
 impl Value {
-    /// The value as an element: its text is written, and a list or a dictionary that is too deep is dropped.
+    /// The value as an element. Of a list or a dictionary that is too deep the text is written, and nothing else is kept.
     pub(crate) fn into_element(self, alloc: Global) -> Result<Element, AllocError>
         ensures text { IfOk result (λ e. e.text ≡ self) }
         ensures depth { IfOk result (λ e. e.depth < 64) }
     {
         match self.held {
-            Held::Number(n) => number_element(alloc, n),
+            Held::Number(n) => Ok(Element::of_number(n)),
             Held::Row(row) => row_element(row, alloc),
             Held::Dict(pairs) => dict_element(pairs, alloc),
             Held::Text(text) => Ok(Element {

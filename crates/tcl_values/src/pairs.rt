@@ -1,10 +1,10 @@
 //! The pairs of a dictionary that is kept, behind a shared pointer: read, written, changed.
 
-ghost use Rattle.std.specs.Prelude.{◌≡◌, ◌<◌, ◌≤◌, ◌∷◌, [], ◌++◌, None, false, length, option_map, remove, slice_set, IfOk, OnOk, OnErr};
+ghost use Rattle.std.specs.Prelude.{◌≡◌, ◌<◌, ◌≤◌, ◌∷◌, [], ◌++◌, None, Some, false, length, option_map, remove, slice_set, IfOk, OnOk, OnErr};
 ghost use Rattle.std.specs.List.{list_any};
-ghost use Rattle.std.specs.Option.{IsSome};
 ghost use Rattle.std.specs.Rc.{rc_str_bytes};
 ghost use Rattle.std.specs.Str.{bytes_eq, chars};
+ghost use Rattle.std.specs.String.{string_bytes};
 ghost use Rattle.tcl_chars.specs.Answers.{Answers};
 ghost use Rattle.tcl_chars.specs.Texts.{text_of};
 ghost use Rattle.tcl_pages.specs.Dictionaries.{put_key};
@@ -14,6 +14,7 @@ ghost use Rattle.tcl_values.specs.Paired.{missing_value, read_pairs};
 ghost use Rattle.tcl_values.specs.Shape.{elements, items_text, pairs_in, pairs_text, AreKept, ArePaired};
 
 use crate::element::{Element, Entry, Items, Pairs};
+use crate::element_text::ElementText;
 use crate::items::{copy_elements, copy_text, row_text};
 use indexmap::IndexSet;
 use std::alloc::{AllocError, Global};
@@ -38,18 +39,32 @@ impl Clone for Pairs {
 }
 
 /// The keys and values in turn, written as a list.
-fn write_pairs(alloc: Global, pairs: &Pairs) -> Result<RcStr, AllocError>
+#[cycle(writing)]
+fn write_pairs(alloc: Global, pairs: &Pairs) -> Result<String, AllocError>
     requires { length pairs.now.keys.keys ≡ length pairs.now.values.items }
-    ensures { IfOk result (λ t. text_of t ≡ dictionary (pairs_in pairs.now)) }
+    ensures { IfOk result (λ t. chars (string_bytes t) ≡ dictionary (pairs_in pairs.now)) }
 {
     let keys = pairs.keys.as_slice();
     let values = pairs.values.as_slice();
     let mut text = String::new(alloc);
     for place in 0..keys.len() {
         append_element(&mut text, keys[place].as_str(), place == 0)?;
-        append_element(&mut text, values[place].text(), false)?;
+        let shown = values[place].text(alloc)?;
+        append_element(&mut text, shown.as_str(), false)?;
     }
-    RcStr::from_string(text)
+    Ok(text)
+}
+
+/// The text of a dictionary: lent where it stands beside it, else written.
+#[cycle(writing)]
+pub(crate) fn pairs_shown(pairs: &Pairs, alloc: Global) -> Result<ElementText<'_>, AllocError>
+    requires { ArePaired pairs.now }
+    ensures { IfOk result (λ t. t ≡ pairs_text pairs.now) }
+{
+    match &pairs.text {
+        Some(text) => Ok(ElementText::lent(text.as_str())),
+        None => Ok(ElementText::written(write_pairs(alloc, pairs)?)),
+    }
 }
 
 /// The text of a dictionary.
@@ -59,7 +74,7 @@ pub(crate) fn dict_text(pairs: &Pairs, alloc: Global) -> Result<RcStr, AllocErro
 {
     match &pairs.text {
         Some(text) => text.clone(),
-        None => write_pairs(alloc, pairs),
+        None => RcStr::from_string(write_pairs(alloc, pairs)?),
     }
 }
 
@@ -73,7 +88,7 @@ pub(crate) fn show_pairs(pairs: &mut Rc<Pairs>, alloc: Global) -> Result<RcStr, 
     if let Some(text) = &pairs.text {
         return text.clone();
     }
-    let text = write_pairs(alloc, pairs)?;
+    let text = RcStr::from_string(write_pairs(alloc, pairs)?)?;
     let copy = text.clone()?;
     if let Some(own) = Rc::get_mut(pairs) {
         own.text = Some(copy);
@@ -81,31 +96,13 @@ pub(crate) fn show_pairs(pairs: &mut Rc<Pairs>, alloc: Global) -> Result<RcStr, 
     Ok(text)
 }
 
-/// Writes the text of a dictionary beside it, where it isn't there yet. A dictionary that has other owners is copied first.
-fn settle_pairs(pairs: &mut Rc<Pairs>, alloc: Global) -> Result<(), AllocError>
-    requires { ArePaired pairs.old.value }
-    ensures there { OnOk result (IsSome pairs.new.value.text) }
-    ensures same { pairs_text pairs.new.value ≡ pairs_text pairs.old.value }
-    ensures depth { pairs.new.value.depth ≡ pairs.old.value.depth }
-    ensures kept { ArePaired pairs.new.value }
-{
-    if pairs.text.is_some() {
-        return Ok(());
-    }
-    let text = write_pairs(alloc, pairs)?;
-    let own = Rc::make_mut(pairs)?;
-    own.text = Some(text);
-    Ok(())
-}
-
-/// A dictionary as an element, with its text; one that is too deep is its text alone.
-pub(crate) fn dict_element(mut pairs: Rc<Pairs>, alloc: Global) -> Result<Element, AllocError>
+/// A dictionary as an element; one that is too deep is its text alone.
+pub(crate) fn dict_element(pairs: Rc<Pairs>, alloc: Global) -> Result<Element, AllocError>
     requires { ArePaired pairs.value }
     ensures text { IfOk result (λ e. e.text ≡ pairs_text pairs.value) }
     ensures depth { IfOk result (λ e. e.depth < 64) }
 {
     if pairs.depth < 64 {
-        settle_pairs(&mut pairs, alloc)?;
         return Ok(Element {
             entry: Entry::Dict(pairs),
         });
@@ -236,6 +233,7 @@ fn missing_value(alloc: Global) -> Result<RcStr, AllocError>
 fn build_pairs(alloc: Global, elements: &[Element]) -> Result<Pairs, Fault>
     requires { depth_over elements.now ≤ 64 }
     ensures pairs { Answers (λ p. pairs_in p) result (read_pairs [] (texts elements.now)) }
+    ensures text { IfOk result (λ p. p.text ≡ None) }
     ensures kept { IfOk result (λ p. ArePaired p) }
 {
     let mut pairs = no_pairs(alloc);
@@ -250,17 +248,32 @@ fn build_pairs(alloc: Global, elements: &[Element]) -> Result<Pairs, Fault>
     Ok(pairs)
 }
 
-/// The dictionary that a list is read as, with the list's text.
+/// The pairs, beside this text.
+fn with_text(pairs: Pairs, text: RcStr) -> Pairs
+    ensures { result ≡ record { text = Some text; depth = pairs.depth; keys = pairs.keys; values = pairs.values } }
+{
+    Pairs {
+        text: Some(text),
+        depth: pairs.depth,
+        keys: pairs.keys,
+        values: pairs.values,
+    }
+}
+
+/// The dictionary that a list is read as, with the list's text. Where the list has none and no key comes again, the dictionary is
+/// written as the list is, and its text stays unwritten too.
 pub(crate) fn paired(alloc: Global, row: &Items) -> Result<Rc<Pairs>, Fault>
     requires { AreKept row.now }
     ensures pairs { Answers (λ p. pairs_in p.value) result (read_pairs [] (texts (elements row.now))) }
     ensures same { IfOk result (λ p. pairs_text p.value ≡ items_text row.now) }
     ensures kept { IfOk result (λ p. ArePaired p.value) }
 {
+    let pairs = build_pairs(alloc, &row.items)?;
+    if row.text.is_none() && row.items.len() / 2 == pairs.keys.len() {
+        return Ok(Rc::new(alloc, pairs)?);
+    }
     let text = row_text(row, alloc)?;
-    let mut pairs = build_pairs(alloc, &row.items)?;
-    pairs.text = Some(text);
-    Ok(Rc::new(alloc, pairs)?)
+    Ok(Rc::new(alloc, with_text(pairs, text))?)
 }
 
 /// Takes the key at a place out, with its value.

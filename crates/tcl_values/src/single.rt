@@ -8,8 +8,7 @@ ghost use Rattle.tcl_list.specs.Elements.{elements_of};
 ghost use Rattle.tcl_values.specs.Shape.{held_text, items_text, AreKept, IsHeld};
 ghost use Rattle.tcl_values.specs.Singles.{is_plain};
 
-use crate::digits::number_element;
-use crate::element::Items;
+use crate::element::{Element, Items};
 use crate::items::gathered;
 use crate::value::Held;
 use std::alloc::{AllocError, Global};
@@ -45,7 +44,7 @@ pub(crate) fn number_row(alloc: Global, n: i64) -> Result<Rc<Items>, AllocError>
     ensures text { IfOk result (λ r. items_text r.value ≡ signed_decimal n) }
     ensures kept { IfOk result (λ r. AreKept r.value) }
 {
-    let elements = vec![in alloc; number_element(alloc, n)?]?;
+    let elements = vec![in alloc; Element::of_number(n)]?;
     gathered(alloc, elements)
 }
 

@@ -232,14 +232,14 @@ script::emit_changed-returns t c =
     let at = map_at shape_of c.args.words.now 2 c.index-words-2.result c.index-words-2.is in
     on_ok_weaker c.emit_change.result (λ h. grown_changed c.args.context.dialect c.args.change (chars c.args.name.now) ws (shape_of c.index-words-2.result) _ _ _ is at (change_long c.args.change (chars c.args.name.now) ws is) c.in_ok-emit_word.ensures h) c.emit_change.ensures
 
-pub script::emit_inlined-emit_plain-requires : goal.script::emit_inlined-emit_plain-requires
-script::emit_inlined-emit_plain-requires t c = (search rules, (form_plain c.args.form.now (map shape_of c.args.words.now) c.requires.1.1.0, (c.requires.1.1.1.0, (c.requires.1.1.1.1.0, c.requires.1.1.1.1.1.0))))
+pub script::emit_inlined-emit_beside-requires : goal.script::emit_inlined-emit_beside-requires
+script::emit_inlined-emit_beside-requires t c = (search rules, (form_plain c.args.form.now (map shape_of c.args.words.now) c.requires.1.1.0, (c.requires.1.1.1.0, (c.requires.1.1.1.1.0, c.requires.1.1.1.1.1.0))))
 
 pub script::emit_inlined-returns : goal.script::emit_inlined-returns
 script::emit_inlined-returns t c =
     on_ok_weaker c.lead_here-2.result
     (λ h. grown_guarded c.args.context.dialect _ _ _ _ _ _ _ c.args.form.now (map shape_of c.args.words.now) c.requires.1.1.0 (rw c.command_of.ensures at c.in_ok-emit.ensures.done) c.in_ok-emit_page.ensures c.in_ok-emit-2.ensures.done
-    (λ front back i e p. c.in_ok-lead_here.ensures front back i e (c.len-guard.ensures ∙ p)) c.in_ok-emit_plain.ensures (λ front back i e p. h front back i e (c.len-past.ensures ∙ p))) c.lead_here-2.ensures
+    (λ front back i e p. c.in_ok-lead_here.ensures front back i e (c.len-guard.ensures ∙ p)) c.in_ok-emit_beside.ensures (λ front back i e p. h front back i e (c.len-past.ensures ∙ p))) c.lead_here-2.ensures
 
 pub tree::emit_eager-returns : goal.tree::emit_eager-returns
 tree::emit_eager-returns t c = on_ok_weaker c.emit.result (λ h. grown_eager c.args.context.dialect _ _ _ c.args.op (view c.args.right.now) c.requires.1.1.1.1 c.in_ok-emit_tree.ensures h) c.emit.ensures.done

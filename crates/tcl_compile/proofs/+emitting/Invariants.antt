@@ -36,6 +36,9 @@ decreases-script::emit_word l = reach (length (chars l.whole.now)) + (2 * most_l
 abbrev pub decreases-script::emit_plain : goal.decreases-script::emit_plain
 decreases-script::emit_plain l = reach (length (chars l.whole.now)) + 404
 
+abbrev pub decreases-script::emit_beside : goal.decreases-script::emit_beside
+decreases-script::emit_beside l = reach (length (chars l.whole.now)) + 405
+
 abbrev pub decreases-script::emit_changed : goal.decreases-script::emit_changed
 decreases-script::emit_changed l = reach (length (chars l.whole.now)) + 404
 

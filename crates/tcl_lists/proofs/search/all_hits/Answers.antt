@@ -7,7 +7,7 @@ use Rattle.tcl_lists.proofs.search.all_hits.Goals as goal
 
 pub loop-place-preserved : goal.loop-place-preserved
 loop-place-preserved c =
-    let fits = sym (c.is_wanted.ensures ∙ ap (is_wanted c.args.options (chars c.args.pattern.now)) c.text.ensures) in
+    let fits = sym (c.is_wanted.ensures ∙ ap (is_wanted c.args.options (chars c.args.pattern.now)) (c.as_str.ensures ∙ c.in_ok-text.ensures)) in
     elim c.if-is_wanted.branch [
       | then-is_wanted+in_ok-hit+in_ok-push w ↦
           hit_more c.args.options (chars c.args.pattern.now) c.args.elements.now c.loop-place.place c.index-elements-place.result c.loop-place.hits.items _ c.if-is_wanted.hits.items _ (ap (λ v. v.items) w.hits-is ∙ w.in_ok-push.ensures.items)

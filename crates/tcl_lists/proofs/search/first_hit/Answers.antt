@@ -6,14 +6,14 @@ use Rattle.tcl_lists.proofs.search.first_hit.Goals as goal
 
 pub returns-then-is_wanted : goal.returns-then-is_wanted
 returns-then-is_wanted c =
-    let fits = sym (c.if-is_wanted.ensures ∙ ap (is_wanted c.args.options (chars c.args.pattern.now)) c.text.ensures) in
+    let fits = sym (c.if-is_wanted.ensures ∙ ap (is_wanted c.args.options (chars c.args.pattern.now)) (c.as_str.ensures ∙ c.in_ok-text.ensures)) in
     subst (λ u. IfOk c.hit.result (λ v. v ≡ u))
     (first_is c.args.options (chars c.args.pattern.now) c.args.elements.now c.loop-place.place c.index-elements-place.result _ c.args.options.inline c.loop-place-test.true c.index-elements-place.is fits c.loop-place.invariant)
     c.hit.ensures
 
 pub loop-place-preserved : goal.loop-place-preserved
 loop-place-preserved c =
-    let fits = sym (c.if-is_wanted.ensures ∙ ap (is_wanted c.args.options (chars c.args.pattern.now)) c.text.ensures) in
+    let fits = sym (c.if-is_wanted.ensures ∙ ap (is_wanted c.args.options (chars c.args.pattern.now)) (c.as_str.ensures ∙ c.in_ok-text.ensures)) in
     first_later c.args.options (chars c.args.pattern.now) c.args.elements.now c.loop-place.place c.index-elements-place.result _ c.args.options.inline c.loop-place-test.true c.index-elements-place.is fits c.loop-place.invariant
 
 pub returns-else-options : goal.returns-else-options

@@ -16,8 +16,8 @@ returns-in_default-from_utf8 g c =
     let says = c.say-in_default-from_utf8.ensures in
     bad_file c.args.config.dialect c.args.budget c.args.words.now c.args.file _ _ _ c.in-Some.bytes c.requires c.in-Some.is c.in_default-from_utf8.ensures.cases.0 (ap (told g.R.Input.to_come g.R.Input.failed_calls) says.input) (ap (told g.W.Output.written g.W.Output.failed_calls) says.out) says.said
 
-pub returns-in_default-joined_lines : goal.returns-in_default-joined_lines
-returns-in_default-joined_lines g c =
+pub returns-in_default-script_of : goal.returns-in_default-script_of
+returns-in_default-script_of g c =
     let tells = c.tell.ensures in
     refused_file c.args.config.dialect c.args.budget c.args.words.now c.args.file _ _ c.in-Some.bytes _ c.in-Some.is c.in-Ok.ensures.cases.1 (ap (told g.R.Input.to_come g.R.Input.failed_calls) tells.input) (ap (told g.W.Output.written g.W.Output.failed_calls) tells.out) tells.status tells.says
 
@@ -26,6 +26,6 @@ returns g c =
     let tells = c.tell-2.ensures in
     let text = c.in-Ok.ensures.cases in
     let new = c.run_sliced-outcome.new in
-    let script = ap chars c.as_str.ensures.value ∙ c.in-Ok-joined_lines.ensures ∙ ap (λ t. joined_newlines (chars t)) text.0 in
+    let script = c.as_str.ensures ∙ c.in-Ok-script_of.ensures ∙ ap (λ t. joined_newlines (chars t)) text.0 in
     read_file c.args.config.dialect c.args.budget c.args.words.now c.args.file _ _ c.in-Some.bytes _ _ c.run_sliced-outcome.result (devices g.R.Input.to_come g.R.Input.failed_calls g.W.Output.written g.W.Output.failed_calls g.E.Output.written g.E.Output.failed_calls new.reader new.out new.err) c.in-Some.is text.1 script
     (ap (told g.R.Input.to_come g.R.Input.failed_calls) tells.input) (ap (told g.W.Output.written g.W.Output.failed_calls) tells.out) c.run_sliced-outcome.ensures.report c.run_sliced-outcome.ensures.failures tells.status tells.says

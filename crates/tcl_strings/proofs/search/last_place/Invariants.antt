@@ -1,17 +1,18 @@
-use Rattle.std.proofs.Common.{◌≡◌, ◌+◌, length, None}
+use Rattle.std.proofs.Common.{◌≡◌, length, None}
+use Rattle.std.specs.Prelude.{reverse}
 use denote.Text.{Utf8}
 use denote.Shadow.{shadow}
 use Rattle.std.specs.Str.{chars}
-use Rattle.tcl_pages.specs.Strings.{last_until, places_of}
+use Rattle.tcl_pages.specs.Strings.{last_until, found_at}
+use Rattle.tcl_strings.proofs.Backwards.{sought_back}
 use Rattle.tcl_strings.proofs.search.last_place.Given as goal
 
-abbrev pub invariant-loop-after : goal.invariant-loop-after
-invariant-loop-after l = record {
+abbrev pub invariant-loop-front : goal.invariant-loop-front
+invariant-loop-front l = record {
   text : shadow (Utf8 l.rest);
-  place : l.place + length (chars l.rest) ≡ l.text_size;
-  same : last_until (length (chars l.needle)) l.end l.found (places_of (chars l.needle) l.place (chars l.rest))
-      ≡ last_until (length (chars l.needle)) l.end None (places_of (chars l.needle) 0 l.places);
+  place : l.place ≡ length (chars l.rest);
+  same : sought_back (chars l.needle) (reverse (chars l.rest)) ≡ last_until (length (chars l.needle)) l.end None (found_at (chars l.needle) l.places);
 }
 
-abbrev pub decreases-loop-after : goal.decreases-loop-after
-decreases-loop-after l = length (chars l.rest)
+abbrev pub decreases-loop-front : goal.decreases-loop-front
+decreases-loop-front l = length l.rest

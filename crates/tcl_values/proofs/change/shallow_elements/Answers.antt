@@ -1,6 +1,6 @@
 use Rattle.std.proofs.Common.{arith}
 use Rattle.std.proofs.lemmas.Grind.{common_steps}
-use Rattle.tcl_values.proofs.Lengthened.{depth_low}
+use Rattle.tcl_values.proofs.Changed.{depth_low}
 use Rattle.tcl_values.proofs.change.shallow_elements.Goals as goal
 
 pub loop-value-preserved : goal.loop-value-preserved

@@ -1,4 +1,4 @@
-use Rattle.std.proofs.Common.{◌≡◌, ◌≤◌, [], length}
+use Rattle.std.proofs.Common.{◌≡◌, ◌≤◌, [], length, None}
 use Rattle.tcl_values.specs.Kept.{texts, depth_over}
 use Rattle.tcl_values.specs.Paired.{read_pairs}
 use Rattle.tcl_values.specs.Shape.{pairs_in, ArePaired}
@@ -8,6 +8,7 @@ abbrev pub invariant-loop-key : goal.invariant-loop-key
 invariant-loop-key l = record {
   same : read_pairs (pairs_in l.pairs) (texts l.rest) ≡ read_pairs [] (texts l.elements);
   depth : depth_over l.rest ≤ 64;
+  text : l.pairs.text ≡ None;
   kept : ArePaired l.pairs;
 }
 

@@ -6,5 +6,5 @@ use Rattle.tcl_activation.proofs.results.Results.replace.Goals as goal
 pub returns : goal.returns
 returns c =
     let items = c.self.inside.items in
-    newest_lent c.args.self.now items.items items.len c.len-newest.result items.ok.0 c.len-newest.ensures c.self.view_is c.requires c.replace.new.dest
-    ∙ ap (λ x. x ∷ drop 1 c.args.self.now) c.replace.ensures.after
+    newest_lent c.args.self.now items.items items.len c.len-newest.result items.ok.0 c.len-newest.ensures c.self.view_is c.requires c.change.new.self
+    ∙ ap (λ x. x ∷ drop 1 c.args.self.now) c.change.ensures

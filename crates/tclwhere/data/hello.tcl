@@ -1,0 +1,2 @@
+set x world
+puts "hello, $x"
