@@ -1,5 +1,6 @@
 -- A value under a key, changed and put back.
-use Rattle.std.proofs.Common.{◌≡◌, Bool, true, false, ◌==◌, ℕ, zero, suc, ◌+◌, ◌-◌, ◌<◌, ◌≤◌, List, [], ◌∷◌, ◌++◌, length, drop, take, Ok, Err, refl, sym, ap, ◌∙◌, arith}
+use Rattle.std.proofs.Common.{◌≡◌, Bool, true, false, ◌==◌, ℕ, zero, suc, ◌+◌, ◌-◌, ◌<◌, ◌≤◌, List, [], ◌∷◌, ◌++◌, length, map, drop, take, Ok, Err, refl, sym, ap, ◌∙◌, arith}
+use Rattle.std.proofs.lemmas.List.{length-map, length-take}
 use Rattle.std.specs.declared.rc.RcStr.{RcStr}
 use Rattle.std.specs.declared.alloc.Global.{Global}
 use Rattle.tcl_arguments.specs.WordAt.{word}
@@ -119,11 +120,9 @@ first_word ws zero l m = absurd (omega (arith, l))
 first_word [] (suc n) l m = absurd (omega (arith, m))
 first_word (w ∷ ws) (suc n) l m = refl
 
-pub set_by_words : (t : Text) (ws : List Text) (n : ℕ) → 1 ≤ n → n + 1 ≡ length ws → dict_set_words t ws ≡ dict_set t (word ws n) (word ws 0 ∷ drop 1 (take n ws))
-set_by_words t [] n l e = absurd (omega (arith, e))
-set_by_words t (w ∷ ws) n l e =
-    let behind : length (w ∷ ws) - 1 ≡ n = omega (arith, e) in
-    ap (λ k. dict_set t (word (w ∷ ws) k) (take k (w ∷ ws))) behind ∙ ap (dict_set t (word (w ∷ ws) n)) (first_word (w ∷ ws) n l (omega (arith, e)))
+-- the keys before the last word
+pub as_many : (keys : List (RcStr Global)) (ws : List Text) (n : ℕ) → map text_of keys ≡ drop 0 (take n ws) → n ≤ 64 → length keys ≤ 64
+as_many keys ws n e l = omega (arith, sym (length-map keys text_of), ap length e, length-take n ws, l)
 
 pub unset_by_words : (t : Text) (ws : List Text) (n : ℕ) → 1 ≤ n → n + 1 ≡ length ws → dict_unset t ws ≡ dict_unset t (word ws 0 ∷ (drop 1 (take n ws) ++ word ws n ∷ []))
 unset_by_words t ws n l e =
@@ -152,12 +151,6 @@ pub lappend_is : (t key : Text) (ws us : List Text) → 1 ≤ length ws → key 
 lappend_is t key ws us l e s =
     by_first t ws (dict_lappend t) l ∙ under_is t (word ws 0) [] (λ old. lappend old (drop 1 ws))
     ∙ (λ n. changed t (sym e n) [] (λ old. lappend old (drop 1 (sym s n))))
-
-pub set_is : (t v key : Text) (ws us keys : List Text) (n : ℕ) → 2 ≤ length ws → n + 1 ≡ length ws → us ≡ ws → v ≡ word ws n → key ≡ word ws 0 → keys ≡ drop 1 (take n us)
-    → dict_set_words t ws ≡ changed t key [] (λ old. dict_set old v keys)
-set_is t v key ws us keys n l e s ev ek es =
-    set_by_words t ws n (omega (arith, l, e)) e ∙ under_is t (word ws 0) [] (λ old. dict_set old (word ws n) (drop 1 (take n ws)))
-    ∙ (λ i. changed t (sym ek i) [] (λ old. dict_set old (sym ev i) (sym (es ∙ ap (λ ts. drop 1 (take n ts)) s) i)))
 
 known_two : (t key last : Text) (keys : List Text) → dict_unset t (key ∷ (keys ++ last ∷ [])) ≡ changed_known t key (λ old. dict_unset old (keys ++ last ∷ []))
 known_two t key last [] = known_is (pairs_of t) key (λ old. dict_unset old (last ∷ []))

@@ -6,7 +6,7 @@ ghost use Rattle.std.specs.Prelude.{◌≡◌, ◌≤◌, ◌∷◌, [], ◌++�
 ghost use Rattle.std.specs.Str.{chars};
 ghost use Rattle.tcl_chars.specs.Answers.{Answers};
 ghost use Rattle.tcl_chars.specs.Texts.{text_of};
-ghost use Rattle.tcl_dicts.specs.Levels.{changed, changed_known, level_text, rebuilt};
+ghost use Rattle.tcl_dicts.specs.Levels.{changed_known, level_text, rebuilt};
 ghost use Rattle.tcl_pages.specs.DictPages as spec;
 ghost use Rattle.tcl_pages.specs.Updates.{dict_set_words};
 ghost use Rattle.tcl_values.specs.Lists.{Leaves};
@@ -37,17 +37,6 @@ fn keys_between(
         keys.push(text_at(alloc, words, place)?)?;
     }
     Ok(keys)
-}
-
-/// The value of a key of a dictionary, taken out where nobody else holds the dictionary, or the empty text where the key isn't there.
-fn taken_or_empty(alloc: Global, value: &mut Value, key: &str) -> Result<Value, Fault>
-    ensures value { Answers (λ v. v) result (spec.value_or [] value.old (chars key.now)) }
-    ensures same { value.new ≡ value.old }
-{
-    match value.dict_take(alloc, key)? {
-        Some(inner) => Ok(inner),
-        None => value_or_empty(alloc, value, key),
-    }
 }
 
 /// The value of a key of a dictionary, which has it, taken out where nobody else holds the dictionary.
@@ -82,7 +71,7 @@ fn with_value(alloc: Global, start: Value, keys: Vec<RcStr>, value: Value) -> Re
     let mut levels = Vec::with_capacity(alloc, keys.len())?;
     let mut level = start;
     for key in keys {
-        let inner = taken_or_empty(alloc, &mut level, key.as_str())?;
+        let inner = value_or_empty(alloc, &mut level, key.as_str())?;
         levels.push((level, key))?;
         level = inner;
     }
@@ -90,20 +79,14 @@ fn with_value(alloc: Global, start: Value, keys: Vec<RcStr>, value: Value) -> Re
     put_back(alloc, levels, value)
 }
 
-/// Puts a value under the last of some keys.
-fn set_under(
-    alloc: Global,
-    value: &mut Value,
-    key: RcStr,
-    keys: Vec<RcStr>,
-    new: Value,
-) -> Result<(), Fault>
-    ensures done { Leaves value.new (changed value.old (text_of key) [] (λ old. spec.dict_set old new (map text_of keys.items))) result }
+/// Puts a value under the last of some keys, of which there are many.
+fn set_under(alloc: Global, value: &mut Value, keys: Vec<RcStr>, new: Value) -> Result<(), Fault>
+    ensures done { Leaves value.new (spec.dict_set value.old new (map text_of keys.items)) result }
     ensures same { OnErr result (value.new ≡ value.old) }
 {
-    let inner = taken_or_empty(alloc, value, key.as_str())?;
-    let inner = with_value(alloc, inner, keys, new)?;
-    value.dict_put(alloc, key, inner)
+    let start = value.copy()?;
+    *value = with_value(alloc, start, keys, new)?;
+    Ok(())
 }
 
 /// `dict set dictVarName key ?key ...? value`: the last word is the value under the last of the keys. Levels that are missing are made.
@@ -119,9 +102,11 @@ pub fn dict_set(alloc: Global, value: &mut Value, words: &mut [Value]) -> Result
 {
     let last = words.len() - 1;
     let new = word_at(words, last)?;
-    let key = text_at(alloc, words, 0)?;
-    let keys = keys_between(alloc, words, 1, last)?;
-    set_under(alloc, value, key, keys, new)
+    let keys = keys_between(alloc, words, 0, last)?;
+    if last > 64 {
+        return set_under(alloc, value, keys, new);
+    }
+    value.dict_put_under(alloc, keys, new)
 }
 
 /// The dictionary without the last of some keys, of which it has those before.
@@ -157,12 +142,8 @@ fn unset_under(
     value.dict_put(alloc, key, less)
 }
 
-/// `dict unset dictVarName key ?key ...?`: the last of the keys is taken out; it may be missing, one before it may not.
-///
-/// # Errors
-///
-/// `Fault::Error` with a dictionary's fault or the first key that is missing, `Fault::Memory`; the value is then as it was.
-pub fn dict_unset(alloc: Global, value: &mut Value, words: &mut [Value]) -> Result<(), Fault>
+/// Takes the last of some keys that are words out, of which there are many.
+fn unset_by_words(alloc: Global, value: &mut Value, words: &mut [Value]) -> Result<(), Fault>
     requires { 1 ≤ length words.old }
     ensures done { Leaves value.new (spec.dict_unset value.old words.old) result }
     ensures same { OnErr result (value.new ≡ value.old) }
@@ -176,4 +157,23 @@ pub fn dict_unset(alloc: Global, value: &mut Value, words: &mut [Value]) -> Resu
     let first = text_at(alloc, words, 0)?;
     let keys = keys_between(alloc, words, 1, last)?;
     unset_under(alloc, value, first, keys, key)
+}
+
+/// `dict unset dictVarName key ?key ...?`: the last of the keys is taken out; it may be missing, one before it may not.
+///
+/// # Errors
+///
+/// `Fault::Error` with a dictionary's fault or the first key that is missing, `Fault::Memory`; the value is then as it was.
+pub fn dict_unset(alloc: Global, value: &mut Value, words: &mut [Value]) -> Result<(), Fault>
+    requires { 1 ≤ length words.old }
+    ensures done { Leaves value.new (spec.dict_unset value.old words.old) result }
+    ensures same { OnErr result (value.new ≡ value.old) }
+    ensures words { words.new ≡ words.old }
+{
+    let count = words.len();
+    if count > 64 {
+        return unset_by_words(alloc, value, words);
+    }
+    let keys = keys_between(alloc, words, 0, count)?;
+    value.dict_remove_under(alloc, keys)
 }

@@ -35,10 +35,8 @@ fn dictionary(alloc: Global, texts: &[(&str, &str)]) -> Result<Value, AllocError
     Value::of_dict(alloc, pairs)
 }
 
-/// What a change under a key leaves of a text, and behind it the script's error, if there is one.
-fn changed(alloc: Global, start: &str, key: &str, change: Change) -> Result<String, Fault> {
-    let mut value = value(alloc, start)?;
-    let done = value.dict_change(alloc, shared(alloc, key)?, change);
+/// A value's text, and behind it the script's error, if there is one.
+fn left(alloc: Global, mut value: Value, done: Result<(), Fault>) -> Result<String, Fault> {
     let left = value.text(alloc)?;
     match done {
         Ok(()) => Ok(format!(in alloc; "{}", left.as_str())?),
@@ -47,6 +45,37 @@ fn changed(alloc: Global, start: &str, key: &str, change: Change) -> Result<Stri
         }
         Err(Fault::Memory) => Err(Fault::Memory),
     }
+}
+
+/// What a change under a key leaves of a text.
+fn changed(alloc: Global, start: &str, key: &str, change: Change) -> Result<String, Fault> {
+    let mut value = value(alloc, start)?;
+    let done = value.dict_change(alloc, shared(alloc, key)?, change);
+    left(alloc, value, done)
+}
+
+/// What a value under a key of the dictionary under another one leaves of a text.
+fn under(
+    alloc: Global,
+    start: &str,
+    (key, inner): (&str, &str),
+    new: &str,
+) -> Result<String, Fault> {
+    let mut dict = value(alloc, start)?;
+    let keys = vec![in alloc; shared(alloc, key)?, shared(alloc, inner)?]?;
+    let done = dict.dict_put_under(alloc, keys, value(alloc, new)?);
+    left(alloc, dict, done)
+}
+
+/// What is left of a text where the last of some keys is taken out.
+fn without(alloc: Global, start: &str, path: &[&str]) -> Result<String, Fault> {
+    let mut dict = value(alloc, start)?;
+    let mut keys = Vec::new(alloc);
+    for key in path {
+        keys.push(shared(alloc, key)?)?;
+    }
+    let done = dict.dict_remove_under(alloc, keys);
+    left(alloc, dict, done)
 }
 
 /// What elements at the end of the list under a key leave.
@@ -169,6 +198,78 @@ fn what_cannot_grow_stays(rt: HostRuntime) -> Result<(), Fail> {
         ),
     ] {
         assert_eq!(rt; found.as_str(), want);
+    }
+    Ok(())
+}
+
+#[test]
+fn values_are_put_under_a_path(rt: HostRuntime) -> Result<(), Fail> {
+    let alloc = rt.alloc();
+    for (start, path, want) in [
+        ("", ("a", "b"), "a {b {x y}}"),
+        ("a  {b  1 c 2}  d e", ("a", "b"), "a {b {x y} c 2} d e"),
+        ("a  {b  1 c 2}  d e", ("a", "e"), "a {b 1 c 2 e {x y}} d e"),
+        ("a  {b  1 b 2}", ("d", "b"), "a {b  1 b 2} d {b {x y}}"),
+        (
+            "a  {b c d}",
+            ("a", "b"),
+            "a  {b c d}: missing value to go with key",
+        ),
+        (
+            r"a \{  b 2",
+            ("a", "b"),
+            r"a \{  b 2: unmatched open brace in list",
+        ),
+        ("a  1 b", ("a", "b"), "a  1 b: missing value to go with key"),
+    ] {
+        assert_eq!(rt; under(alloc, start, path, "x y")?.as_str(), want);
+    }
+    Ok(())
+}
+
+#[test]
+fn keys_are_removed_along_a_path(rt: HostRuntime) -> Result<(), Fail> {
+    let alloc = rt.alloc();
+    for (path, want) in [
+        ([].as_slice(), "a  {b  {c 1 d 2}  e 3}  f {g h i}"),
+        (&["f"], "a {b  {c 1 d 2}  e 3}"),
+        (&["a", "b"], "a {e 3} f {g h i}"),
+        (&["a", "b", "c"], "a {b {d 2} e 3} f {g h i}"),
+        (&["a", "b", "x"], "a {b {c 1 d 2} e 3} f {g h i}"),
+    ] {
+        let found = without(alloc, "a  {b  {c 1 d 2}  e 3}  f {g h i}", path)?;
+        assert_eq!(rt; found.as_str(), want);
+    }
+    Ok(())
+}
+
+#[test]
+fn keys_that_cannot_be_removed_stay(rt: HostRuntime) -> Result<(), Fail> {
+    let alloc = rt.alloc();
+    for (start, path, want) in [
+        (
+            "a  {b 1}",
+            ["x", "b"].as_slice(),
+            r#"a  {b 1}: key "x" not known in dictionary"#,
+        ),
+        (
+            "a  {b {c 1}}",
+            &["a", "x", "y", "z"],
+            r#"a  {b {c 1}}: key "x" not known in dictionary"#,
+        ),
+        (
+            "a  {b c d}",
+            &["a", "b"],
+            "a  {b c d}: missing value to go with key",
+        ),
+        (
+            r"a \{  b 2",
+            &["a", "b"],
+            r"a \{  b 2: unmatched open brace in list",
+        ),
+        ("a  1 b", &["a"], "a  1 b: missing value to go with key"),
+    ] {
+        assert_eq!(rt; without(alloc, start, path)?.as_str(), want);
     }
     Ok(())
 }

@@ -1,5 +1,5 @@
 -- A value under a key that is changed: a list that grows beside its text, pairs of which one value becomes another.
-use Rattle.std.proofs.Common.{◌≡◌, ℕ, zero, suc, ◌+◌, ◌<◌, ◌≤◌, List, [], ◌∷◌, ◌++◌, length, take, drop, get_or, slice_set, Result, Ok, Err, OnOk, OnErr, refl, sym, subst, ap, ◌∙◌, arith}
+use Rattle.std.proofs.Common.{◌≡◌, ℕ, zero, suc, ◌+◌, ◌<◌, ◌≤◌, List, [], ◌∷◌, ◌++◌, length, take, drop, get_or, max, slice_set, Result, Ok, Err, OnOk, OnErr, refl, sym, subst, ap, ◌∙◌, arith}
 use Rattle.std.proofs.lemmas.List.{map-set}
 use Rattle.tcl_chars.specs.Answers.{Answers, Stops}
 use Rattle.tcl_chars.specs.declared.fault.Fault.{Fault}
@@ -7,9 +7,8 @@ use Rattle.tcl_chars.specs.declared.fault.Fault.TheVariants as fault
 use Rattle.tcl_pages.specs.Answers.{Answer, ◌>>=◌}
 use Rattle.tcl_pages.specs.Texts.{Text}
 use Rattle.tcl_values.proofs.ElementPlaces.{text_there}
-use Rattle.tcl_values.specs.Changes.{after, after_at}
+use Rattle.tcl_values.specs.Changes.{after_at}
 use Rattle.tcl_values.specs.Kept.{Kept, texts, depth_over}
-use Rattle.tcl_values.specs.declared.change.Change.{Change}
 use Rattle.tcl_values.specs.Shape.{elements, AreKept}
 use Rattle.tcl_values.specs.declared.element.Items.{Items}
 use Rattle.tcl_values.proofs.Depths.{depth_below, depth_inserted, depth_over-push}
@@ -28,11 +27,11 @@ lengthened_low (Err x) old new more i was is low less done same = omega (arith, 
 
 -- ---- a value that becomes another
 
-pub begun_is : (c : Change) (t new : Text) → t ≡ [] → after c t ≡ Ok new → after c [] ≡ Ok new
-begun_is c t new e done = ap (after c) (sym e) ∙ done
+pub begun_is : (change : Text → Answer Text) (t new : Text) → t ≡ [] → change t ≡ Ok new → change [] ≡ Ok new
+begun_is change t new e done = ap change (sym e) ∙ done
 
-pub begun_stops : (c : Change) (t : Text) (f : Fault) → t ≡ [] → Stops f (after c t) → Stops f (after c [])
-begun_stops c t f e done = subst (λ u. Stops f (after c u)) e done
+pub begun_stops : (change : Text → Answer Text) (t : Text) (f : Fault) → t ≡ [] → Stops f (change t) → Stops f (change [])
+begun_stops change t f e done = subst (λ u. Stops f (change u)) e done
 
 pub low_enough : (ks : List Kept) (i : ℕ) (k : Kept) (d : ℕ) → i < length ks → k ≡ get_or ks i k → depth_over ks ≤ d → d ≤ 64 → k.depth < 64
 low_enough ks i k d l is below limit = omega (arith, depth_below ks i k l is, below, limit)
@@ -41,8 +40,12 @@ abbrev put_at : List Text → ℕ → Answer Text → Answer (List Text)
 put_at ts i r = r >>= λ new. Ok (slice_set ts i new)
 
 -- the element at a place has become another
-pub changed_there : (c : Change) (ks : List Kept) (i : ℕ) (k new : Kept) → i < length ks → k ≡ get_or ks i k → after c k.text ≡ Ok new.text → after_at c (texts ks) i ≡ Ok (texts (slice_set ks i new))
-changed_there c ks i k new l is done = ap (λ t. put_at (texts ks) i (after c t)) (text_there ks i k l is) ∙ ap (put_at (texts ks) i) done ∙ ap Ok (sym (map-set (λ (q : Kept). q.text) ks i new))
+pub changed_there : (change : Text → Answer Text) (ks : List Kept) (i : ℕ) (k new : Kept) → i < length ks → k ≡ get_or ks i k → change k.text ≡ Ok new.text → after_at change (texts ks) i ≡ Ok (texts (slice_set ks i new))
+changed_there change ks i k new l is done = ap (λ t. put_at (texts ks) i (change t)) (text_there ks i k l is) ∙ ap (put_at (texts ks) i) done ∙ ap Ok (sym (map-set (λ (q : Kept). q.text) ks i new))
+
+-- it makes the whole no deeper than the place of what it may be as deep as
+pub depth_changed : (ks : List Kept) (i : ℕ) (k : Kept) (d n e m now : ℕ) → i < length ks → k ≡ get_or ks i k → depth_over ks ≤ d → n ≤ max k.depth m → e ≡ n → now ≡ max d (e + 1) → now ≤ max d (m + 1)
+depth_changed ks i k d n e m now l is below within same new = omega (arith, depth_below ks i k l is, below, within, same, new)
 
 set_there : (ks : List Kept) (i : ℕ) (k d : Kept) → i < length ks → get_or (slice_set ks i k) i d ≡ k
 set_there [] i k d l = absurd (omega arith)

@@ -1,6 +1,6 @@
 -- Pairs of which the value under a key becomes another one.
-use Rattle.std.proofs.Common.{◌≡◌, ℕ, zero, suc, ◌<◌, ◌≤◌, false, List, [], ◌∷◌, ◌++◌, length, map, get_or, slice_set, position, None, Some, Result, Ok, Err, OnOk, OnErr, refl, sym, subst, ap, ◌∙◌, arith}
-use Rattle.std.proofs.lemmas.List.{map-set}
+use Rattle.std.proofs.Common.{◌≡◌, ℕ, zero, suc, ◌<◌, ◌≤◌, false, List, [], ◌∷◌, ◌++◌, length, map, get_or, slice_set, position, reverse, Option, None, Some, Result, Ok, Err, OnOk, OnErr, refl, sym, subst, ap, ◌∙◌, arith}
+use Rattle.std.proofs.lemmas.List.{length-map, length-reverse, map-set, reverse-append, reverse-reverse}
 use Rattle.std.specs.List.{list_any}
 use Rattle.std.specs.Rc.{rc_str_bytes}
 use Rattle.std.specs.Str.{chars, IsUtf8, bytes_eq}
@@ -12,14 +12,15 @@ use Rattle.tcl_chars.specs.declared.fault.Fault.{Fault}
 use Rattle.tcl_pages.specs.Answers.{Answer, ◌>>=◌}
 use Rattle.tcl_pages.specs.Dictionaries as dictionaries
 use Rattle.tcl_pages.specs.Dictionaries.{put_key, pairs_of}
-use Rattle.tcl_pages.specs.DictPages.{dictionary, or_text, value_at}
+use Rattle.tcl_pages.specs.DictPages.{dict_set, dict_unset, dictionary, known, or_text, under_key, unknown_key, value_at}
 use Rattle.tcl_pages.specs.Texts.{Text}
-use Rattle.tcl_values.specs.Changes.{after, after_at, after_in}
+use Rattle.tcl_values.specs.Changes.{after_at, after_in, after_key, made, made_new, made_under}
+use Rattle.tcl_values.specs.Dictionaries.{less_key}
 use Rattle.tcl_values.specs.Kept.{Kept, texts, depth_over}
 use Rattle.tcl_values.specs.Paired.{zipped}
 use Rattle.tcl_values.specs.Shape.{pairs_in, pairs_text, ArePaired}
-use Rattle.tcl_values.specs.declared.change.Change.{Change}
 use Rattle.tcl_values.specs.declared.element.Pairs.{Pairs}
+use Rattle.tcl_values.specs.declared.making.Making.{Making}
 use Rattle.tcl_values.proofs.Changed.{stops_then, answers_then}
 use Rattle.tcl_values.proofs.PairKept.{bare_reads, same_kept}
 use Rattle.tcl_values.proofs.PairPlaces.{put_there, put_behind, found_there, found_nowhere}
@@ -50,7 +51,7 @@ both (Err m) f g = refl
 abbrev put_in : dictionaries.Pairs → Text → Answer Text → Answer dictionaries.Pairs
 put_in ps key r = r >>= λ new. Ok (put_key ps key new)
 
-module _ (bs : List ℕ) (u : IsUtf8 bs) (js : List (RcStr Global)) (vs : List Kept) (even : length js ≡ length vs) (c : Change) where
+module _ (bs : List ℕ) (u : IsUtf8 bs) (js : List (RcStr Global)) (vs : List Kept) (even : length js ≡ length vs) (change : Option Text → Answer Text) where
   abbrev before : dictionaries.Pairs
   before = zipped (map text_of js) (texts vs)
 
@@ -59,30 +60,30 @@ module _ (bs : List ℕ) (u : IsUtf8 bs) (js : List (RcStr Global)) (vs : List K
       let v : Kept = record { text = new; depth = 0 } in
       sym (put_there bs u js vs even v i at) ∙ ap (zipped (map text_of js)) (map-set (λ (q : Kept). q.text) vs i v)
 
-  in_place : (i : ℕ) → Some i ≡ position (λ j. bytes_eq bs (rc_str_bytes j)) js → i < length vs → after_in c before (chars bs) ≡ (after_at c (texts vs) i >>= λ ts. Ok (zipped (map text_of js) ts))
+  in_place : (i : ℕ) → Some i ≡ position (λ j. bytes_eq bs (rc_str_bytes j)) js → i < length vs → after_in change before (chars bs) ≡ (after_at (λ t. change (Some t)) (texts vs) i >>= λ ts. Ok (zipped (map text_of js) ts))
   in_place i at l =
       let found : value_at (chars bs) before ≡ Some (get_or (texts vs) i []) = sym (found_there bs u js vs even (get_or vs i nothing) i at (get_again vs i nothing l)) ∙ ap Some (text_got vs i) in
-      ap (λ o. put_in before (chars bs) (after c (or_text [] o))) found
-      ∙ (λ n. after c (get_or (texts vs) i []) >>= λ new. Ok (placed i new at n))
-      ∙ both (after c (get_or (texts vs) i [])) (λ new. slice_set (texts vs) i new) (zipped (map text_of js))
+      ap (λ o. put_in before (chars bs) (change o)) found
+      ∙ (λ n. change (Some (get_or (texts vs) i [])) >>= λ new. Ok (placed i new at n))
+      ∙ both (change (Some (get_or (texts vs) i []))) (λ new. slice_set (texts vs) i new) (zipped (map text_of js))
 
   -- the key is there
   pub some_done : {X : Type 0} (r : Result X Fault) (ks : List (RcStr Global)) (ws : List Kept) (i : ℕ) → Some i ≡ position (λ j. bytes_eq bs (rc_str_bytes j)) js → i < length vs → ks ≡ js
-      → Answers (λ (_ : X). texts ws) r (after_at c (texts vs) i) → Answers (λ (_ : X). zipped (map text_of ks) (texts ws)) r (after_in c before (chars bs))
+      → Answers (λ (_ : X). texts ws) r (after_at (λ t. change (Some t)) (texts vs) i) → Answers (λ (_ : X). zipped (map text_of ks) (texts ws)) r (after_in change before (chars bs))
   some_done {X} r ks ws i at l same done =
       subst (λ m. Answers (λ (_ : X). zipped (map text_of ks) (texts ws)) r m) (sym (in_place i at l))
-      (subst (λ (qs : List (RcStr Global)). Answers (λ (_ : X). zipped (map text_of qs) (texts ws)) r (after_at c (texts vs) i >>= λ ts. Ok (zipped (map text_of js) ts))) (sym same)
-      (answers_then r (after_at c (texts vs) i) (texts ws) (zipped (map text_of js)) done))
+      (subst (λ (qs : List (RcStr Global)). Answers (λ (_ : X). zipped (map text_of qs) (texts ws)) r (after_at (λ t. change (Some t)) (texts vs) i >>= λ ts. Ok (zipped (map text_of js) ts))) (sym same)
+      (answers_then r (after_at (λ t. change (Some t)) (texts vs) i) (texts ws) (zipped (map text_of js)) done))
 
   -- the key isn't there
-  not_in : list_any (λ j. bytes_eq bs (rc_str_bytes j)) js ≡ false → after_in c before (chars bs) ≡ put_in before (chars bs) (after c [])
-  not_in none = ap (λ o. put_in before (chars bs) (after c (or_text [] o))) (sym (found_nowhere bs u js vs even none))
+  not_in : list_any (λ j. bytes_eq bs (rc_str_bytes j)) js ≡ false → after_in change before (chars bs) ≡ put_in before (chars bs) (change None)
+  not_in none = ap (λ o. put_in before (chars bs) (change o)) (sym (found_nowhere bs u js vs even none))
 
-  pub none_stops : (f : Fault) → list_any (λ j. bytes_eq bs (rc_str_bytes j)) js ≡ false → Stops f (after c []) → Stops f (after_in c before (chars bs))
-  none_stops f none e = subst (λ m. Stops f m) (sym (not_in none)) (stops_then f (after c []) (λ new. Ok (put_key before (chars bs) new)) e)
+  pub none_stops : (f : Fault) → list_any (λ j. bytes_eq bs (rc_str_bytes j)) js ≡ false → Stops f (change None) → Stops f (after_in change before (chars bs))
+  none_stops f none e = subst (λ m. Stops f m) (sym (not_in none)) (stops_then f (change None) (λ new. Ok (put_key before (chars bs) new)) e)
 
-  pub none_done : (key : RcStr Global) (v : Kept) (ks : List (RcStr Global)) (ws : List Kept) → list_any (λ j. bytes_eq bs (rc_str_bytes j)) js ≡ false → text_of key ≡ chars bs → after c [] ≡ Ok v.text → ks ≡ js ++ key ∷ [] → ws ≡ vs ++ v ∷ []
-      → after_in c before (chars bs) ≡ Ok (zipped (map text_of ks) (texts ws))
+  pub none_done : (key : RcStr Global) (v : Kept) (ks : List (RcStr Global)) (ws : List Kept) → list_any (λ j. bytes_eq bs (rc_str_bytes j)) js ≡ false → text_of key ≡ chars bs → change None ≡ Ok v.text → ks ≡ js ++ key ∷ [] → ws ≡ vs ++ v ∷ []
+      → after_in change before (chars bs) ≡ Ok (zipped (map text_of ks) (texts ws))
   none_done key v ks ws none is new keys values =
       not_in none ∙ ap (put_in before (chars bs)) new
       ∙ ap Ok (sym ((λ n. zipped (map text_of (keys n)) (texts (values n))) ∙ put_behind bs u js vs even key v none is))
@@ -98,12 +99,94 @@ reads_after t ps qs key (Ok new) reads e = reads_put t ps qs key new reads (sym 
 reads_after t ps qs key (Err m) reads e = absurd (err_is_ok _ m qs refl e)
 
 -- pairs that are kept stand for their text, whether the change is made or refused
-pub some_kept : {X : Type 0} (r : Result X Fault) (c : Change) (own new : Pairs) (key : Text) → ArePaired own → Answers (λ (_ : X). pairs_in new) r (after_in c (pairs_in own) key) → OnErr r (new.values.items ≡ own.values.items)
+pub some_kept : {X : Type 0} (r : Result X Fault) (change : Option Text → Answer Text) (own new : Pairs) (key : Text) → ArePaired own → Answers (λ (_ : X). pairs_in new) r (after_in change (pairs_in own) key) → OnErr r (new.values.items ≡ own.values.items)
     → new.keys.keys ≡ own.keys.keys → OnOk r (new.text ≡ None) → OnErr r (new.text ≡ own.text) → length new.values.items ≡ length own.values.items → new.depth ≤ 64 → depth_over new.values.items ≤ new.depth → ArePaired new
-some_kept (Ok x) c own new key kept done same keys bare text size limit deeper = record {
+some_kept (Ok x) change own new key kept done same keys bare text size limit deeper = record {
   limit = limit;
   deeper = deeper;
   even = ap length keys ∙ kept.even ∙ sym size;
-  reading = bare_reads new bare (reads_after (pairs_text own) (pairs_in own) (pairs_in new) key (after c (or_text [] (value_at key (pairs_in own)))) kept.reading done);
+  reading = bare_reads new bare (reads_after (pairs_text own) (pairs_in own) (pairs_in new) key (change (value_at key (pairs_in own))) kept.reading done);
 }
-some_kept (Err f) c own new key kept done same keys bare text size limit deeper = (same_kept own new kept limit deeper keys (ap texts same) text).1
+some_kept (Err f) change own new key kept done same keys bare text size limit deeper = (same_kept own new kept limit deeper keys (ap texts same) text).1
+
+-- ---- the value under a key
+
+abbrev changed_in : (Option Text → Answer Text) → Text → Answer dictionaries.Pairs → Answer Text
+changed_in change key r = r >>= λ ps. after_in change ps key >>= λ new. Ok (dictionary new)
+
+-- it begins as the empty text
+pub key_alike : (f : Text → Answer Text) (g : Option Text → Answer Text) (t key : Text) → ((o : Option Text) → f (or_text [] o) ≡ g o) → under_key t key [] f ≡ after_key g t key
+key_alike f g t key h = by (pairs_of t)
+  where
+    by : (r : Answer dictionaries.Pairs) → (r >>= λ ps. f (or_text [] (value_at key ps)) >>= λ new. Ok (dictionary (put_key ps key new))) ≡ changed_in g key r
+    by (Ok ps) = ap (λ m. m >>= λ new. Ok (dictionary (put_key ps key new))) (h (value_at key ps)) ∙ both (g (value_at key ps)) (put_key ps key) dictionary
+    by (Err m) = refl
+
+pub made_or : (m : Making) (key : Text) → made_new m key ≡ made m [] → (o : Option Text) → made m (or_text [] o) ≡ made_under m key o
+made_or m key e None = sym e
+made_or m key e (Some t) = refl
+
+-- it must be there
+pub known_or : (m : Making) (key : Text) → made_new m key ≡ Err (unknown_key key) → (o : Option Text) → (known key o >>= made m) ≡ made_under m key o
+known_or m key e None = sym e
+known_or m key e (Some t) = refl
+
+in_turn : (s : Answer Text) (f g : Text → Answer Text) → (s >>= λ x. f x >>= g) ≡ ((s >>= f) >>= g)
+in_turn (Ok x) f g = refl
+in_turn (Err m) f g = refl
+
+unset_step : (t key : Text) (ks : List Text) (g : Option Text → Answer Text) → 0 < length ks → ((o : Option Text) → (known key o >>= λ i. dict_unset i ks) ≡ g o) → dict_unset t (key ∷ ks) ≡ after_key g t key
+unset_step t key [] g l h = absurd (omega (arith, l))
+unset_step t key (k ∷ ks) g l h = by (pairs_of t)
+  where
+    by : (r : Answer dictionaries.Pairs) → (r >>= λ ps. known key (value_at key ps) >>= λ inner. dict_unset inner (k ∷ ks) >>= λ less. Ok (dictionary (put_key ps key less))) ≡ changed_in g key r
+    by (Ok ps) =
+        in_turn (known key (value_at key ps)) (λ i. dict_unset i (k ∷ ks)) (λ x. Ok (dictionary (put_key ps key x)))
+        ∙ ap (λ m. m >>= λ x. Ok (dictionary (put_key ps key x))) (h (value_at key ps)) ∙ both (g (value_at key ps)) (put_key ps key) dictionary
+    by (Err m) = refl
+
+-- ---- keys in the reverse order
+
+turned : (keys rest : List (RcStr Global)) (key : RcStr Global) → keys ≡ rest ++ key ∷ [] → reverse keys ≡ key ∷ reverse rest
+turned keys rest key e = ap reverse e ∙ reverse-append rest (key ∷ [])
+
+back_turned : (keys back rest : List (RcStr Global)) (key : RcStr Global) → back ≡ reverse keys → back ≡ rest ++ key ∷ [] → keys ≡ key ∷ reverse rest
+back_turned keys back rest key is e = sym (reverse-reverse keys) ∙ ap reverse (sym is) ∙ turned back rest key e
+
+-- the first on the way: dict set
+pub set_first : (t v : Text) (ks : List (RcStr Global)) (rest : List (RcStr Global)) (key : RcStr Global) (g : Option Text → Answer Text) → ks ≡ key ∷ reverse rest → ((o : Option Text) → dict_set (or_text [] o) v (map text_of (reverse rest)) ≡ g o)
+    → dict_set t v (map text_of ks) ≡ after_key g t (text_of key)
+set_first t v ks rest key g e h = ap (λ js. dict_set t v (map text_of js)) e ∙ key_alike (λ old. dict_set old v (map text_of (reverse rest))) g t (text_of key) h
+
+pub set_last : (t v : Text) (keys rest : List (RcStr Global)) (key : RcStr Global) (g : Option Text → Answer Text) → keys ≡ rest ++ key ∷ [] → ((o : Option Text) → dict_set (or_text [] o) v (map text_of (reverse rest)) ≡ g o)
+    → dict_set t v (map text_of (reverse keys)) ≡ after_key g t (text_of key)
+set_last t v keys rest key g e h = set_first t v (reverse keys) rest key g (turned keys rest key e) h
+
+pub set_turned : (t v : Text) (keys back rest : List (RcStr Global)) (key : RcStr Global) (g : Option Text → Answer Text) → back ≡ reverse keys → back ≡ rest ++ key ∷ [] → ((o : Option Text) → dict_set (or_text [] o) v (map text_of (reverse rest)) ≡ g o)
+    → dict_set t v (map text_of keys) ≡ after_key g t (text_of key)
+set_turned t v keys back rest key g is e h = set_first t v keys rest key g (back_turned keys back rest key is e) h
+
+-- dict unset
+unset_first : (t : Text) (ks rest : List (RcStr Global)) (key : RcStr Global) (g : Option Text → Answer Text) → ks ≡ key ∷ reverse rest → 0 < length rest → ((o : Option Text) → (known (text_of key) o >>= λ i. dict_unset i (map text_of (reverse rest))) ≡ g o)
+    → dict_unset t (map text_of ks) ≡ after_key g t (text_of key)
+unset_first t ks rest key g e l h =
+    ap (λ js. dict_unset t (map text_of js)) e
+    ∙ unset_step t (text_of key) (map text_of (reverse rest)) g (omega (arith, l, length-map (reverse rest) text_of, length-reverse rest)) h
+
+unset_only : (t : Text) (ks rest : List (RcStr Global)) (key : RcStr Global) → ks ≡ key ∷ reverse rest → length rest ≡ 0 → dict_unset t (map text_of ks) ≡ less_key t (text_of key)
+unset_only t ks [] key e l = ap (λ js. dict_unset t (map text_of js)) e
+unset_only t ks (r ∷ rest) key e l = absurd (omega (arith, l))
+
+pub unset_last : (t : Text) (keys rest : List (RcStr Global)) (key : RcStr Global) (g : Option Text → Answer Text) → keys ≡ rest ++ key ∷ [] → 0 < length rest → ((o : Option Text) → (known (text_of key) o >>= λ i. dict_unset i (map text_of (reverse rest))) ≡ g o)
+    → dict_unset t (map text_of (reverse keys)) ≡ after_key g t (text_of key)
+unset_last t keys rest key g e l h = unset_first t (reverse keys) rest key g (turned keys rest key e) l h
+
+pub unset_alone : (t : Text) (keys rest : List (RcStr Global)) (key : RcStr Global) → keys ≡ rest ++ key ∷ [] → length rest ≡ 0 → dict_unset t (map text_of (reverse keys)) ≡ less_key t (text_of key)
+unset_alone t keys rest key e l = unset_only t (reverse keys) rest key (turned keys rest key e) l
+
+pub unset_turned : (t : Text) (keys back rest : List (RcStr Global)) (key : RcStr Global) (g : Option Text → Answer Text) → back ≡ reverse keys → back ≡ rest ++ key ∷ [] → 0 < length rest
+    → ((o : Option Text) → (known (text_of key) o >>= λ i. dict_unset i (map text_of (reverse rest))) ≡ g o) → dict_unset t (map text_of keys) ≡ after_key g t (text_of key)
+unset_turned t keys back rest key g is e l h = unset_first t keys rest key g (back_turned keys back rest key is e) l h
+
+pub unset_turned_one : (t : Text) (keys back rest : List (RcStr Global)) (key : RcStr Global) → back ≡ reverse keys → back ≡ rest ++ key ∷ [] → length rest ≡ 0 → dict_unset t (map text_of keys) ≡ less_key t (text_of key)
+unset_turned_one t keys back rest key is e l = unset_only t keys rest key (back_turned keys back rest key is e) l

@@ -1,25 +1,21 @@
-//! A value under a key of a dictionary that is changed in place: a list to which elements come, a text that goes on.
+//! What comes to a value under a key of a dictionary, in place: elements to a list, a text behind a text.
 
-ghost use Rattle.std.specs.Prelude.{◌≡◌, ◌<◌, ◌≤◌, ◌++◌, ◌∷◌, [], None, length, take, IfOk, OnOk, OnErr};
+ghost use Rattle.std.specs.Prelude.{◌≡◌, ◌<◌, ◌≤◌, ◌++◌, max, IfOk, OnOk, OnErr};
 ghost use Rattle.std.specs.Str.{chars};
 ghost use Rattle.std.specs.String.{string_bytes};
 ghost use Rattle.tcl_chars.specs.Answers.{Answers};
-ghost use Rattle.tcl_chars.specs.Texts.{text_of};
 ghost use Rattle.tcl_list.specs.Elements.{elements_of};
 ghost use Rattle.tcl_list.specs.Written.{written};
-ghost use Rattle.tcl_pages.specs.DictPages.{dictionary};
-ghost use Rattle.tcl_values.specs.Changes.{after, after_at, after_in, after_under};
+ghost use Rattle.tcl_values.specs.Changes.{after};
 ghost use Rattle.tcl_values.specs.Kept.{texts, depth_over};
 ghost use Rattle.tcl_values.specs.Lists.{lengthened, Leaves};
-ghost use Rattle.tcl_values.specs.Shape.{elements, items_text, pairs_in, pairs_text, AreKept, ArePaired};
+ghost use Rattle.tcl_values.specs.Shape.{elements, items_text, AreKept};
 
 use crate::composed::joined;
-use crate::dict::read_dict;
-use crate::element::{Element, Entry, Items, Pairs};
+use crate::element::{Element, Entry, Items};
 use crate::items::splice;
 use crate::list::read_text;
-use crate::pairs::add_pair;
-use crate::value::{Growing, Held, Value, grow};
+use crate::value::{Growing, Value, grow};
 use std::alloc::{AllocError, Global};
 use std::rc::{Rc, RcStr};
 use tcl_chars::Fault;
@@ -61,10 +57,10 @@ impl Element {
     }
 
     /// The list that its text is read as. What is kept of it is shared.
-    fn read_list(&self, alloc: Global) -> Result<Rc<Items>, Fault>
+    pub(crate) fn read_list(&self, alloc: Global) -> Result<Rc<Items>, Fault>
         requires { self.now.depth < 64 }
         ensures read { Answers (λ r. texts (elements r.value)) result (elements_of self.now.text) }
-        ensures limit { IfOk result (λ r. r.value.depth < 64) }
+        ensures depth { IfOk result (λ r. r.value.depth ≤ max 1 self.now.depth) }
         ensures kept { IfOk result (λ r. AreKept r.value) }
     {
         match &self.entry {
@@ -119,7 +115,7 @@ impl Element {
     }
 
     /// Makes of its text what a change makes of it.
-    fn change(&mut self, alloc: Global, change: Change) -> Result<(), Fault>
+    pub(crate) fn change(&mut self, alloc: Global, change: Change) -> Result<(), Fault>
         requires { self.old.depth < 64 }
         ensures done { Leaves self.new.text (after change self.old.text) result }
         ensures same { OnErr result (self.new ≡ self.old) }
@@ -149,92 +145,4 @@ fn shallow_elements(alloc: Global, values: Vec<Value>) -> Result<Vec<Element>, A
         elements.push(element.shallow(alloc)?)?;
     }
     Ok(elements)
-}
-
-/// What a change makes of the empty text.
-fn begun(alloc: Global, change: Change) -> Result<Element, Fault>
-    ensures text { Answers (λ e. e.text) result (after change []) }
-    ensures limit { IfOk result (λ e. e.depth < 64) }
-{
-    let mut element = Element {
-        entry: Entry::Text(RcStr::from_str(alloc, "")?),
-    };
-    element.change(alloc, change)?;
-    Ok(element)
-}
-
-/// Changes the value at a place.
-fn change_at(own: &mut Pairs, place: usize, alloc: Global, change: Change) -> Result<(), Fault>
-    requires place { place < length own.old.values.items }
-    requires limit { own.old.depth ≤ 64 }
-    requires deeper { depth_over own.old.values.items ≤ own.old.depth }
-    ensures done { Answers (λ _. texts own.new.values.items) result (after_at change (texts own.old.values.items) place) }
-    ensures same { OnErr result (own.new.values.items ≡ own.old.values.items) }
-    ensures keys { own.new.keys.keys ≡ own.old.keys.keys }
-    ensures text { OnOk result (own.new.text ≡ None) }
-    ensures same_text { OnErr result (own.new.text ≡ own.old.text) }
-    ensures size { length own.new.values.items ≡ length own.old.values.items }
-    ensures limit { own.new.depth ≤ 64 }
-    ensures deeper { depth_over own.new.values.items ≤ own.new.depth }
-{
-    own.values[place].change(alloc, change)?;
-    let depth = own.values[place].depth() + 1;
-    own.depth = own.depth.max(depth);
-    own.text = None;
-    Ok(())
-}
-
-/// Changes the value under a key.
-fn change_own(own: &mut Pairs, key: RcStr, alloc: Global, change: Change) -> Result<(), Fault>
-    requires { ArePaired own.old }
-    ensures done { Answers (λ _. pairs_in own.new) result (after_in change (pairs_in own.old) (text_of key)) }
-    ensures text { OnOk result (own.new.text ≡ None) }
-    ensures same { OnErr result (pairs_text own.new ≡ pairs_text own.old) }
-    ensures kept { ArePaired own.new }
-{
-    match own.keys.get_index_of(&key) {
-        Some(place) => change_at(own, place, alloc, change),
-        None => {
-            let value = begun(alloc, change)?;
-            add_pair(own, key, value)?;
-            Ok(())
-        }
-    }
-}
-
-/// Changes the value under a key of a dictionary, in place where nobody else holds the dictionary.
-fn change_pair(
-    pairs: &mut Rc<Pairs>,
-    key: RcStr,
-    alloc: Global,
-    change: Change,
-) -> Result<(), Fault>
-    requires { ArePaired pairs.old.value }
-    ensures done { Answers (λ _. pairs_in pairs.new.value) result (after_in change (pairs_in pairs.old.value) (text_of key)) }
-    ensures text { OnOk result (pairs_text pairs.new.value ≡ dictionary (pairs_in pairs.new.value)) }
-    ensures same { OnErr result (pairs_text pairs.new.value ≡ pairs_text pairs.old.value) }
-    ensures kept { ArePaired pairs.new.value }
-{
-    let own = Rc::make_mut(pairs)?;
-    change_own(own, key, alloc, change)
-}
-
-impl Value {
-    /// Changes the value under a key of the dictionary that the text is read as: dict(n), `dict append`, `dict lappend`. Where the key isn't
-    /// there, its value begins as the empty text, and the key comes last. Where nobody else holds the dictionary nor the value, a change
-    /// takes the time of what comes to the value, whatever its size.
-    ///
-    /// # Errors
-    ///
-    /// `Fault::Error` with the dictionary's fault or that of the list under the key, `Fault::Memory`; the value is then as it was.
-    pub fn dict_change(&mut self, alloc: Global, key: RcStr, change: Change) -> Result<(), Fault>
-        ensures done { Leaves self.new (after_under change self.old (text_of key)) result }
-        ensures same { OnErr result (self.new ≡ self.old) }
-    {
-        read_dict(&mut self.held, alloc)?;
-        match &mut self.held {
-            Held::Dict(pairs) => change_pair(pairs, key, alloc, change),
-            _ => unreachable!(),
-        }
-    }
 }

@@ -8,7 +8,7 @@
 //!   `shown`, `ascii` and `places`, as a number by `whole`, and without any reading by `number` and `known_number`, as a name by `sought` and `sought_command`, as a list by
 //!   `count`, `item`, `row`, `list`, `range`. Changed by
 //!   `append` at the end of the text, and as a list by `push`, `replace_item` and `splice`; `take_item` lends an element to a change.
-//!   As a dictionary made by `of_dict`, read by `dict_size`, `dict_get`, `dictionary`, changed by `dict_put`, `dict_remove` and
+//!   As a dictionary made by `of_dict`, read by `dict_size`, `dict_get`, `dictionary`, changed by `dict_put`, `dict_put_under`, `dict_remove`, `dict_remove_under` and
 //!   `dict_change`.
 //! - [`Places`]: the characters of a text, found by their places.
 //! - [`Change`]: what `dict_change` makes of the value under a key. A list or a text that has grown there once grows in place from then on.
@@ -32,6 +32,7 @@ mod gathering;
 mod items;
 mod list;
 mod literal;
+mod making;
 mod marks;
 mod named;
 mod numerals;

@@ -1,6 +1,6 @@
 //! The pairs of a dictionary that is kept, behind a shared pointer: read, written, changed.
 
-ghost use Rattle.std.specs.Prelude.{◌≡◌, ◌<◌, ◌≤◌, ◌∷◌, [], ◌++◌, None, Some, false, length, option_map, remove, slice_set, IfOk, OnOk, OnErr};
+ghost use Rattle.std.specs.Prelude.{◌≡◌, ◌<◌, ◌≤◌, ◌+◌, ◌∷◌, [], ◌++◌, None, Some, false, length, max, option_map, remove, slice_set, IfOk, OnOk, OnErr};
 ghost use Rattle.std.specs.List.{list_any};
 ghost use Rattle.std.specs.Rc.{rc_str_bytes};
 ghost use Rattle.std.specs.Str.{bytes_eq, chars};
@@ -135,6 +135,7 @@ pub(crate) fn find_pair<'a>(pairs: &'a Pairs, key: &str) -> Option<&'a Element>
 pub(crate) fn no_pairs(alloc: Global) -> Pairs
     ensures pairs { pairs_in result ≡ [] }
     ensures text { result.text ≡ None }
+    ensures depth { result.depth ≡ 1 }
     ensures kept { ArePaired result }
 {
     Pairs {
@@ -149,11 +150,10 @@ pub(crate) fn no_pairs(alloc: Global) -> Pairs
 fn set_value(own: &mut Pairs, place: usize, value: Element)
     requires place { place < length own.old.values.items }
     requires value { value.depth < 64 }
-    requires limit { own.old.depth ≤ 64 }
     requires deeper { depth_over own.old.values.items ≤ own.old.depth }
     ensures keys { own.new.keys.keys ≡ own.old.keys.keys }
     ensures values { own.new.values.items ≡ slice_set own.old.values.items place value }
-    ensures limit { own.new.depth ≤ 64 }
+    ensures depth { own.new.depth ≡ max own.old.depth (value.depth + 1) }
     ensures deeper { depth_over own.new.values.items ≤ own.new.depth }
     ensures text { own.new.text ≡ None }
 {
@@ -166,7 +166,6 @@ fn set_value(own: &mut Pairs, place: usize, value: Element)
 pub(crate) fn add_pair(own: &mut Pairs, key: RcStr, value: Element) -> Result<(), AllocError>
     requires absent { list_any (λ k. bytes_eq (rc_str_bytes key) (rc_str_bytes k)) own.old.keys.keys ≡ false }
     requires value { value.depth < 64 }
-    requires limit { own.old.depth ≤ 64 }
     requires deeper { depth_over own.old.values.items ≤ own.old.depth }
     ensures keys { OnOk result (own.new.keys.keys ≡ own.old.keys.keys ++ key ∷ []) }
     ensures values { OnOk result (own.new.values.items ≡ own.old.values.items ++ value ∷ []) }
@@ -174,7 +173,8 @@ pub(crate) fn add_pair(own: &mut Pairs, key: RcStr, value: Element) -> Result<()
     ensures same_keys { OnErr result (own.new.keys.keys ≡ own.old.keys.keys) }
     ensures same_values { OnErr result (own.new.values.items ≡ own.old.values.items) }
     ensures same_text { OnErr result (own.new.text ≡ own.old.text) }
-    ensures limit { own.new.depth ≤ 64 }
+    ensures depth { OnOk result (own.new.depth ≡ max own.old.depth (value.depth + 1)) }
+    ensures same_depth { OnErr result (own.new.depth ≡ own.old.depth) }
     ensures deeper { depth_over own.new.values.items ≤ own.new.depth }
 {
     let depth = value.depth() + 1;
@@ -195,6 +195,7 @@ pub(crate) fn put_own(own: &mut Pairs, key: RcStr, value: Element) -> Result<(),
     ensures put { OnOk result (pairs_in own.new ≡ put_key (pairs_in own.old) (text_of key) value.text) }
     ensures text { OnOk result (own.new.text ≡ None) }
     ensures same { OnErr result (pairs_text own.new ≡ pairs_text own.old) }
+    ensures depth { OnOk result (own.new.depth ≡ max own.old.depth (value.depth + 1)) }
     ensures kept { ArePaired own.new }
 {
     match own.keys.get_index_of(&key) {
@@ -234,6 +235,7 @@ fn build_pairs(alloc: Global, elements: &[Element]) -> Result<Pairs, Fault>
     requires { depth_over elements.now ≤ 64 }
     ensures pairs { Answers (λ p. pairs_in p) result (read_pairs [] (texts elements.now)) }
     ensures text { IfOk result (λ p. p.text ≡ None) }
+    ensures depth { IfOk result (λ p. p.depth ≤ depth_over elements.now) }
     ensures kept { IfOk result (λ p. ArePaired p) }
 {
     let mut pairs = no_pairs(alloc);
@@ -266,6 +268,7 @@ pub(crate) fn paired(alloc: Global, row: &Items) -> Result<Rc<Pairs>, Fault>
     requires { AreKept row.now }
     ensures pairs { Answers (λ p. pairs_in p.value) result (read_pairs [] (texts (elements row.now))) }
     ensures same { IfOk result (λ p. pairs_text p.value ≡ items_text row.now) }
+    ensures depth { IfOk result (λ p. p.value.depth ≤ row.now.depth) }
     ensures kept { IfOk result (λ p. ArePaired p.value) }
 {
     let pairs = build_pairs(alloc, &row.items)?;
@@ -296,6 +299,7 @@ fn remove_own(own: &mut Pairs, key: &str)
     requires { ArePaired own.old }
     ensures removed { pairs_in own.new ≡ without_key (chars key.now) (pairs_in own.old) }
     ensures text { own.new.text ≡ None }
+    ensures depth { own.new.depth ≡ own.old.depth }
     ensures kept { ArePaired own.new }
 {
     own.text = None;
@@ -311,6 +315,7 @@ pub(crate) fn remove_pair(pairs: &mut Rc<Pairs>, key: &str) -> Result<(), AllocE
     ensures removed { OnOk result (pairs_in pairs.new.value ≡ without_key (chars key.now) (pairs_in pairs.old.value)) }
     ensures text { OnOk result (pairs_text pairs.new.value ≡ dictionary (pairs_in pairs.new.value)) }
     ensures same { OnErr result (pairs_text pairs.new.value ≡ pairs_text pairs.old.value) }
+    ensures depth { pairs.new.value.depth ≡ pairs.old.value.depth }
     ensures kept { ArePaired pairs.new.value }
 {
     let own = Rc::make_mut(pairs)?;

@@ -7,7 +7,8 @@ use Rattle.tcl_values.proofs.pairs.build_pairs.Given as goal
 abbrev pub invariant-loop-key : goal.invariant-loop-key
 invariant-loop-key l = record {
   same : read_pairs (pairs_in l.pairs) (texts l.rest) ≡ read_pairs [] (texts l.elements);
-  depth : depth_over l.rest ≤ 64;
+  within : depth_over l.rest ≤ depth_over l.elements;
+  depth : l.pairs.depth ≤ depth_over l.elements;
   text : l.pairs.text ≡ None;
   kept : ArePaired l.pairs;
 }

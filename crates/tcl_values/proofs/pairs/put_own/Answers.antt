@@ -1,4 +1,4 @@
-use Rattle.std.proofs.Common.{map, sym, ◌∙◌, refl}
+use Rattle.std.proofs.Common.{map, sym, ◌∙◌, refl, arith}
 use Rattle.std.specs.Rc.{rc_str_bytes}
 use Rattle.std.proofs.lemmas.Str.{IsUtf8-string_bytes}
 use Rattle.tcl_chars.specs.Texts.{text_of}
@@ -15,7 +15,7 @@ returns-in-Some-clause-put c =
 
 pub returns-in-Some-clause-kept : goal.returns-in-Some-clause-kept
 returns-in-Some-clause-kept c =
-    put_kept c.args.own.now _ (text_of c.args.key) c.args.value.text c.requires.kept c.set_value.ensures.limit c.set_value.ensures.deeper
+    put_kept c.args.own.now _ (text_of c.args.key) c.args.value.text c.requires.kept (omega (arith, c.set_value.ensures.depth, c.requires.kept.limit, c.requires.value)) c.set_value.ensures.deeper
     (even_set c.args.own.now.keys.keys _ c.args.own.now.values.items _ c.in-Some.place c.args.value c.requires.kept.even c.set_value.ensures.keys c.set_value.ensures.values)
     c.set_value.ensures.text
     ((λ n. zipped (map text_of (c.set_value.ensures.keys n)) (texts (c.set_value.ensures.values n)))
@@ -28,7 +28,7 @@ returns-in_ok-add_pair-in-None-clause-put c =
 
 pub returns-in_ok-add_pair-in-None-clause-kept : goal.returns-in_ok-add_pair-in-None-clause-kept
 returns-in_ok-add_pair-in-None-clause-kept c =
-    put_kept c.args.own.now _ (text_of c.args.key) c.args.value.text c.requires.kept c.add_pair.ensures.limit c.add_pair.ensures.deeper
+    put_kept c.args.own.now _ (text_of c.args.key) c.args.value.text c.requires.kept (omega (arith, c.in_ok-add_pair-in-None.ensures.depth, c.requires.kept.limit, c.requires.value)) c.add_pair.ensures.deeper
     (even_more c.args.own.now.keys.keys _ c.args.own.now.values.items _ c.args.key c.args.value c.requires.kept.even c.in_ok-add_pair-in-None.ensures.keys c.in_ok-add_pair-in-None.ensures.values)
     c.in_ok-add_pair-in-None.ensures.text
     ((λ n. zipped (map text_of (c.in_ok-add_pair-in-None.ensures.keys n)) (texts (c.in_ok-add_pair-in-None.ensures.values n)))
