@@ -8,8 +8,8 @@ from program import IO_FAULT, Program, Wrong
 HERE = os.path.dirname(os.path.realpath(__file__))
 MEMORY = b"out of memory\n"
 FLAGS = "-O2 -shared -fPIC -nostdlib -fno-builtin -fno-stack-protector".split()
-# rows with more growths are swept at both ends, and in between at every seventh
-MOST, END, STEP = 2000, 100, 7
+# rows with more growths, of which one has two million, are swept at both ends, and at so many places spread over all
+MOST, END, SPREAD = 2000, 100, 600
 # a stream fails behind each of its bytes in the rows whose answer or input has no more
 MOST_BYTES = 300
 
@@ -39,6 +39,15 @@ def build(folder, tried):
             if subprocess.run(words, capture_output=True, check=False).returncode == 0:
                 return library
     raise Wrong(f"no C compiler has built refuse.c; tried: {', '.join(tried) or 'none, none is there'}")
+
+
+def places(count):
+    """Which of so many growths are refused; the last is one that isn't there."""
+    growths = range(1, count + 2)
+    if count <= MOST:
+        return growths
+    spread = {growths[at * (count - 1) // (SPREAD - 1)] for at in range(SPREAD)}
+    return sorted({*growths[:END], *spread, *growths[-END:]})
 
 
 class Refusing:
@@ -86,9 +95,6 @@ class Refusing:
     def sweep(self, row, later):
         """Refuses each growth in turn, up to the first that isn't there; `later`: and all behind it."""
         count = self.count(row)
-        growths = range(1, count + 2)
-        if count > MOST:
-            growths = sorted({*growths[:END], *growths[::STEP], *growths[-END:]})
 
         def look(growth):
             got = self.run(row, refuse=growth, refuse_later=int(later))
@@ -97,7 +103,7 @@ class Refusing:
             elif not row.is_whole(got):
                 raise Wrong("another answer where nothing is refused")
 
-        self.each("growth", growths, look)
+        self.each("growth", places(count), look)
 
     # ---- devices
 
