@@ -1,7 +1,8 @@
-//! Decimal texts of numbers, kept in place: nothing is allocated for them.
+//! Decimal texts of numbers: nothing is allocated for them.
 
-ghost use Rattle.std.specs.Prelude.{◌≡◌, IfSome};
+ghost use Rattle.std.specs.Prelude.{◌≡◌, true, IfSome};
 ghost use Rattle.std.specs.Fmt.{signed_decimal};
+ghost use Rattle.std.specs.Str.{chars};
 ghost use Rattle.tcl_values.specs.Numerals.{digits, AreDigits};
 
 use itoa::Buffer;
@@ -44,5 +45,23 @@ impl Digits {
             Ok(text) => text,
             Err(_) => unreachable!(),
         }
+    }
+}
+
+/// Is the text the number's decimal text?
+pub(crate) fn is_decimal(n: i64, text: &str) -> bool
+    ensures { result ≡ true → chars text.now ≡ signed_decimal n }
+{
+    let mut buffer = Buffer::new();
+    buffer.format(n) == text
+}
+
+/// The number whose decimal text this is.
+pub(crate) fn decimal_number(text: &str) -> Option<i64>
+    ensures { IfSome result (λ n. chars text.now ≡ signed_decimal n) }
+{
+    match text.parse::<i64>() {
+        Ok(n) => if is_decimal(n, text) { Some(n) } else { None },
+        Err(_) => None,
     }
 }

@@ -44,6 +44,7 @@ mod single;
 mod taking;
 mod value;
 mod writing;
+mod written;
 
 pub use change::Change;
 pub use dictionary::Dictionary;

@@ -14,6 +14,7 @@ use crate::pairs::dict_element;
 use crate::row::Row;
 use crate::single::{is_word, number_row};
 use crate::value::{Held, Value};
+use crate::written::read_written;
 use std::alloc::{AllocError, Global};
 use std::rc::{Rc, RcStr};
 use tcl_chars::Fault;
@@ -34,7 +35,7 @@ pub(crate) fn plain_elements(alloc: Global, words: Vec<RcStr>) -> Result<Vec<Ele
 }
 
 /// The words that a text is read as. A plain word is shared.
-fn words(alloc: Global, text: &RcStr) -> Result<Vec<RcStr>, Fault>
+pub(crate) fn words(alloc: Global, text: &RcStr) -> Result<Vec<RcStr>, Fault>
     ensures { Answers (λ v. map text_of v.items) result (elements_of (text_of text.now)) }
 {
     if is_word(text.as_str()) {
@@ -71,7 +72,11 @@ fn read_shared(held: &Held, alloc: Global) -> Result<Rc<Items>, Fault>
         return Ok(items.clone()?);
     }
     let text = held.text(alloc)?;
-    let items = read_text(alloc, text)?;
+    let items = if held.is_written() {
+        read_written(alloc, text)?
+    } else {
+        read_text(alloc, text)?
+    };
     held.keep_list(&items)?;
     Ok(items)
 }

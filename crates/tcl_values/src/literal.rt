@@ -21,6 +21,8 @@ use tcl_chars::{Dialect, Whole, read_whole};
 #[derive(Drop)]
 pub(crate) struct Literal {
     pub(crate) text: RcStr,
+    /// Does it stand in a script?
+    pub(crate) is_written: bool,
     /// Is it known to be ASCII?
     ascii: bool,
     /// The numbers that it is read as, where it begins as a number does and is one in each dialect.
@@ -76,6 +78,7 @@ impl Literal {
         let marks = Marks::of(alloc, text.as_str(), ascii);
         Literal {
             text,
+            is_written: true,
             ascii,
             numbers,
             marks,
@@ -92,6 +95,7 @@ impl Literal {
     {
         Literal {
             text,
+            is_written: false,
             ascii,
             numbers: None,
             marks,

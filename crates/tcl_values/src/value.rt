@@ -9,13 +9,13 @@ ghost use Rattle.tcl_list.specs.Texts.{text_of};
 ghost use Rattle.tcl_values.specs.Shape.{held_text, is_dict, is_row, IsGrown, IsHeld};
 
 use crate::composed::{Composed, extend, joined};
+use crate::digits::{decimal_number, is_decimal};
 use crate::element::{Items, Pairs};
 use crate::items::{row_text, show};
 use crate::literal::Literal;
 use crate::marks::{Marks, stays_ascii};
 use crate::named::Named;
 use crate::pairs::{dict_text, show_pairs};
-use itoa::Buffer;
 use std::alloc::{AllocError, Global};
 use std::marker::Model;
 use std::rc::{Rc, RcStr};
@@ -126,14 +126,6 @@ impl Model for Value {
     ghost invariant = { IsValue };
 }
 
-/// Is the text the number's decimal text?
-fn is_decimal(n: i64, text: &str) -> bool
-    ensures { result ≡ true → chars text.now ≡ signed_decimal n }
-{
-    let mut buffer = Buffer::new();
-    buffer.format(n) == text
-}
-
 /// The number that a text is read as, if the text is its decimal text.
 fn canonical(text: &str, whole: Whole) -> Option<i64>
     ensures { IfSome result (λ n. chars text.now ≡ signed_decimal n) }
@@ -235,13 +227,9 @@ impl Value {
     pub fn of_decimal(text: &str) -> Option<Value>
         ensures { IfSome result (λ v. v ≡ chars text.now) }
     {
-        match text.parse::<i64>() {
-            Ok(n) => if is_decimal(n, text) {
-                Some(Value::of_int(n))
-            } else {
-                None
-            },
-            Err(_) => None,
+        match decimal_number(text) {
+            Some(n) => Some(Value::of_int(n)),
+            None => None,
         }
     }
 

@@ -1,6 +1,6 @@
 use Rattle.std.proofs.Common.{◌∙◌, sym}
 use Rattle.tcl_values.proofs.Decimals.{same_printed}
-use Rattle.tcl_values.proofs.value.is_decimal.Goals as goal
+use Rattle.tcl_values.proofs.digits.is_decimal.Goals as goal
 
 pub returns : goal.returns
 returns c =
