@@ -169,22 +169,22 @@ impl Interp {
         if self.failed {
             return Outcome::Failed;
         }
-        let mut units = budget;
+        let mut left = budget;
         let ended = run_noted(
             self.alloc,
             &mut self.frames,
             &mut self.table,
             &mut self.codes,
             world,
-            &mut units,
+            &mut left,
             script,
             places,
         );
         let _active = self.frames.active();
         self.frames.unwind();
-        let outcome = outcome_of(self.alloc, ended, units);
-        self.failed = outcome_fails(&outcome);
-        outcome
+        let told = outcome_of(self.alloc, ended, left);
+        self.failed = outcome_fails(&told);
+        told
     }
 
     /// The text of a global variable, or of an element; `None` where there is none, for an array, and for an element of

@@ -18,6 +18,6 @@ returns-clause-run g c sound =
     let before = channels_of g.R.Input.to_come g.W.Output.written g.E.Output.written c.args.world.now in
     let after = channels_of g.R.Input.to_come g.W.Output.written g.E.Output.written new.devices in
     let left : frame_at new.frames.frames 0 ≡ frame_at c.unwind.new.self.frames 0 = sym (ap (λ (f : Standing). frame_at f.frames 0) c.unwind.ensures ∙ unwound_globals new.frames.frames) in
-    subst (λ (globals : Frame). Ends c.outcome_of-outcome.result (run_script shows.dialect (chars c.args.script.now) (state_at g.R.Input.to_come g.W.Output.written g.E.Output.written shows c.args.world.now c.args.budget)) (record { globals = globals; commands = new.table; channels = after })) left
-    (run_ends i.codes shows i.frames i.table before c.args.budget (chars c.args.script.now) new.frames new.table after new.units c.run_noted-ended.result c.outcome_of-outcome.result (ap (λ (s : Shows). s.dialect) c.self.view_is) c.self.invariant
-    (ap (λ (s : Shows). s.globals) c.self.view_is) (ap (λ (s : Shows). s.commands) c.self.view_is) c.run_noted-ended.ensures.follows c.outcome_of-outcome.ensures)
+    subst (λ (globals : Frame). Ends c.outcome_of-told.result (run_script shows.dialect (chars c.args.script.now) (state_at g.R.Input.to_come g.W.Output.written g.E.Output.written shows c.args.world.now c.args.budget)) (record { globals = globals; commands = new.table; channels = after })) left
+    (run_ends i.codes shows i.frames i.table before c.args.budget (chars c.args.script.now) new.frames new.table after new.units c.run_noted-ended.result c.outcome_of-told.result (ap (λ (s : Shows). s.dialect) c.self.view_is) c.self.invariant
+    (ap (λ (s : Shows). s.globals) c.self.view_is) (ap (λ (s : Shows). s.commands) c.self.view_is) c.run_noted-ended.ensures.follows c.outcome_of-told.ensures)
