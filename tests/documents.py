@@ -136,6 +136,14 @@ def _(tested, room):
         raise Wrong(f"README.md names {told}, and docs/GATE.md {measured}")
 
 
+@check("documents/minutes-are-those-that-were-measured")
+def _(tested, room):
+    told = re.search(r"which took (\d+) minutes from nothing", page("README.md"))
+    measured = re.search(r"^`rt all check --jobs 4`, .* takes (\d+) min from nothing on 4 cores", page("docs/GATE.md"), re.MULTILINE)
+    if not told or not measured or told[1] != measured[1]:
+        raise Wrong("README.md and docs/GATE.md tell other minutes")
+
+
 def stands_on():
     """The crates of crates.txt, each with those that it stands on."""
     lines = [line for line in page("crates.txt").splitlines() if line and not line.startswith("#")]
