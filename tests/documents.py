@@ -1,10 +1,8 @@
-"""Checks of what README.md and docs/MANUAL.md say of themselves and of the sources: their links, their examples and their lists."""
+"""Checks of what README.md and docs/MANUAL.md say of themselves, of the commands and of the sources: links, examples, usages, lists."""
 import ast
 import glob
 import os
 import re
-import shutil
-import subprocess
 import sys
 
 import casefile
@@ -12,6 +10,7 @@ from program import TOP, Program, Wrong, check, expect, run_text
 
 PAGES = ("README.md", "docs/MANUAL.md")
 EXAMPLE = re.compile(r"^```tcl (\S+)( own)?\n(.*?)^```$", re.MULTILINE | re.DOTALL)
+MARKS = ("=> ", "<= ", "!> ")
 
 
 def page(name):
@@ -46,9 +45,28 @@ def _(tested, room):
 # ---- the manual's examples
 
 
+def marked(lines, mark):
+    """What the lines of an example with this mark say; without a mark, the script."""
+    found = [line[3:] if mark else line for line in lines if (line[:3] if line[:3] in MARKS else "") == mark]
+    return "".join(line + "\n" for line in found).encode()
+
+
+@check("manual/examples-are-cases")
+def _(tested, room):
+    examples = {name: text for name, _, text in EXAMPLE.findall(page("docs/MANUAL.md"))}
+    folder = f"{TOP}/tests/cases/manual"
+    names = {os.path.basename(path)[: -len(".case")] for path in casefile.paths_below(folder)}
+    missing("examples", names, examples)
+    for name, text in examples.items():
+        case, lines = casefile.load(f"{folder}/{name}.case"), text.splitlines()
+        parts = [case.script, case.stdout, case.stdin, case.stderr]
+        if parts != [marked(lines, mark) for mark in ("", *MARKS)]:
+            raise Wrong(f"the case is another: {name}")
+
+
 @check("documents/each-command-has-an-example")
 def _(tested, room):
-    scripts = [line for _, _, text in EXAMPLE.findall(page("docs/MANUAL.md")) for line in text.splitlines() if line[:3] not in ("=> ", "<= ", "!> ")]
+    scripts = [line for _, _, text in EXAMPLE.findall(page("docs/MANUAL.md")) for line in text.splitlines() if line[:3] not in MARKS]
     begins = set(re.findall(r"(?:^|[\[{};\"])\s*([a-z]+)\b", "\n".join(scripts), re.MULTILINE))
     got = run_text(tested, room, "puts [info commands]\n")
     wanting = [name for name in got.stdout.decode().split() if name not in begins]
@@ -87,6 +105,43 @@ def _(tested, room):
     wanting = [text for text in scripts if text not in tried]
     if len(scripts) < 10 or wanting:
         raise Wrong(f"of {len(scripts)} these aren't tried: {wanting}")
+
+
+# ---- the commands
+
+
+@check("manual/count-of-commands")
+def _(tested, room):
+    """README.md tells how many commands there are."""
+    got = run_text(tested, room, "puts [llength [info commands]]\n")
+    told = re.search(r"all rules of Tcl's syntax, and (\d+) commands", page("README.md"))
+    expect(got, 0, f"{told[1]}\n".encode() if told else b"not told")
+
+
+@check("manual/names-every-usage")
+def _(tested, room):
+    """The usage of each command and of each subcommand stands in the manual."""
+    script = """
+        foreach name $::names {if {$name ne "exit"} {lappend calls $name}}
+        foreach name {array dict info string} {
+            catch {$name nosuch} told
+            set at [string first "must be " $told]
+            set names [split [string map {", or " , ", " ,} [string range $told $at+8 end]] ,]
+            foreach subcommand $names {lappend calls "$name $subcommand"}
+        }
+        foreach call $calls {
+            foreach words {{} {{}} {a b c d e f g h i}} {
+                if {[catch {eval $call $words} told] && [string match "wrong # args: should be*" $told]} {puts $told}
+            }
+        }
+    """
+    # in a procedure, since what is called may set variables
+    got = run_text(tested, room, f"set names [info commands]\nproc tell {{}} {{{script}}}\ntell\n")
+    usages = set(re.findall(r'should be "(.*)"$', got.stdout.decode(), re.MULTILINE))
+    manual = " ".join(page("docs/MANUAL.md").split())
+    wanting = sorted(usage for usage in usages if f"`{usage}`" not in manual and " subcommand ?arg" not in usage)
+    if got.status or len(usages) < 80 or wanting:
+        raise Wrong(f"{got.stderr.decode()}, of {len(usages)} usages these are wanting: {wanting}")
 
 
 # ---- what README.md says of the sources
