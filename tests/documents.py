@@ -6,7 +6,8 @@ import re
 import sys
 
 import casefile
-from program import TOP, Program, Wrong, check, expect, run_text
+from program import TOP, Wrong, check, expect, run_text
+from remarks import tclsh_of_8_6
 
 PAGES = ("README.md", "docs/MANUAL.md")
 EXAMPLE = re.compile(r"^```tcl (\S+)( own)?\n(.*?)^```$", re.MULTILINE | re.DOTALL)
@@ -84,8 +85,8 @@ def _(tested, room):
 @check("documents/own-is-otherwise-in-tclsh")
 def _(tested, room):
     """Left out where there is no tclsh 8.6."""
-    tclsh = Program("tclsh")
-    if not tclsh.is_there() or not run_text(tclsh, room, "puts $tcl_version").stdout.startswith(b"8.6"):
+    tclsh = tclsh_of_8_6(room)
+    if not tclsh:
         return False
     for name, own, _ in EXAMPLE.findall(page("docs/MANUAL.md")):
         case = casefile.load(f"{TOP}/tests/cases/manual/{name}.case")

@@ -3,6 +3,7 @@ how it counts."""
 import os
 import re
 import subprocess
+import sys
 
 from launcher import write_script
 from program import TOP, Result, Wrong, check, write
@@ -26,7 +27,9 @@ def ended(room, rt=True):
     for name in ("tclint", "tclwhere"):
         os.makedirs(f"{room}/crates/{name}/out")
         write(room, name, f"crates/{name}/out/{name}")
-    environment = dict(os.environ, PATH=f"{room}/bin:/usr/bin:/bin" if rt else "/usr/bin:/bin")
+    os.makedirs(f"{room}/python")
+    os.symlink(sys.executable, f"{room}/python/python3")
+    environment = dict(os.environ, PATH=f"{room}/{'bin' if rt else 'nowhere'}:{room}/python:/usr/bin:/bin")
     ran = subprocess.run([f"{room}/test"], cwd="/", env=environment, stdin=subprocess.DEVNULL, capture_output=True, check=False)
     return Result(ran.returncode, ran.stdout, ran.stderr)
 
