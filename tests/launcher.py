@@ -298,6 +298,20 @@ def _(tested, room):
     expect(Result(ran.returncode, ran.stdout, ran.stderr), 0, b"x\n")
 
 
+@check("launcher/install-is-found-by-names")
+def _(tested, room):
+    """Where PREFIX/bin is on PATH; the manual page where there is a command man."""
+    checkout = Checkout(room)
+    checkout.script("top/release/tclwhere", ECHO)
+    checkout.run("--install", f"{room}/p")
+    environment = dict(os.environ, PATH=f"{room}/p/bin:/usr/bin:/bin")
+    environment.pop("MANPATH", None)
+    page = "man -w tclint" if shutil.which("man") else f'echo "{room}/p/share/man/man1/tclint.1"'
+    ran = subprocess.run(["sh", "-c", f"tclint; tclwhere x; {page}"], cwd="/", env=environment, capture_output=True)
+    wanted = f"released\nx\n{room}/p/share/man/man1/tclint.1\n"
+    expect(Result(ran.returncode, ran.stdout, ran.stderr), 0, wanted.encode())
+
+
 @check("launcher/install-nothing")
 def _(tested, room):
     checkout = Checkout(room)
