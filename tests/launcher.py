@@ -1,4 +1,4 @@
-"""Checks of the launcher, ./tclint: which program it runs, and what it says. Each has a small checkout of its own, in
+"""Checks of the launchers, ./tclint and ./tclwhere: which program they run, and what they say. Each has a small checkout of its own, in
 which programs and the command rt are scripts that only say their names."""
 import os
 import re
@@ -10,9 +10,10 @@ from program import TOP, USAGE, Result, Wrong, check, expect, write
 RT = """#!/bin/sh
 case "$1" in
 all) printf 'quick pass\\n== low\\nok\\n== low\\n== tclint\\nok\\n== summary\\n'; echo "$@" >>"$CALLS" ;;
-run) mkdir -p out && printf '#!/bin/sh\\necho built\\n' >out/tclint && chmod +x out/tclint; echo "$@" >>"$CALLS"; exit "$BUILDS" ;;
+run) mkdir -p out && printf '#!/bin/sh\\necho built\\n' >out/${PWD##*/} && chmod +x out/${PWD##*/}; echo "$@" >>"$CALLS"; exit "$BUILDS" ;;
 esac
 """
+ECHO = '#!/bin/sh\necho "$@"\n'
 BUILT = re.compile(
     rb"tclint: not built for these sources: proving the 2 crates on \d+ processors "
     rb"\(docs/GATE.md measured \d+ min from nothing on \d+ cores\), less where earlier work is kept\n"
@@ -22,16 +23,21 @@ BUILT = re.compile(
 )
 
 
+def write_script(path, text):
+    """Writes what is to be run, by a process of its own: a file that this process has open for writing is held, for a moment, by
+    whatever another check starts just then, and can't be run as long as it is."""
+    os.makedirs(os.path.dirname(path), exist_ok=True)
+    subprocess.run(["sh", "-c", 'cat >"$0" && chmod 755 "$0"', path], input=text.encode(), check=True)
+
+
 class Checkout:
-    """A checkout with two crates, and with a release of them if it is wanted. What is run in it is written by processes of their
-    own: a file that this process has open for writing is held, for a moment, by whatever another check starts just then, and
-    can't be run as long as it is."""
+    """A checkout with two crates, and with a release of them if it is wanted."""
 
     def __init__(self, room, released=True):
         self.room, self.top = room, f"{room}/top"
-        for folder in ("top/crates/low/src", "top/crates/tclint/src", "top/docs", "top/tests", "bin"):
+        for folder in ("top/crates/low/src", "top/crates/tclint/src", "top/crates/tclwhere", "top/docs", "top/tests", "bin"):
             os.makedirs(f"{room}/{folder}")
-        for file in ("tclint", "docs/GATE.md", "docs/tclint.1", "tests/sources"):
+        for file in ("tclint", "tclwhere", "docs/GATE.md", "docs/tclint.1", "tests/sources"):
             subprocess.run(["cp", f"{TOP}/{file}", f"{self.top}/{file}"], check=True)
         write(self.top, "# NAME: the crates that it stands on\nlow:\ntclint: low\n", "crates.txt")
         for crate, file in (("low", "lib"), ("tclint", "main")):
@@ -42,9 +48,7 @@ class Checkout:
             write(self.top, self.sum() + "\n", "release/sources.sum")
 
     def script(self, name, text):
-        os.makedirs(os.path.dirname(f"{self.room}/{name}"), exist_ok=True)
-        words = ["sh", "-c", 'cat >"$0" && chmod 755 "$0"', f"{self.room}/{name}"]
-        subprocess.run(words, input=text.encode(), check=True)
+        write_script(f"{self.room}/{name}", text)
 
     def sum(self, **environment):
         by = dict(os.environ, **environment)
@@ -53,10 +57,10 @@ class Checkout:
     def change(self, text="new\n"):
         write(self.top, text, "crates/low/src/lib.rt")
 
-    def run(self, *words, builds=0, rt="bin"):
+    def run(self, *words, builds=0, rt="bin", launcher="tclint"):
         path = f"{self.room}/{rt}:/usr/bin:/bin"
         environment = dict(os.environ, PATH=path, CALLS=f"{self.room}/calls", BUILDS=str(builds))
-        command = [f"{self.top}/tclint", *words]
+        command = [f"{self.top}/{launcher}", *words]
         ran = subprocess.run(command, cwd=self.room, env=environment, stdin=subprocess.DEVNULL, capture_output=True)
         return Result(ran.returncode, ran.stdout, ran.stderr)
 
@@ -152,12 +156,43 @@ def _(tested, room):
     expect(got, 126, b"", got.stderr)
 
 
+# ---- the launcher of tclwhere
+
+WHERE_BUILDS = b"tclwhere: not built for these sources: proving and building; out/where.log says how far it is\n"
+
+
+@check("launcher/where-takes-the-release")
+def _(tested, room):
+    checkout = Checkout(room)
+    checkout.script("top/release/tclwhere", ECHO)
+    expect(checkout.run("x.tcl", "a b", launcher="tclwhere"), 0, b"x.tcl a b\n")
+    checkout.expect_untouched()
+
+
+@check("launcher/where-builds-after-a-change")
+def _(tested, room):
+    checkout = Checkout(room)
+    checkout.script("top/release/tclwhere", ECHO)
+    checkout.change()
+    expect(checkout.run("x.tcl", launcher="tclwhere"), 0, b"built\n", WHERE_BUILDS)
+    with open(f"{checkout.top}/out/where.log", encoding="utf-8") as file:
+        if "== tclint" not in file.read():
+            raise Wrong("how far it is doesn't stand there")
+    expect(checkout.run("x.tcl", launcher="tclwhere"), 0, b"built\n")
+    checkout.change("newer\n")
+    expect(checkout.run("x.tcl", launcher="tclwhere"), 0, b"built\n", WHERE_BUILDS)
+
+
+@check("launcher/where-without-rt")
+def _(tested, room):
+    said = b"tclwhere: it isn't built for these sources, and the command rt of the Rattle kit, which builds it, is not on PATH\n"
+    expect(Checkout(room).run("x.tcl", rt="nowhere", launcher="tclwhere"), 127, b"", said)
+
+
 # ---- what the launcher answers itself
 
 # the options of the usage, each with its value
 OPTIONS = re.findall(r"\?(-\w+(?: N)?)\?", USAGE.decode())
-ECHO = '#!/bin/sh\necho "$@"\n'
-
 
 @check("launcher/help")
 def _(tested, room):
@@ -261,6 +296,23 @@ def _(tested, room):
     expect_installed(checkout, f"{room}/p", f"{checkout.top}/release/tclint")
     ran = subprocess.run([f"{room}/p/bin/tclwhere", "x"], capture_output=True)
     expect(Result(ran.returncode, ran.stdout, ran.stderr), 0, b"x\n")
+
+
+@check("launcher/install-is-found-by-names")
+def _(tested, room):
+    """Where PREFIX/bin is on PATH; the manual page where there is man-db."""
+    checkout = Checkout(room)
+    checkout.script("top/release/tclwhere", ECHO)
+    checkout.run("--install", f"{room}/p")
+    environment = dict(os.environ, PATH=f"{room}/p/bin:/usr/bin:/bin")
+    environment.pop("MANPATH", None)
+    names = [("tclint", "released\n"), ("tclwhere x", "x\n")]
+    version = subprocess.run(["sh", "-c", "man --version"], capture_output=True).stdout
+    if version.startswith(b"man 2."):
+        names.append(("man -w tclint", f"{room}/p/share/man/man1/tclint.1\n"))
+    for command, wanted in names:
+        ran = subprocess.run(["sh", "-c", command], cwd="/", env=environment, capture_output=True)
+        expect(Result(ran.returncode, ran.stdout, ran.stderr), 0, wanted.encode())
 
 
 @check("launcher/install-nothing")

@@ -5,7 +5,7 @@ The program is crates/tclwhere/out/tclwhere, or the one that TCLWHERE names. Wit
 import os
 
 import casefile
-from program import TOP, Program, Wrong, check, expect, shown
+from program import IO_FAULT, TOP, Program, Wrong, by_shell, check, expect, run_text, shown
 
 FOLDER = f"{TOP}/tests/where"
 USAGE = b"usage: tclwhere FILE ?arg ...?\n"
@@ -62,6 +62,23 @@ def _(tested, room):
             raise Wrong(f"{path}: no place is told")
         if told != b"" and case.status not in (1, 5):
             raise Wrong(f"{path}: {shown(told)} behind what is no error")
+
+
+def ends_check(name, text, redirection, status, stdout, message):
+    """Ends that are no error of the script: the same as by tclint, and no place is told."""
+
+    @check(f"where/{name}")
+    def _(tested, room):
+        if is_left_out():
+            return False
+        by = by_shell(f'{redirection[0]} exec "$0" "$@" {redirection[1]}')
+        for program in (tested, tclwhere()):
+            expect(run_text(program, room, text, by=by), status, stdout, message)
+
+
+ends_check("output-full", "proc p {} {puts a}\np\n", ("", ">/dev/full"), 4, b"", IO_FAULT)
+ends_check("input-closed", "puts a\nproc p {} {gets stdin}\ncatch p\n", ("", "<&-"), 4, b"a\n", IO_FAULT)
+ends_check("no-memory", "puts a\nproc p {} {while 1 {append ::s abcdefgh$::s}}\nset s {}\np\n", ("ulimit -v 100000;", ""), 3, b"a\n", b"out of memory\n")
 
 
 def words_check(name, words, status, stderr):
