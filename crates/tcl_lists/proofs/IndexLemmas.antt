@@ -1,8 +1,6 @@
 -- The element to which indices lead, a step at a time.
-use Rattle.std.proofs.Common.{◌≡◌, ◌≢◌, ℕ, zero, suc, ◌+◌, ◌<◌, ◌≤◌, List, [], ◌∷◌, length, drop, get_or, map, Ok, Err, sym, ap, ◌∙◌, refl, arith, ℤ, FitsSigned}
+use Rattle.std.proofs.Common.{◌≡◌, ◌≢◌, ℕ, zero, suc, ◌+◌, ◌<◌, ◌≤◌, List, [], ◌∷◌, length, drop, get_or, map, Ok, Err, sym, ap, ◌∙◌, refl, arith}
 use Rattle.std.proofs.lemmas.List.{drop_all, drop_more}
-use Rattle.std.specs.Fmt.{signed_decimal}
-use Rattle.std.specs.Int.{w64}
 use Rattle.tcl_chars.specs.Answers.{Stops}
 use Rattle.tcl_chars.specs.declared.fault.Fault.{Fault}
 use Rattle.tcl_chars.specs.declared.fault.Fault.TheVariants as fault
@@ -14,7 +12,6 @@ use Rattle.tcl_pages.specs.Answers.{Answer, ◌>>=◌}
 use Rattle.tcl_pages.specs.Lists.{index, element_or_empty, element_at, element_by, indices_of, lindex}
 use Rattle.tcl_pages.specs.Texts.{Text}
 use Rattle.tcl_pages.specs.Usage.{usage}
-use Rattle.tcl_values.proofs.Singles.{single_number}
 use Rattle.tcl_values.specs.Kept.{Kept, texts}
 
 -- a question whose answer is used in two steps
@@ -91,7 +88,7 @@ several_indices [] h = refl
 several_indices (a ∷ []) h = absurd (h refl)
 several_indices (a ∷ b ∷ ws) h = refl
 
-pub number_index : (ws : List Text) (w : Text) (z : ℤ) → length ws ≡ 1 → FitsSigned w64 z → w ≡ get_or ws 0 w → w ≡ signed_decimal z → indices_of ws ≡ Ok ws
-number_index [] w z h f is e = absurd (omega arith)
-number_index (a ∷ []) w z h f is e = ap elements_of (sym is ∙ e) ∙ single_number z f ∙ ap (λ t. Ok (t ∷ [])) (sym e ∙ is)
-number_index (a ∷ b ∷ ws) w z h f is e = absurd (omega arith)
+pub word_index : (ws : List Text) (w : Text) → length ws ≡ 1 → w ≡ get_or ws 0 w → elements_of w ≡ Ok (w ∷ []) → indices_of ws ≡ Ok ws
+word_index [] w h is e = absurd (omega arith)
+word_index (a ∷ []) w h is e = ap elements_of (sym is) ∙ e ∙ ap (λ t. Ok (t ∷ [])) is
+word_index (a ∷ b ∷ ws) w h is e = absurd (omega arith)

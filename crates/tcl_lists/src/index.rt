@@ -80,7 +80,7 @@ fn element_by(alloc: Global, words: &mut [Value], dialect: Dialect) -> Result<Va
     }
 }
 
-/// Is a lone index to be read as a list of indices? A number is an index itself.
+/// Is a lone index to be read as a list of indices? A number or a plain word is an index itself.
 pub fn is_index_list(indices: &[Value]) -> bool
     ensures lone { result ≡ true → length indices.now ≡ 1 }
     ensures themselves { result ≡ false → indices_of indices.now ≡ Ok indices.now }
@@ -88,10 +88,7 @@ pub fn is_index_list(indices: &[Value]) -> bool
     if indices.len() != 1 {
         return false;
     }
-    match indices[0].number() {
-        Some(_) => false,
-        None => true,
-    }
+    !indices[0].is_word()
 }
 
 /// `lindex list ?index ...?`: the element to which the indices lead; one word is a list of them.

@@ -10,7 +10,7 @@ ghost use Rattle.tcl_values.specs.Singles.{is_plain};
 
 use crate::element::{Element, Items};
 use crate::items::gathered;
-use crate::value::Held;
+use crate::value::{Held, Value};
 use std::alloc::{AllocError, Global};
 use std::rc::Rc;
 use tcl_chars::{is_list_space, split_first};
@@ -61,7 +61,17 @@ impl Held {
             Held::Name(name) => is_word(name.text.as_str()),
             Held::Grown(grown) => is_word(grown.text.as_str()),
             Held::Composed(composed) => is_word(composed.growing.text.as_str()),
-            _ => false,
+            Held::Literal(literal) => is_word(literal.text.as_str()),
+            Held::Row(_) | Held::Dict(_) => false,
         }
+    }
+}
+
+impl Value {
+    /// Is it seen at once that the list that its text is read as has one element, the text itself? So it is of a number and of a plain word.
+    pub fn is_word(&self) -> bool
+        ensures { result ≡ true → elements_of self.now ≡ Ok (self.now ∷ []) }
+    {
+        self.held.is_single()
     }
 }

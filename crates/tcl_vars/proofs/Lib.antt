@@ -4,7 +4,6 @@ pub mod JoinLemmas
 pub mod PutLemmas
 mod QuickLemmas
 mod QuickUpdateLemmas
-pub mod ReplaceLemmas
 pub mod SetLemmas
 pub mod UnsetLemmas
 pub mod One

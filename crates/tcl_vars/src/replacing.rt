@@ -8,12 +8,12 @@ ghost use Rattle.tcl_pages.specs.Lists.{indices_of};
 ghost use Rattle.tcl_pages.specs.Updates.{lset_words};
 ghost use Rattle.tcl_values.specs.Lists.{Leaves};
 
-use crate::elements::push_copies;
 use crate::path::put_at;
 use crate::words::{copy_at, list_at};
 use std::alloc::Global;
 use std::rc::RcStr;
 use tcl_chars::{Dialect, Fault};
+use tcl_lists::is_index_list;
 use tcl_values::Value;
 
 /// The words but the last.
@@ -24,20 +24,6 @@ fn all_but_last(words: &[Value]) -> &[Value]
         Some(front) => front,
         None => words,
     }
-}
-
-/// The indices that the words but the last are: a lone one is a list of them.
-fn index_words(alloc: Global, words: &mut [Value]) -> Result<Vec<Value>, Fault>
-    requires { 0 < length words.old }
-    ensures indices { Answers (λ v. v.items) result (indices_of (take (length words.old - 1) words.old)) }
-    ensures same { words.new ≡ words.old }
-{
-    if words.len() == 2 {
-        return list_at(alloc, words, 0);
-    }
-    let mut indices = Vec::new(alloc);
-    push_copies(&mut indices, all_but_last(&*words))?;
-    Ok(indices)
 }
 
 /// The fault of a value that is to be a list, and where it has none this message.
@@ -70,10 +56,15 @@ pub(crate) fn lset(
     if words.len() == 0 {
         return Ok(());
     }
-    match index_words(alloc, words) {
+    let last = words.len() - 1;
+    if !is_index_list(all_but_last(&*words)) {
+        let new = copy_at(&*words, last)?;
+        return put_at(alloc, value, words, last, new, dialect);
+    }
+    match list_at(alloc, words, 0) {
         Ok(mut indices) => {
             let count = indices.len();
-            let new = copy_at(&*words, words.len() - 1)?;
+            let new = copy_at(&*words, last)?;
             put_at(alloc, value, &mut indices, count, new, dialect)
         }
         Err(Fault::Error(message)) => Err(fault_of(alloc, value, message)),
