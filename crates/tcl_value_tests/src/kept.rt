@@ -78,6 +78,17 @@ fn without(alloc: Global, start: &str, path: &[&str]) -> Result<String, Fault> {
     left(alloc, dict, done)
 }
 
+/// What an element at the last of some places leaves of a text.
+fn placed(alloc: Global, start: &str, path: &[usize], new: &str) -> Result<String, Fault> {
+    let mut list = value(alloc, start)?;
+    let mut places = Vec::new(alloc);
+    for place in path {
+        places.push(*place)?;
+    }
+    let done = list.put_item_under(alloc, places, value(alloc, new)?);
+    left(alloc, list, done)
+}
+
 /// What elements at the end of the list under a key leave.
 fn lengthened(alloc: Global, start: &str, key: &str, more: &[&str]) -> Result<String, Fault> {
     changed(alloc, start, key, Change::Items(values(alloc, more)?))
@@ -223,6 +234,27 @@ fn values_are_put_under_a_path(rt: HostRuntime) -> Result<(), Fail> {
         ("a  1 b", ("a", "b"), "a  1 b: missing value to go with key"),
     ] {
         assert_eq!(rt; under(alloc, start, path, "x y")?.as_str(), want);
+    }
+    Ok(())
+}
+
+#[test]
+fn elements_under_places(rt: HostRuntime) -> Result<(), Fail> {
+    let alloc = rt.alloc();
+    for (start, path, want) in [
+        ("a  {b  {c d}}  e", [].as_slice(), "x y"),
+        ("a  {b  {c d}}  e", &[2], "a {b  {c d}} {x y}"),
+        ("a  {b  {c d}}  e", &[3], "a {b  {c d}} e {x y}"),
+        ("a  {b  {c d}}  e", &[1, 1, 0], "a {b {{x y} d}} e"),
+        ("a  {b  {c d}}  e", &[1, 2], "a {b {c d} {x y}} e"),
+        ("a  {b  {c d}}  e", &[3, 0], "a {b  {c d}} e {{x y}}"),
+        (
+            r"a  b \{",
+            &[2, 0],
+            r"a  b \{: unmatched open brace in list",
+        ),
+    ] {
+        assert_eq!(rt; placed(alloc, start, path, "x y")?.as_str(), want);
     }
     Ok(())
 }

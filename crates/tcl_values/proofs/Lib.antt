@@ -12,6 +12,7 @@ pub mod PairKept
 pub mod PairPlaces
 pub mod PairTexts
 pub mod PairWriting
+pub mod Placed
 pub mod Replaced
 pub mod Singles
 pub mod Truths

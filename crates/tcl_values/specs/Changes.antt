@@ -1,9 +1,12 @@
--- What comes to the value under a key of a dictionary (dict(n), append, lappend, set, unset).
-use Rattle.std.specs.Prelude.{ℕ, ◌+◌, [], ◌++◌, List, Option, None, Some, get_or, length, map, reverse, slice_set, Ok, Err}
+-- What comes to the value under a key of a dictionary (dict(n), append, lappend, set, unset), or to an element of a list in a list (lset(n)).
+use Rattle.std.specs.Prelude.{ℕ, ◌+◌, [], ◌∷◌, ◌++◌, List, Option, None, Some, get_or, length, map, reverse, slice_set, Ok, Err}
 use Rattle.tcl_chars.specs.Texts.{text_of}
+use Rattle.tcl_list.specs.Elements.{elements_of}
+use Rattle.tcl_list.specs.Written.{written}
 use Rattle.tcl_pages.specs.Answers.{Answer, ◌>>=◌}
 use Rattle.tcl_pages.specs.Dictionaries.{Pairs, pairs_of, put_key}
 use Rattle.tcl_pages.specs.DictPages.{dict_set, dict_unset, dictionary, under_key, unknown_key, value_at}
+use Rattle.tcl_pages.specs.Lists.{with_element}
 use Rattle.tcl_pages.specs.Texts.{Text}
 use Rattle.tcl_values.specs.Lists.{lengthened}
 use Rattle.tcl_values.specs.declared.change.Change.{Change}
@@ -54,3 +57,12 @@ after_key change t key = pairs_of t >>= λ ps. after_in change ps key >>= λ new
 -- the text of a dictionary with that change
 abbrev pub after_under : Change → Text → Text → Answer Text
 after_under c t key = under_key t key [] (after c)
+
+-- texts, of which the one at a place becomes another; behind the last the empty text does, which comes to them
+abbrev pub after_place : (Text → Answer Text) → List Text → ℕ → Answer (List Text)
+after_place change ts k = change (get_or ts k []) >>= λ new. Ok (with_element ts k new)
+
+-- the text of a list with an element at the last of some places, each of the list that the element at the place before is read as
+abbrev pub with_under : Text → List ℕ → Text → Answer Text
+with_under t [] v = Ok v
+with_under t (k ∷ ks) v = elements_of t >>= λ es. after_place (λ inner. with_under inner ks v) es k >>= λ new. Ok (written new)

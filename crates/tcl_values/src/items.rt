@@ -118,12 +118,13 @@ pub(crate) fn deepest(elements: &[Element]) -> u8
 }
 
 /// Adds an element at the end.
-fn add(own: &mut Items, element: Element) -> Result<(), AllocError>
+pub(crate) fn add(own: &mut Items, element: Element) -> Result<(), AllocError>
     requires element { element.depth < 64 }
     requires kept { AreKept own.old }
     ensures added { OnOk result (elements own.new ≡ elements own.old ++ element ∷ []) }
     ensures text { OnOk result (items_text own.new ≡ written (texts (elements own.new))) }
     ensures same { OnErr result (items_text own.new ≡ items_text own.old) }
+    ensures same_depth { OnErr result (own.new.depth ≡ own.old.depth) }
     ensures kept { AreKept own.new }
 {
     let depth = element.depth() + 1;
@@ -148,7 +149,7 @@ pub(crate) fn push_element(row: &mut Rc<Items>, element: Element) -> Result<(), 
 
 /// How deep a list is, one of whose elements has been replaced: it was `whole` deep, one with the element before as its only
 /// one would be `before` deep, and one with the new element as its only one is `new` deep.
-fn depth_after(elements: &[Element], whole: u8, before: u8, new: u8) -> u8
+pub(crate) fn depth_after(elements: &[Element], whole: u8, before: u8, new: u8) -> u8
     requires higher { whole ≤ new → depth_over elements.now ≡ new }
     requires lower { new < whole → before < whole → depth_over elements.now ≡ whole }
     requires limit { depth_over elements.now ≤ 64 }
@@ -262,35 +263,6 @@ pub(crate) fn forget_text(row: &mut Rc<Items>) -> Result<(), AllocError>
         drop_text(own);
     }
     Ok(())
-}
-
-/// Takes an element out of a list and leaves its text in its place.
-fn detach(own: &mut Items, index: usize) -> Result<Element, AllocError>
-    requires place { index < length (elements own.old) }
-    requires kept { AreKept own.old }
-    ensures element { IfOk result (λ e. slice_get (elements own.old) index ≡ Some e) }
-    ensures same { items_text own.new ≡ items_text own.old }
-    ensures kept { AreKept own.new }
-{
-    let plain = own.items[index].plain(*own.items.allocator())?;
-    let before = put(&mut own.items, index, plain);
-    let alone = before.depth() + 1;
-    own.depth = depth_after(&own.items, own.depth, alone, 1);
-    Ok(before)
-}
-
-/// An element of a list. Where nobody else holds the list, its text alone stays there, so that nobody else holds the element either.
-pub(crate) fn take_element(row: &mut Rc<Items>, index: usize) -> Result<Element, AllocError>
-    requires place { index < length (elements row.old.value) }
-    requires kept { AreKept row.old.value }
-    ensures element { IfOk result (λ e. slice_get (elements row.old.value) index ≡ Some e) }
-    ensures same { items_text row.new.value ≡ items_text row.old.value }
-    ensures kept { AreKept row.new.value }
-{
-    match Rc::get_mut(row) {
-        Some(own) => detach(own, index),
-        None => row.items[index].duplicate(),
-    }
 }
 
 /// Moves the `count` elements that stand behind the first `first` ones to the end.

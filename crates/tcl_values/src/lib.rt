@@ -7,7 +7,7 @@
 //! - [`Value`]: made by `of_text`, `of_shared`, `of_literal`, `of_name`, `of_string`, `of_int`, `of_list`; copied by `copy`. Read by `text`,
 //!   `shown`, `ascii` and `places`, as a number by `whole`, and without any reading by `number` and `known_number`, as a name by `sought` and `sought_command`, as a list by
 //!   `count`, `item`, `row`, `list`, `range`. Changed by
-//!   `append` at the end of the text, and as a list by `push`, `replace_item` and `splice`; `take_item` lends an element to a change.
+//!   `append` at the end of the text, and as a list by `push`, `replace_item`, `put_item_under` and `splice`.
 //!   As a dictionary made by `of_dict`, read by `dict_size`, `dict_get`, `dictionary`, changed by `dict_put`, `dict_put_under`, `dict_remove`, `dict_remove_under` and
 //!   `dict_change`.
 //! - [`Places`]: the characters of a text, found by their places.
@@ -38,6 +38,7 @@ mod named;
 mod numerals;
 mod pairs;
 mod places;
+mod placing;
 mod readings;
 mod row;
 mod single;

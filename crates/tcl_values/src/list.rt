@@ -9,7 +9,7 @@ ghost use Rattle.tcl_values.specs.Lists.{count_of, item_of, part_of, pushed, spl
 ghost use Rattle.tcl_values.specs.Shape.{elements, elements_held, held_text, is_row, items_text, AreKept, IsHeld};
 
 use crate::element::{Element, Entry, Items};
-use crate::items::{gathered, part, push_element, row_text, set_element, splice, take_element};
+use crate::items::{gathered, part, push_element, row_text, set_element, splice};
 use crate::pairs::dict_element;
 use crate::row::Row;
 use crate::single::{is_word, number_row};
@@ -333,29 +333,6 @@ impl Value {
                 let before = row.items[index].copy()?;
                 set_element(row, index, element)?;
                 Ok(Some(before))
-            }
-            _ => unreachable!(),
-        }
-    }
-
-    /// The element at a place of the list that the text is read as, as [`Value::item`], but taken out where nobody else holds the
-    /// list: its text alone stays. So the element is changed in place, before it is put back by [`Value::replace_item`].
-    ///
-    /// # Errors
-    ///
-    /// `Fault::Error` with the list's fault, `Fault::Memory`.
-    pub fn take_item(&mut self, alloc: Global, index: usize) -> Result<Option<Value>, Fault>
-        ensures item { Answers (λ o. o) result (item_of self.old index) }
-        ensures same { self.new ≡ self.old }
-    {
-        read_row(&mut self.held, alloc)?;
-        match &mut self.held {
-            Held::Row(row) => {
-                if row.items.len() <= index {
-                    return Ok(None);
-                }
-                let element = take_element(row, index)?;
-                Ok(Some(element.copy()?))
             }
             _ => unreachable!(),
         }

@@ -152,8 +152,8 @@ impl Element {
         }
     }
 
-    /// The element; where dictionaries of so many levels around it would be too deep, its text alone.
-    fn below(self, alloc: Global, levels: usize) -> Result<Element, AllocError>
+    /// The element; where lists or dictionaries of so many levels around it would be too deep, its text alone.
+    pub(crate) fn below(self, alloc: Global, levels: usize) -> Result<Element, AllocError>
         requires { levels < 64 }
         ensures text { IfOk result (λ e. e.text ≡ self.text) }
         ensures depth { IfOk result (λ e. e.depth + levels < 64) }

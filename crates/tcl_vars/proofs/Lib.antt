@@ -1,6 +1,7 @@
 pub mod AssignLemmas
 pub mod ElementLemmas
 pub mod JoinLemmas
+pub mod PlaceLemmas
 pub mod PutLemmas
 mod QuickLemmas
 mod QuickUpdateLemmas

@@ -14,7 +14,7 @@ use Rattle.tcl_pages.specs.Texts.{Text}
 use Rattle.tcl_vars.specs.Way.{place_by, element_in, put, seen, all_seen, way_of, put_all}
 use Rattle.tcl_vars.specs.declared.path.Level.{Level}
 
-as_it_is : {A : Type 0} (r : Answer A) → (r >>= λ x. Ok x) ≡ r
+pub as_it_is : {A : Type 0} (r : Answer A) → (r >>= λ x. Ok x) ≡ r
 as_it_is (Ok x) = refl
 as_it_is (Err m) = refl
 
@@ -79,7 +79,7 @@ sets_by_way d list (i ∷ is) v = by_list d list i is v (λ x. sets_by_way d x i
 way_step : (d : Dialect) (list inner t : Text) (k : ℕ) (is : List Text) → place_by d list t ≡ Ok k → element_in list k ≡ Ok inner → way_of d list (t ∷ is) ≡ (way_of d inner is >>= level_over list k)
 way_step d list inner t k is p e = ap (λ r. r >>= way_on d list is) p ∙ ap (λ r. r >>= λ x. way_of d x is >>= level_over list k) e
 
-words_from : (n at : ℕ) (ws : List Text) (t : Text) → at < n → n ≤ length ws → t ≡ get_or ws at [] → drop at (take n ws) ≡ t ∷ drop (at + 1) (take n ws)
+pub words_from : (n at : ℕ) (ws : List Text) (t : Text) → at < n → n ≤ length ws → t ≡ get_or ws at [] → drop at (take n ws) ≡ t ∷ drop (at + 1) (take n ws)
 words_from n at ws t h l w = front_at n ws at h l ∙ ap (λ u. u ∷ drop (at + 1) (take n ws)) (sym w)
 
 pub way_goes_on : (d : Dialect) (list inner t : Text) (k n at : ℕ) (ws : List Text) (done more : List (Text × ℕ)) → at < n → n ≤ length ws → t ≡ get_or ws at [] → more ≡ done ++ (list, k) ∷ []
@@ -118,37 +118,19 @@ level_put ls rest l v w e h = sym (whole_levels ls rest l v e ∙ ap (λ r. r >>
 pub level_stops : (f : Fault) (ls rest : List Level) (l : Level) (v : Text) → ls ≡ rest ++ l ∷ [] → Stops f (put l.list l.place v) → Stops f (put_all (all_seen ls) v)
 level_stops f ls rest l v e s = stops_same f _ _ (sym (whole_levels ls rest l v e)) (stops_first f (put l.list l.place v) (λ x. put_all (all_seen rest) x) s)
 
--- ---- the outermost list itself: its place, and the element there
+-- ---- the way there and back
 
-pub record IsFirstLevel (d : Dialect) (list inner : Text) (k n : ℕ) (ws : List Text) (t : Text) : Type 0 where
-  pub some : 0 < n
-  pub within : n ≤ length ws
-  pub word : t ≡ get_or ws 0 []
-  pub place : place_by d list t ≡ Ok k
-  pub element : element_in list k ≡ Ok inner
+pub way_ends : (f : Fault) (d : Dialect) (list : Text) (is : List Text) (v : Text) → Stops f (way_of d list is) → Stops f (element_set d list is v)
+way_ends f d list is v s = stops_same f _ _ (sym (sets_by_way d list is v)) (stops_first f (way_of d list is) (change v) s)
 
-first_level : (d : Dialect) (list inner : Text) (k n : ℕ) (ws : List Text) (t v : Text) → IsFirstLevel d list inner k n ws t
-    → element_set d list (take n ws) v ≡ ((way_of d inner (drop 1 (take n ws)) >>= level_over list k) >>= change v)
-first_level d list inner k n ws t v h =
-    sets_by_way d list (take n ws) v
-    ∙ ap (λ r. r >>= change v) (ap (way_of d list) (words_from n 0 ws t h.some h.within h.word) ∙ way_step d list inner t k (drop 1 (take n ws)) h.place h.element)
+back_again : (d : Dialect) (list : Text) (is : List Text) (v : Text) (ls : List (Text × ℕ)) → way_of d list is ≡ Ok ls → put_all ls v ≡ element_set d list is v
+back_again d list is v ls e = sym (sets_by_way d list is v ∙ ap (λ r. r >>= change v) e)
 
-pub first_way_stops : (f : Fault) (d : Dialect) (list inner : Text) (k n : ℕ) (ws : List Text) (t v : Text) → IsFirstLevel d list inner k n ws t → Stops f (way_of d inner (drop 1 (take n ws)))
-    → Stops f (element_set d list (take n ws) v)
-first_way_stops f d list inner k n ws t v h s =
-    stops_same f _ _ (sym (first_level d list inner k n ws t v h)) (stops_first f _ (change v) (stops_first f (way_of d inner (drop 1 (take n ws))) (level_over list k) s))
+pub way_back : (d : Dialect) (list : Text) (is : List Text) (v new : Text) (ls : List (Text × ℕ)) → way_of d list is ≡ Ok ls → put_all ls v ≡ Ok new → element_set d list is v ≡ Ok new
+way_back d list is v new ls e p = sym (back_again d list is v ls e) ∙ p
 
-put_first : (d : Dialect) (list inner : Text) (k n : ℕ) (ws : List Text) (t v : Text) (ls : List (Text × ℕ)) → IsFirstLevel d list inner k n ws t → way_of d inner (drop 1 (take n ws)) ≡ Ok ls
-    → element_set d list (take n ws) v ≡ (put_all ls v >>= put list k)
-put_first d list inner k n ws t v ls h e = first_level d list inner k n ws t v h ∙ ap (λ r. (r >>= level_over list k) >>= change v) e
-
-pub first_put_stops : (f : Fault) (d : Dialect) (list inner : Text) (k n : ℕ) (ws : List Text) (t v : Text) (ls : List (Text × ℕ)) → IsFirstLevel d list inner k n ws t → way_of d inner (drop 1 (take n ws)) ≡ Ok ls
-    → Stops f (put_all ls v) → Stops f (element_set d list (take n ws) v)
-first_put_stops f d list inner k n ws t v ls h e s = stops_same f _ _ (sym (put_first d list inner k n ws t v ls h e)) (stops_first f (put_all ls v) (put list k) s)
-
-pub first_put : (d : Dialect) (list inner : Text) (k n : ℕ) (ws : List Text) (t v el : Text) (ls : List (Text × ℕ)) → IsFirstLevel d list inner k n ws t → way_of d inner (drop 1 (take n ws)) ≡ Ok ls
-    → put_all ls v ≡ Ok el → put list k el ≡ element_set d list (take n ws) v
-first_put d list inner k n ws t v el ls h e p = sym (put_first d list inner k n ws t v ls h e ∙ ap (λ r. r >>= put list k) p)
+pub back_stops : (f : Fault) (d : Dialect) (list : Text) (is : List Text) (v : Text) (ls : List (Text × ℕ)) → way_of d list is ≡ Ok ls → Stops f (put_all ls v) → Stops f (element_set d list is v)
+back_stops f d list is v ls e s = stops_same f _ _ (back_again d list is v ls e) s
 
 -- ---- one index alone
 

@@ -48,3 +48,12 @@ put_all [] v = Ok v
 put_all (l ∷ ls) v = do
   inner ← put_all ls v
   put l.0 l.1 inner
+
+-- the places that indices say, each in the list that the element at the place before is read as
+abbrev pub places_of : Dialect → List ℕ → List (List ℕ) → Answer (List ℕ)
+places_of dialect list [] = Ok []
+places_of dialect list (i ∷ is) = do
+  k ← place_by dialect list i
+  inner ← element_in list k
+  rest ← places_of dialect inner is
+  Ok (k ∷ rest)

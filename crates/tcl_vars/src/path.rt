@@ -1,6 +1,6 @@
 //! An element of lists in lists, changed in its place: lset(n).
 
-ghost use Rattle.std.specs.Prelude.{◌≡◌, ◌<◌, ◌≤◌, ◌-◌, length, take, drop, map, get_or, IfOk, OnErr};
+ghost use Rattle.std.specs.Prelude.{◌≡◌, ◌<◌, ◌≤◌, length, take, Ok, OnErr};
 ghost use Rattle.tcl_arguments.specs.WordAt.{word};
 ghost use Rattle.tcl_chars.specs.Answers.{Answers};
 ghost use Rattle.tcl_pages.specs.Lists.{element_set};
@@ -42,12 +42,12 @@ fn place_by(
     Ok(place as usize)
 }
 
-/// The element at a place, taken out where nobody else holds the list, and the empty text where there is none.
-fn element_taken(alloc: Global, list: &mut Value, place: usize) -> Result<Value, Fault>
+/// The element at a place, and the empty text where there is none.
+fn element_of(alloc: Global, list: &mut Value, place: usize) -> Result<Value, Fault>
     ensures element { Answers (λ v. v) result (way.element_in list.old place) }
     ensures same { list.new ≡ list.old }
 {
-    match list.take_item(alloc, place)? {
+    match list.item(alloc, place)? {
         Some(element) => Ok(element),
         None => Ok(empty(alloc)?),
     }
@@ -65,24 +65,50 @@ fn put(alloc: Global, list: &mut Value, place: usize, element: Value) -> Result<
     list.push(alloc, element)
 }
 
-/// The lists on the way that indices lead, those from `first` on in front of `last`.
+/// The places that indices say: one of the list, and those behind it each of the list that the element at the place before is read as.
+fn places_of(
+    alloc: Global,
+    list: &mut Value,
+    first: usize,
+    indices: &mut [Value],
+    count: usize,
+    dialect: Dialect,
+) -> Result<Vec<usize>, Fault>
+    requires some { 1 ≤ count }
+    requires within { count ≤ length indices.old }
+    requires first { way.place_by dialect list.old (word indices.old 0) ≡ Ok first }
+    ensures places { Answers (λ v. v.items) result (way.places_of dialect list.old (take count indices.old)) }
+    ensures same { list.new ≡ list.old }
+    ensures indices { indices.new ≡ indices.old }
+{
+    let mut places = Vec::with_capacity(alloc, count)?;
+    places.push(first)?;
+    let mut inner = element_of(alloc, list, first)?;
+    for at in 1..count {
+        let place = place_by(alloc, &mut inner, indices, at, dialect)?;
+        inner = element_of(alloc, &mut inner, place)?;
+        places.push(place)?;
+    }
+    Ok(places)
+}
+
+/// The lists on the way that indices lead.
 fn levels_of(
     alloc: Global,
     list: Value,
     indices: &mut [Value],
-    first: usize,
-    last: usize,
+    count: usize,
     dialect: Dialect,
 ) -> Result<Vec<Level>, Fault>
-    requires { last ≤ length indices.old }
-    ensures levels { Answers (λ v. way.all_seen v.items) result (way.way_of dialect list (drop first (take last indices.old))) }
+    requires { count ≤ length indices.old }
+    ensures levels { Answers (λ v. way.all_seen v.items) result (way.way_of dialect list (take count indices.old)) }
     ensures same { indices.new ≡ indices.old }
 {
-    let mut levels = Vec::new(alloc);
+    let mut levels = Vec::with_capacity(alloc, count)?;
     let mut list = list;
-    for at in first..last {
+    for at in 0..count {
         let place = place_by(alloc, &mut list, indices, at, dialect)?;
-        let inner = element_taken(alloc, &mut list, place)?;
+        let inner = element_of(alloc, &mut list, place)?;
         levels.push(Level { list, place })?;
         list = inner;
     }
@@ -103,7 +129,27 @@ fn put_back(alloc: Global, levels: Vec<Level>, new: Value) -> Result<Value, Faul
     Ok(element)
 }
 
-/// Puts a new element where the first `count` indices lead.
+/// Puts a new element where many indices lead.
+fn put_far(
+    alloc: Global,
+    value: &mut Value,
+    indices: &mut [Value],
+    count: usize,
+    new: Value,
+    dialect: Dialect,
+) -> Result<(), Fault>
+    requires { count ≤ length indices.old }
+    ensures done { Leaves value.new (element_set dialect value.old (take count indices.old) new) result }
+    ensures same { OnErr result (value.new ≡ value.old) }
+    ensures indices { indices.new ≡ indices.old }
+{
+    let start = value.copy()?;
+    let levels = levels_of(alloc, start, indices, count, dialect)?;
+    *value = put_back(alloc, levels, new)?;
+    Ok(())
+}
+
+/// Puts a new element where the first `count` indices lead. The lists on the way are read first, and then changed in their places.
 pub(crate) fn put_at(
     alloc: Global,
     value: &mut Value,
@@ -117,6 +163,9 @@ pub(crate) fn put_at(
     ensures same { OnErr result (value.new ≡ value.old) }
     ensures indices { indices.new ≡ indices.old }
 {
+    if count > 64 {
+        return put_far(alloc, value, indices, count, new, dialect);
+    }
     if count == 0 {
         *value = new;
         return Ok(());
@@ -125,8 +174,6 @@ pub(crate) fn put_at(
     if count == 1 {
         return put(alloc, value, place, new);
     }
-    let inner = element_taken(alloc, value, place)?;
-    let levels = levels_of(alloc, inner, indices, 1, count, dialect)?;
-    let element = put_back(alloc, levels, new)?;
-    put(alloc, value, place, element)
+    let places = places_of(alloc, value, place, indices, count, dialect)?;
+    value.put_item_under(alloc, places, new)
 }

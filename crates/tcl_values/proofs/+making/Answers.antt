@@ -10,7 +10,7 @@ use Rattle.tcl_values.specs.Lists.{Leaves}
 use Rattle.tcl_values.specs.Paired.{zipped}
 use Rattle.tcl_values.specs.declared.making.Making.TheVariants as making
 use Rattle.tcl_values.proofs.Changed.{begun_is, begun_stops, changed_there, depth_there, depth_changed, low_enough}
-use Rattle.tcl_values.proofs.ChangedPairs.{some_done, some_kept, none_stops, none_done, made_or, known_or, set_last, unset_last, unset_alone}
+use Rattle.tcl_values.proofs.ChangedPairs.{some_done, some_kept, none_stops, none_done, made_or, set_last}
 use Rattle.tcl_values.proofs.PairKept.{deeper_set, put_kept, even_more}
 use Rattle.tcl_values.proofs.PairPlaces.{put_behind}
 use Rattle.tcl_values.proofs.+making.Invariants.{keys_in}

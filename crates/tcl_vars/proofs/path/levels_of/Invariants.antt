@@ -6,5 +6,5 @@ use Rattle.tcl_vars.proofs.path.levels_of.Given as goal
 abbrev pub invariant-loop-at : goal.invariant-loop-at
 invariant-loop-at l = record {
   same : l.indices ≡ l.fn.indices;
-  led : (way_of l.dialect l.list (drop l.at (take l.last l.fn.indices)) >>= λ rest. Ok (all_seen l.levels.items ++ rest)) ≡ way_of l.dialect l.fn.list (drop l.first (take l.last l.fn.indices));
+  led : (way_of l.dialect l.list (drop l.at (take l.count l.fn.indices)) >>= λ rest. Ok (all_seen l.levels.items ++ rest)) ≡ way_of l.dialect l.fn.list (take l.count l.fn.indices);
 }

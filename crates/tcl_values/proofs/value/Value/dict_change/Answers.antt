@@ -1,4 +1,4 @@
-use Rattle.std.proofs.Common.{[], sym, subst, refl}
+use Rattle.std.proofs.Common.{sym, subst, refl}
 use Rattle.tcl_chars.specs.Texts.{text_of}
 use Rattle.tcl_values.specs.Changes.{after, made_under}
 use Rattle.tcl_values.specs.Lists.{Leaves}
