@@ -3,6 +3,7 @@
 #![tactic(auto)]
 
 mod frames;
+mod paths;
 mod table;
 mod twice;
 mod values;
@@ -17,6 +18,9 @@ fn all_calls(alloc: Global) -> Result<String, AllocError> {
     for line in [
         values::push(alloc)?,
         values::dict_put(alloc)?,
+        paths::dict_put_under(alloc)?,
+        paths::dict_remove_under(alloc)?,
+        paths::put_item_under(alloc)?,
         values::append_element(alloc)?,
         frames::put(alloc)?,
         frames::link(alloc)?,
