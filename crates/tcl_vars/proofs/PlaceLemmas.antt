@@ -1,5 +1,5 @@
 -- The places that indices say on their way through lists in lists, and what a change at the last of them leaves.
-use Rattle.std.proofs.Common.{◌≡◌, ℕ, ◌+◌, ◌<◌, ◌≤◌, List, [], ◌∷◌, ◌++◌, take, drop, length, get_or, append_assoc, refl, sym, ap, ◌∙◌, arith, Ok, Err}
+use Rattle.std.proofs.Common.{◌≡◌, ℕ, ◌+◌, ◌<◌, ◌≤◌, List, [], ◌∷◌, ◌++◌, take, drop, length, get_or, append_assoc, refl, sym, ap, ◌∙◌, Ok, Err}
 use Rattle.tcl_chars.specs.Answers.{Stops}
 use Rattle.tcl_chars.specs.declared.fault.Fault.{Fault}
 use Rattle.tcl_chars.specs.declared.numbers.Dialect.{Dialect}
@@ -10,7 +10,7 @@ use Rattle.tcl_pages.specs.Answers.{Answer, ◌>>=◌}
 use Rattle.tcl_pages.specs.Lists.{index, place_within, with_element, element_set}
 use Rattle.tcl_pages.specs.Texts.{Text}
 use Rattle.tcl_values.specs.Changes.{after_place, with_under}
-use Rattle.tcl_vars.proofs.WayLemmas.{as_it_is, get_in, words_from}
+use Rattle.tcl_vars.proofs.WayLemmas.{get_in, words_from}
 use Rattle.tcl_vars.specs.Way.{place_by, element_in, places_of}
 
 -- ---- the places, and then the change
@@ -87,10 +87,6 @@ places_go_on d list inner t k n at ws done more h l w em p e =
   where
     R : List Text
     R = drop (at + 1) (take n ws)
-
-pub first_place : (d : Dialect) (list inner t : Text) (k n : ℕ) (ws : List Text) (all : List ℕ) → 0 < n → n ≤ length ws → t ≡ get_or ws 0 [] → all ≡ k ∷ []
-    → place_by d list t ≡ Ok k → element_in list k ≡ Ok inner → (places_of d inner (drop 1 (take n ws)) >>= λ rest. Ok (all ++ rest)) ≡ places_of d list (take n ws)
-first_place d list inner t k n ws all h l w em p e = places_go_on d list inner t k n 0 ws [] all h l w em p e ∙ as_it_is (places_of d list (take n ws))
 
 pub place_stops : (f : Fault) (d : Dialect) (list t : Text) (n at : ℕ) (ws : List Text) (done : List ℕ) (all : Answer (List ℕ)) → at < n → n ≤ length ws → t ≡ get_or ws at [] → Stops f (place_by d list t)
     → (places_of d list (drop at (take n ws)) >>= λ rest. Ok (done ++ rest)) ≡ all → Stops f all

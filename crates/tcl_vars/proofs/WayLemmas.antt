@@ -14,7 +14,7 @@ use Rattle.tcl_pages.specs.Texts.{Text}
 use Rattle.tcl_vars.specs.Way.{place_by, element_in, put, seen, all_seen, way_of, put_all}
 use Rattle.tcl_vars.specs.declared.path.Level.{Level}
 
-pub as_it_is : {A : Type 0} (r : Answer A) → (r >>= λ x. Ok x) ≡ r
+as_it_is : {A : Type 0} (r : Answer A) → (r >>= λ x. Ok x) ≡ r
 as_it_is (Ok x) = refl
 as_it_is (Err m) = refl
 

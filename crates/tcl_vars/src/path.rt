@@ -1,6 +1,6 @@
 //! An element of lists in lists, changed in its place: lset(n).
 
-ghost use Rattle.std.specs.Prelude.{◌≡◌, ◌<◌, ◌≤◌, length, take, Ok, OnErr};
+ghost use Rattle.std.specs.Prelude.{◌≡◌, ◌<◌, ◌≤◌, length, take, Ok, IfOk, OnErr};
 ghost use Rattle.tcl_arguments.specs.WordAt.{word};
 ghost use Rattle.tcl_chars.specs.Answers.{Answers};
 ghost use Rattle.tcl_pages.specs.Lists.{element_set};
@@ -65,7 +65,8 @@ fn put(alloc: Global, list: &mut Value, place: usize, element: Value) -> Result<
     list.push(alloc, element)
 }
 
-/// The places that indices say: one of the list, and those behind it each of the list that the element at the place before is read as.
+/// The places that the first `count` indices say: `first` in the list, and each one behind it in the list that the element at the place
+/// before is read as.
 fn places_of(
     alloc: Global,
     list: &mut Value,
@@ -78,6 +79,7 @@ fn places_of(
     requires within { count ≤ length indices.old }
     requires first { way.place_by dialect list.old (word indices.old 0) ≡ Ok first }
     ensures places { Answers (λ v. v.items) result (way.places_of dialect list.old (take count indices.old)) }
+    ensures size { IfOk result (λ v. length v.items ≡ count) }
     ensures same { list.new ≡ list.old }
     ensures indices { indices.new ≡ indices.old }
 {

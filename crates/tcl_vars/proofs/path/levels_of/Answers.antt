@@ -7,7 +7,7 @@ use Rattle.tcl_vars.proofs.path.levels_of.Goals as goal
 
 pub returns-in_err-place-clause-levels : goal.returns-in_err-place-clause-levels
 returns-in_err-place-clause-levels c =
-    let p = err_from_is_err_and c.from_residual.result c.from_residual.ensures.1 in
+    let p = err_from_is_err_and c.from_residual-in_err-place.result c.from_residual-in_err-place.ensures.1 in
     rw (p.1, p.2)
     (way_stops c.in_err-place.field-0.0 c.args.dialect c.loop-at.list (get_or c.loop-at.indices c.loop-at.at []) c.args.count c.loop-at.at c.args.indices.now (all_seen c.loop-at.levels.items) _ c.loop-at-test.true c.requires
     (ap (λ ws. get_or ws c.loop-at.at []) c.loop-at.invariant.same) c.in_err-place.ensures.place c.loop-at.invariant.led)
