@@ -6,6 +6,9 @@ use std::test::Fail;
 use tcl_chars::Fault;
 use tcl_values::{Change, Gathering, Value};
 
+/// The most keys or places of a path.
+const MOST: usize = 64;
+
 fn shared(alloc: Global, text: &str) -> Result<RcStr, AllocError> {
     RcStr::from_str(alloc, text)
 }
@@ -74,6 +77,9 @@ fn without(alloc: Global, start: &str, path: &[&str]) -> Result<String, Fault> {
     for key in path {
         keys.push(shared(alloc, key)?)?;
     }
+    if keys.len() > MOST {
+        return Err(Fault::Memory);
+    }
     let done = dict.dict_remove_under(alloc, keys);
     left(alloc, dict, done)
 }
@@ -84,6 +90,9 @@ fn placed(alloc: Global, start: &str, path: &[usize], new: &str) -> Result<Strin
     let mut places = Vec::new(alloc);
     for place in path {
         places.push(*place)?;
+    }
+    if places.len() > MOST {
+        return Err(Fault::Memory);
     }
     let done = list.put_item_under(alloc, places, value(alloc, new)?);
     left(alloc, list, done)
