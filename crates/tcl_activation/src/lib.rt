@@ -12,6 +12,7 @@ mod pace;
 mod pile;
 mod progress;
 mod quick;
+mod quick_pairs;
 mod quick_step;
 mod results;
 mod stack;

@@ -15,6 +15,7 @@ module _ (ts us : List Text) where
   same_ways : (i : Instr) (s : Shape) → ways_of (shown ts i) s ≡ ways_of (shown us i) s
   same_ways (instr.Push n) s = refl
   same_ways (instr.Read n) s = refl
+  same_ways (instr.ReadPairs n) s = refl
   same_ways (instr.ReadElement n) s = refl
   same_ways (instr.Join n) s = refl
   same_ways instr.Spend s = refl
@@ -53,6 +54,7 @@ module _ (ts us : List Text) where
   same_fine : (i : Instr) (s : Shape) → IsFine (shown ts i) s → IsFine (shown us i) s
   same_fine (instr.Push n) s h = h
   same_fine (instr.Read n) s h = h
+  same_fine (instr.ReadPairs n) s h = h
   same_fine (instr.ReadElement n) s h = h
   same_fine (instr.Join n) s h = h
   same_fine instr.Spend s h = h

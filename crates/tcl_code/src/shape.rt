@@ -131,7 +131,9 @@ impl Shape {
         ensures { IfOk result (λ s. s ≡ left_by (shown [] instr) self) }
     {
         match instr {
-            Instr::Push(_) | Instr::Read(_) | Instr::TakeFirst => self.with_texts(0, 1),
+            Instr::Push(_) | Instr::Read(_) | Instr::ReadPairs(_) | Instr::TakeFirst => {
+                self.with_texts(0, 1)
+            }
             Instr::ReadElement(_) | Instr::Unary(_) | Instr::Truth | Instr::Final => {
                 self.with_texts(1, 1)
             }
@@ -203,6 +205,7 @@ impl Shape {
         match instr {
             Instr::Push(_)
             | Instr::Read(_)
+            | Instr::ReadPairs(_)
             | Instr::Spend
             | Instr::Enter
             | Instr::Gather

@@ -16,6 +16,7 @@ mod kept;
 mod literals;
 mod long;
 mod pages;
+mod reading;
 mod script;
 mod skips;
 mod tree;

@@ -21,6 +21,7 @@ use crate::each::{each_of, emit_each};
 use crate::inlining::{Form, command_of, form_of, inlined_by};
 use crate::literals::literals;
 use crate::pages::emit_page;
+use crate::reading::reads_pairs;
 use crate::skips::lead_here;
 use std::alloc::{AllocError, Global};
 use tcl_chars::push;
@@ -210,7 +211,8 @@ pub(crate) fn emit_call(code: &mut CodeBuilder, count: usize) -> Result<(), Allo
     code.emit(Instr::Call(count))
 }
 
-// The words of a command, and its call.
+// The words of a command, and its call. Where they are those of `dict get $name`, or the like, the words in front of the variable are an
+// instruction each.
 #[cycle(emitting)]
 fn emit_plain(
     code: &mut CodeBuilder,
@@ -224,8 +226,12 @@ fn emit_plain(
     requires within { WordsWithin (length (chars whole.now) - 1) (map shape_of words.now) }
     ensures { OnOk result (Grown (CommandCode context.dialect (map shape_of words.now)) code.old code.new) }
 {
+    let start = code.len();
     'words: for word in words {
         emit_word(code, context, whole, word)?;
+    }
+    if reads_pairs(words) {
+        code.prefer_pairs(start.saturating_add(2));
     }
     emit_call(code, words.len())
 }

@@ -53,23 +53,6 @@ shared_text t = option_map text_of t
 abbrev pub items_text : Items → List ℕ
 items_text r = shown (shared_text r.text) (elements r)
 
--- elements that stand for their text: the text is read as them
-pub record AreKept (r : Items) : Type 0 where
-  pub limit : r.depth ≤ 64
-  pub exact : r.depth ≡ depth_over (elements r)
-  pub reading : elements_of (items_text r) ≡ Ok (texts (elements r))
-
--- elements that a text was read as
-pub record AreRead (r : Items) (t : List ℕ) : Type 0 where
-  pub kept : AreKept r
-  pub same : items_text r ≡ t
-
--- the same text and the same elements
-pub record AreSame (r s : Items) : Type 0 where
-  pub text : shared_text r.text ≡ shared_text s.text
-  pub depth : r.depth ≡ s.depth
-  pub elements : elements r ≡ elements s
-
 -- ---- dictionaries
 
 abbrev pub pairs_in : Pairs → dictionaries.Pairs
@@ -102,6 +85,28 @@ pub record AreSamePairs (p q : Pairs) : Type 0 where
   pub depth : p.depth ≡ q.depth
   pub keys : map text_of p.keys.keys ≡ map text_of q.keys.keys
   pub values : p.values.items ≡ q.values.items
+
+-- ---- lists
+
+-- elements that stand for their text: the text is read as them, and as the dictionary beside them where one is kept
+pub record AreKept (r : Items) : Type 0 where
+  pub limit : r.depth ≤ 64
+  pub exact : r.depth ≡ depth_over (elements r)
+  pub reading : elements_of (items_text r) ≡ Ok (texts (elements r))
+  pub beside : IfSome r.pairs (λ p. ArePairsRead p.value (items_text r))
+  pub lower : IfSome r.pairs (λ p. p.value.depth ≤ r.depth)
+
+-- elements that a text was read as
+pub record AreRead (r : Items) (t : List ℕ) : Type 0 where
+  pub kept : AreKept r
+  pub same : items_text r ≡ t
+
+-- the same text and the same elements, and nothing beside them in the second
+pub record AreSame (r s : Items) : Type 0 where
+  pub text : shared_text r.text ≡ shared_text s.text
+  pub depth : r.depth ≡ s.depth
+  pub elements : elements r ≡ elements s
+  pub pairs : s.pairs ≡ None
 
 -- ---- elements and values
 

@@ -41,7 +41,8 @@ pub(crate) enum Entry {
     Grown(Rc<Growing>),
 }
 
-/// The elements of a list, beside its text where that has been written or read.
+/// The elements of a list, beside its text where that has been written or read, and beside the dictionary that it was read as where that is
+/// kept.
 #[cycle(element)]
 #[derive(Drop)]
 pub(crate) struct Items {
@@ -49,6 +50,7 @@ pub(crate) struct Items {
     /// How deep it is: one more than its deepest element.
     pub(crate) depth: u8,
     pub(crate) items: Vec<Element>,
+    pub(crate) pairs: Option<Rc<Pairs>>,
 }
 
 /// The pairs of a dictionary, beside its text where that has been written or read.

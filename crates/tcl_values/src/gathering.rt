@@ -169,6 +169,7 @@ impl Gathering {
             text: None,
             depth,
             items: self.items,
+            pairs: None,
         };
         Ok(Value {
             held: Held::Row(Rc::new(alloc, row)?),

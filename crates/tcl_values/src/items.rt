@@ -95,12 +95,14 @@ impl Clone for Items {
 
     ghost is_clone = { AreSame };
 
+    /// Who copies it is to change it, so the dictionary stays behind.
     fn clone(&self) -> Result<Items, AllocError> {
         let elements = copy_elements(*self.items.allocator(), &self.items)?;
         Ok(Items {
             text: copy_text(&self.text)?,
             depth: self.depth,
             items: elements,
+            pairs: None,
         })
     }
 }
@@ -131,6 +133,7 @@ pub(crate) fn add(own: &mut Items, element: Element) -> Result<(), AllocError>
     own.items.push(element)?;
     own.depth = own.depth.max(depth);
     own.text = None;
+    own.pairs = None;
     Ok(())
 }
 
@@ -187,6 +190,7 @@ fn set(own: &mut Items, index: usize, element: Element)
     let alone = before.depth() + 1;
     own.depth = depth_after(&own.items, own.depth, alone, new);
     own.text = None;
+    own.pairs = None;
 }
 
 /// Puts another element at a place of a list, in place where nobody else holds the list.
@@ -219,6 +223,7 @@ pub(crate) fn gathered(alloc: Global, items: Vec<Element>) -> Result<Rc<Items>, 
         text: None,
         depth,
         items,
+        pairs: None,
     };
     Ok(Rc::new(alloc, row)?)
 }
@@ -250,6 +255,7 @@ fn drop_text(own: &mut Items)
     ensures kept { AreKept own.new }
 {
     own.text = None;
+    own.pairs = None;
 }
 
 /// Leaves of a list its elements alone, so that its text is how they are written.
@@ -350,5 +356,6 @@ fn splice_own(
     splice_elements(&mut own.items, first, count, inserted)?;
     own.depth = depth_with(&own.items, own.depth, new, count);
     own.text = None;
+    own.pairs = None;
     Ok(())
 }

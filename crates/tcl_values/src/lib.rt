@@ -8,7 +8,7 @@
 //!   `shown`, `ascii` and `places`, as a number by `whole`, and without any reading by `number` and `known_number`, as a name by `sought` and `sought_command`, as a list by
 //!   `count`, `item`, `row`, `list`, `range`. Changed by
 //!   `append` at the end of the text, and as a list by `push`, `replace_item`, `put_item_under` and `splice`.
-//!   As a dictionary made by `of_dict`, read by `dict_size`, `dict_get`, `dictionary`, changed by `dict_put`, `dict_put_under`, `dict_remove`, `dict_remove_under` and
+//!   As a dictionary made by `of_dict`, which `prefer_dictionary` and `prefer_dictionary_under` keep beside a list, read by `dict_size`, `dict_get`, `dictionary`, changed by `dict_put`, `dict_put_under`, `dict_remove`, `dict_remove_under` and
 //!   `dict_change`.
 //! - [`Places`]: the characters of a text, found by their places.
 //! - [`Change`]: what `dict_change` makes of the value under a key. A list or a text that has grown there once grows in place from then on.
@@ -21,6 +21,7 @@
 //! A call that only reads leaves the value as it was, and so does one that is refused.
 #![tactic(auto)]
 
+mod beside;
 mod change;
 mod composed;
 mod dict;

@@ -57,6 +57,7 @@ pub(crate) fn read_text(alloc: Global, text: RcStr) -> Result<Rc<Items>, Fault>
         text: Some(text),
         depth: 1,
         items,
+        pairs: None,
     };
     Ok(Rc::new(alloc, row)?)
 }

@@ -101,6 +101,7 @@ fn place_there(
     let now = own.items[place].depth() + 1;
     own.depth = depth_after(&own.items, own.depth, before, now);
     own.text = None;
+    own.pairs = None;
     Ok(())
 }
 

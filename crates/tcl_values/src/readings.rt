@@ -2,7 +2,7 @@
 
 ghost use Rattle.std.specs.Prelude.{◌≡◌, true, Some, IfSome};
 ghost use Rattle.std.specs.Str.{chars};
-ghost use Rattle.tcl_values.specs.Shape.{held_text, shared_text, AreKept, ArePaired, AreRead, ArePairsRead};
+ghost use Rattle.tcl_values.specs.Shape.{held_text, shared_text, AreKept, ArePaired, AreRead, ArePairsRead, IsHeld};
 
 use crate::dictionary::Dictionary;
 use crate::element::{Items, Pairs};
@@ -95,11 +95,13 @@ impl Held {
 
     /// The dictionary that the text was read as by somebody who holds it.
     pub(crate) fn kept_pairs(&self) -> Option<&Rc<Pairs>>
+        requires { IsHeld self.now }
         ensures { IfSome result (λ p. ArePairsRead p.now.value (held_text self.now)) }
     {
         match self {
             Held::Composed(composed) => composed.readings.pairs_of(composed.growing.text.as_str()),
             Held::Literal(literal) => literal.readings.pairs_of(literal.text.as_str()),
+            Held::Row(row) => row.pairs.as_ref(),
             _ => None,
         }
     }

@@ -67,6 +67,7 @@ fn read_words(alloc: Global, text: RcStr) -> Result<Rc<Items>, Fault>
         text: Some(text),
         depth: 1,
         items,
+        pairs: None,
     };
     Ok(Rc::new(alloc, row)?)
 }
@@ -118,6 +119,7 @@ pub(crate) fn read_written(alloc: Global, text: RcStr) -> Result<Rc<Items>, Faul
         text: Some(text),
         depth,
         items,
+        pairs: None,
     };
     Ok(Rc::new(alloc, row)?)
 }

@@ -74,4 +74,6 @@ placing::place_there-returns-clause-kept t c =
       limit = omega (arith, exact, set_within ks now c.args.place c.place_under.new.self _ refl c.requires.kept.exact c.requires.kept.limit (omega (arith, was, c.place_under.ensures.depth, c.requires.room)));
       exact = exact;
       reading = reads_written (texts now);
+      beside = tt;
+      lower = tt;
     }

@@ -23,4 +23,6 @@ returns-clause-kept c =
       limit = omega (arith, exact, set_within c.args.own.now.items.items c.put-before.new.elements.items c.args.index c.args.element _ c.put-before.ensures.put c.requires.kept.exact c.requires.kept.limit c.requires.element);
       exact = exact;
       reading = reads_written (texts c.put-before.new.elements.items);
+      beside = tt;
+      lower = tt;
     }

@@ -20,4 +20,6 @@ returns-clause-kept c =
       limit = omega (arith, exact, depth_spliced c.args.own.now.items.items c.args.inserted.items c.splice_elements.new.elements.items c.args.first _ _ c.in_ok-splice_elements.ensures.done c.requires.kept.exact c.requires.kept.limit c.requires.inserted);
       exact = exact;
       reading = reads_written (texts c.splice_elements.new.elements.items);
+      beside = tt;
+      lower = tt;
     }
