@@ -147,6 +147,16 @@ impl Element {
         }
     }
 
+    /// The number that it is kept as, if it is kept as one: then its text is the number's decimal text.
+    pub fn number(&self) -> Option<i64>
+        ensures { IfSome result (λ n. self.now.text ≡ signed_decimal n) }
+    {
+        match &self.entry {
+            Entry::Number(number) => Some(*number),
+            _ => None,
+        }
+    }
+
     /// A value of the same text. What is kept is shared.
     pub fn copy(&self) -> Result<Value, AllocError>
         ensures { IfOk result (λ v. v ≡ self.now.text) }

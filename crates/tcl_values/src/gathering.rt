@@ -74,7 +74,7 @@ fn add_values(
     items.reserve(more.len())?;
     let mut deepest = depth;
     for value in more {
-        let element = value.copy()?.into_element(alloc)?;
+        let element = value.element(alloc)?;
         deepest = deepest.max(element.depth() + 1);
         items.push(element)?;
     }

@@ -176,6 +176,21 @@ impl Value {
         }
     }
 
+    /// An element of the same text, as by `into_element`. What is kept is shared.
+    pub(crate) fn element(&self, alloc: Global) -> Result<Element, AllocError>
+        ensures text { IfOk result (λ e. e.text ≡ self.now) }
+        ensures depth { IfOk result (λ e. e.depth < 64) }
+    {
+        match &self.held {
+            Held::Number(n) => Ok(Element::of_number(*n)),
+            Held::Row(row) => row_element(row.clone()?, alloc),
+            Held::Dict(pairs) => dict_element(pairs.clone()?, alloc),
+            held => Ok(Element {
+                entry: Entry::Text(held.text(alloc)?),
+            }),
+        }
+    }
+
     /// Adds an element at the end of the list that the text is read as: lappend(n).
     ///
     /// # Errors
