@@ -5,6 +5,7 @@
 mod index;
 mod joined;
 mod message;
+mod pattern;
 mod range;
 mod repeat;
 mod search;

@@ -9,10 +9,10 @@ ghost use Rattle.tcl_pages.specs.Searching as spec;
 ghost use Rattle.tcl_values.specs.Kept.{texts};
 
 use crate::message::usage;
+use crate::pattern::Pattern;
 use crate::words::{empty, row_at, text_at};
 use std::alloc::{AllocError, Global};
 use tcl_chars::{Fault, about, is_text};
-use tcl_glob::glob_match;
 use tcl_pages::SearchOptions;
 use tcl_values::{Element, Value};
 
@@ -74,18 +74,6 @@ fn options_of(alloc: Global, words: &mut [Value]) -> Result<SearchOptions, Fault
     Ok(options)
 }
 
-/// Does an element fit the pattern?
-fn is_wanted(options: SearchOptions, pattern: &str, element: &str) -> bool
-    ensures { result ≡ spec.is_wanted options (chars pattern.now) (chars element.now) }
-{
-    let fits = if options.exact {
-        is_text(pattern, element)
-    } else {
-        glob_match(pattern, element)
-    };
-    if options.negated { !fits } else { fits }
-}
-
 /// What is answered of an element that fits: the element, or its place.
 fn hit(place: usize, element: &Element, inline: bool) -> Result<Value, AllocError>
     requires { place < 2 ^ 63 }
@@ -102,14 +90,13 @@ fn hit(place: usize, element: &Element, inline: bool) -> Result<Value, AllocErro
 fn first_hit(
     alloc: Global,
     options: SearchOptions,
-    pattern: &str,
+    pattern: &Pattern,
     elements: &[Element],
 ) -> Result<Value, AllocError>
-    ensures { IfOk result (λ v. v ≡ spec.first_found options.inline (spec.wanted options (chars pattern.now) 0 (texts elements.now))) }
+    ensures { IfOk result (λ v. v ≡ spec.first_found options.inline (spec.wanted options pattern.now 0 (texts elements.now))) }
 {
     for (place, element) in elements.iter().enumerate() {
-        let text = element.text(alloc)?;
-        if is_wanted(options, pattern, text.as_str()) {
+        if pattern.is_wanted(alloc, options, element)? {
             return hit(place, element, options.inline);
         }
     }
@@ -124,15 +111,14 @@ fn first_hit(
 fn all_hits(
     alloc: Global,
     options: SearchOptions,
-    pattern: &str,
+    pattern: &Pattern,
     elements: &[Element],
 ) -> Result<Value, AllocError>
-    ensures { IfOk result (λ v. v ≡ written (map (spec.hit_text options.inline) (spec.wanted options (chars pattern.now) 0 (texts elements.now)))) }
+    ensures { IfOk result (λ v. v ≡ written (map (spec.hit_text options.inline) (spec.wanted options pattern.now 0 (texts elements.now)))) }
 {
     let mut hits = Vec::new(alloc);
     for (place, element) in elements.iter().enumerate() {
-        let text = element.text(alloc)?;
-        if is_wanted(options, pattern, text.as_str()) {
+        if pattern.is_wanted(alloc, options, element)? {
             hits.push(hit(place, element, options.inline)?)?;
         }
     }
@@ -143,10 +129,10 @@ fn all_hits(
 fn found(
     alloc: Global,
     options: SearchOptions,
-    pattern: &str,
+    pattern: &Pattern,
     elements: &[Element],
 ) -> Result<Value, AllocError>
-    ensures { IfOk result (λ v. v ≡ spec.found options (spec.wanted options (chars pattern.now) 0 (texts elements.now))) }
+    ensures { IfOk result (λ v. v ≡ spec.found options (spec.wanted options pattern.now 0 (texts elements.now))) }
 {
     if options.all {
         all_hits(alloc, options, pattern, elements)
@@ -170,6 +156,6 @@ pub fn lsearch(alloc: Global, words: &mut [Value]) -> Result<Value, Fault>
     let options = options_of(alloc, words)?;
     let last = words.len() - 1;
     let row = row_at(alloc, words, last - 1)?;
-    let pattern = text_at(alloc, words, last)?;
-    Ok(found(alloc, options, pattern.as_str(), row.items())?)
+    let pattern = Pattern::new(text_at(alloc, words, last)?);
+    Ok(found(alloc, options, &pattern, row.items())?)
 }
