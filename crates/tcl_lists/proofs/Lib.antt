@@ -2,6 +2,7 @@ pub mod Chained
 pub mod IndexLemmas
 pub mod Joining
 pub mod LsortLemmas
+pub mod NumberPatterns
 pub mod OptionLemmas
 pub mod SearchLemmas
 pub mod SortLemmas

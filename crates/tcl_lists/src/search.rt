@@ -96,7 +96,8 @@ fn first_hit(
     ensures { IfOk result (λ v. v ≡ spec.first_found options.inline (spec.wanted options pattern.now 0 (texts elements.now))) }
 {
     for (place, element) in elements.iter().enumerate() {
-        if pattern.is_wanted(alloc, options, element)? {
+        let wanted = pattern.is_wanted(alloc, options, element)?;
+        if wanted {
             return hit(place, element, options.inline);
         }
     }
@@ -118,7 +119,8 @@ fn all_hits(
 {
     let mut hits = Vec::new(alloc);
     for (place, element) in elements.iter().enumerate() {
-        if pattern.is_wanted(alloc, options, element)? {
+        let wanted = pattern.is_wanted(alloc, options, element)?;
+        if wanted {
             hits.push(hit(place, element, options.inline)?)?;
         }
     }

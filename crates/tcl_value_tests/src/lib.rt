@@ -4,8 +4,6 @@
 #[cfg(test)]
 mod dicts;
 #[cfg(test)]
-mod kept;
-#[cfg(test)]
 mod lists;
 #[cfg(test)]
 mod values;

@@ -1,6 +1,5 @@
-use Rattle.std.proofs.Common.{sym, ap, subst, ◌∙◌}
+use Rattle.std.proofs.Common.{sym, subst, ◌∙◌}
 use Rattle.std.proofs.lemmas.Result.{err_from_is_err_and}
-use Rattle.std.specs.Str.{chars}
 use Rattle.tcl_chars.specs.Answers.{Answers}
 use Rattle.tcl_lists.proofs.SearchLemmas.{lsearch_usage, options_stop, list_stops, lsearch_is}
 use Rattle.tcl_lists.proofs.search.lsearch.Goals as goal
@@ -21,5 +20,5 @@ returns-in_err-row-clause-answer c =
 
 pub returns-clause-answer : goal.returns-clause-answer
 returns-clause-answer c =
-    lsearch_is c.args.words.now c.options_of.new.words c.row_at.new.words c.in_ok-row.row _ c.in_ok-options.options (chars c.as_str.result.now) _
-    c.if-words-lt2.false c.options_of.ensures.same c.row_at.ensures.same c.in_ok-options.ensures.options c.in_ok-row.ensures.row (ap chars c.as_str.ensures.value ∙ c.in_ok-pattern.ensures.text) c.items.ensures c.in_ok-found.ensures
+    lsearch_is c.args.words.now c.options_of.new.words c.row_at.new.words c.in_ok-row.row _ c.in_ok-options.options c.new-pattern.result _
+    c.if-words-lt2.false c.options_of.ensures.same c.row_at.ensures.same c.in_ok-options.ensures.options c.in_ok-row.ensures.row (c.new-pattern.ensures ∙ c.in_ok-text_at.ensures.text) c.items.ensures c.in_ok-found.ensures

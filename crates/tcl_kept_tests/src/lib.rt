@@ -1,0 +1,7 @@
+//! The unit tests of what values keep beside their texts, and of what is made of it: what no contract of tcl_values can say.
+#![tactic(auto)]
+
+#[cfg(test)]
+mod beside;
+#[cfg(test)]
+mod kept;
