@@ -21,7 +21,7 @@ use crate::each::{each_of, emit_each};
 use crate::inlining::{Form, command_of, form_of, inlined_by};
 use crate::literals::literals;
 use crate::pages::emit_page;
-use crate::reading::reads_pairs;
+use crate::reading::prefer_pairs;
 use crate::skips::lead_here;
 use std::alloc::{AllocError, Global};
 use tcl_chars::push;
@@ -230,9 +230,7 @@ fn emit_plain(
     'words: for word in words {
         emit_word(code, context, whole, word)?;
     }
-    if reads_pairs(words) {
-        code.prefer_pairs(start.saturating_add(2));
-    }
+    prefer_pairs(code, words, start);
     emit_call(code, words.len())
 }
 

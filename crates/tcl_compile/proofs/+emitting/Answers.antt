@@ -1,8 +1,9 @@
-use Rattle.std.proofs.Common.{rules, [], get_or, subst, ◌≤◌, ◌≡◌, ◌<◌, ◌+◌, ◌-◌, ◌*◌, length, map, sym, ap, ◌∙◌, arith, ℕ}
+use Rattle.std.proofs.Common.{rules, [], ◌∷◌, ◌++◌, get_or, subst, ◌≤◌, ◌≡◌, ◌<◌, ◌+◌, ◌-◌, ◌*◌, length, map, sym, ap, ◌∙◌, arith, ℕ}
 use Rattle.std.proofs.lemmas.Result.{on_ok_weaker}
 use Rattle.std.proofs.lemmas.List.{length-map}
 use Rattle.std.specs.Str.{chars}
 use Rattle.tcl_list.specs.Texts as texts
+use Rattle.tcl_code.specs.Instructions.{Call}
 use Rattle.tcl_words.specs.Parts.{shape_of, part_of, parts_of, stretch_of}
 use Rattle.tcl_meaning.specs.Nesting.{PartNests, PartsNest, WordsNest}
 use Rattle.tcl_words.specs.First.{most_levels}
@@ -132,7 +133,7 @@ pub script::emit_plain-returns : goal.script::emit_plain-returns
 script::emit_plain-returns t c =
     let ws = map shape_of c.args.words.now in
     let n = length-map c.args.words.now shape_of in
-    on_ok_weaker c.emit_call.result (λ h. grown_command c.args.context.dialect ws c.words.word-index _ _ c.words.code _ (omega (arith, n)) (sym n) c.words.invariant.leads h) c.emit_call.ensures
+    on_ok_weaker c.emit_call.result (λ h. grown_command c.args.context.dialect ws c.words.word-index _ _ c.words.code _ (omega (arith, n)) (sym n) c.words.invariant.leads (h ∙ ap (λ is. is ++ Call (length c.args.words.now) ∷ []) c.prefer_pairs.ensures)) c.emit_call.ensures
 
 pub script::emit_gathered-words-init : goal.script::emit_gathered-words-init
 script::emit_gathered-words-init t c = record {
