@@ -1,4 +1,4 @@
-use Rattle.std.proofs.Common.{Ok, ap, refl}
+use Rattle.std.proofs.Common.{Ok, ap, refl, inl, inr}
 use Rattle.tcl_code.specs.Instructions.{Push, Read, ReadElement, Join, Raise, Under}
 use Rattle.tcl_code.specs.declared.instr.Instr.TheVariants as instr
 use Rattle.tcl_activation.specs.declared.progress.Progress.TheVariants as progress
@@ -10,8 +10,12 @@ returns-in_ok-push-in-Push g c = reads_as (g.F.Variables.store c.args.frames.now
     c.in-Push.is (ap Push (copied c.args.code.now.texts c.in-Push.number c.text.result.now c.in_ok-copy-in-Push.field-0 c.text.ensures c.in_ok-copy-in-Push.ensures)) (λ dialect at s same. c.in_ok-push-in-Push.ensures dialect at s)
 
 pub returns-in-Read : goal.returns-in-Read
-returns-in-Read g c = reads_as (g.F.Variables.store c.args.frames.now) c.args.code.now.texts c.args.instr (instr.Read c.in-Read.number) (Read c.text-in-Read.result.now) c.args.self.now c.read.new.self c.read.result
-    c.in-Read.is (ap Read (copied c.args.code.now.texts c.in-Read.number c.text-in-Read.result.now c.text-in-Read.result.now c.text-in-Read.ensures refl)) c.read.ensures
+returns-in-Read g c =
+    let name = ap Read (copied c.args.code.now.texts c.in-Read.number c.text-in-Read.result.now c.text-in-Read.result.now c.text-in-Read.ensures refl) in
+    elim c.in-Read.is [
+      | inl is ↦ reads_as (g.F.Variables.store c.args.frames.now) c.args.code.now.texts c.args.instr (instr.Read c.in-Read.number) (Read c.text-in-Read.result.now) c.args.self.now c.read.new.self c.read.result is name c.read.ensures
+      | inr is ↦ reads_as (g.F.Variables.store c.args.frames.now) c.args.code.now.texts c.args.instr (instr.ReadPairs c.in-Read.number) (Read c.text-in-Read.result.now) c.args.self.now c.read.new.self c.read.result is name c.read.ensures
+    ]
 
 pub returns-in-ReadElement : goal.returns-in-ReadElement
 returns-in-ReadElement g c = reads_as (g.F.Variables.store c.args.frames.now) c.args.code.now.texts c.args.instr (instr.ReadElement c.in-ReadElement.number) (ReadElement c.text-in-ReadElement.result.now) c.args.self.now c.read_element.new.self c.read_element.result
