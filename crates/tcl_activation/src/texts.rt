@@ -1,5 +1,6 @@
 //! Instructions that put texts onto the stack.
-ghost use Rattle.std.specs.Prelude.{◌≡◌, ◌≤◌, length, IfOk, OnOk};
+ghost use Rattle.std.specs.Prelude.{◌≡◌, ◌≤◌, [], length, IfOk, OnOk};
+ghost use Rattle.std.specs.Bool.{OnTrue};
 ghost use Rattle.std.specs.List.{concat};
 ghost use Rattle.std.specs.Str.{chars};
 ghost use Rattle.std.specs.String.{string_bytes};
@@ -25,6 +26,16 @@ fn joined(alloc: Global, words: &[Value]) -> Result<Value, AllocError>
         word.write_to(alloc, &mut whole)?;
     }
     Value::of_string(alloc, whole)
+}
+
+// Is a text known to be empty?
+fn is_nothing(text: &Value) -> bool
+    ensures { OnTrue result (text.now ≡ []) }
+{
+    match text.shown() {
+        Some(shown) => shown.is_empty(),
+        None => false,
+    }
 }
 
 // The name of an array's element, as a script writes it.
@@ -100,13 +111,17 @@ impl Stack {
         self.read_named(alloc, frames, full.as_str())
     }
 
-    /// Joins the top `count` texts into one. One text alone stays as it is kept.
-    #[tactic(auto, using(crate::proofs::Joining::one_goes))]
+    /// Joins the top `count` texts into one. One text alone stays as it is kept, and so does one with an empty text behind it.
+    #[tactic(auto, using(crate::proofs::Joining::one_goes, crate::proofs::Joining::nothing_goes))]
     pub fn join(&mut self, alloc: Global, count: u32) -> Result<(), AllocError>
         requires { count ≤ length self.old.texts }
         ensures { OnOk result (Goes (Join count) self.old self.new) }
     {
         if count == 1 {
+            return Ok(());
+        }
+        if count == 2 && is_nothing(self.texts.newest()) {
+            self.texts.drop_newest();
             return Ok(());
         }
         let words = lifted(&mut self.texts, count)?;

@@ -12,6 +12,7 @@ use Rattle.tcl_pages.specs.DictPages.{dictionary, value_at, or_text, value_or, k
 use Rattle.tcl_pages.specs.Lists.{lappend, with_more}
 use Rattle.tcl_pages.specs.Texts.{Text}
 use Rattle.tcl_pages.specs.Updates.{by_key, dict_append, dict_set_words, text_appended}
+use Rattle.tcl_values.proofs.ChangedPairs.{in_turn}
 use Rattle.tcl_values.specs.Changes.{after, after_under}
 use Rattle.tcl_values.specs.Dictionaries.{less_key}
 use Rattle.tcl_values.specs.declared.change.Change.TheVariants as change
@@ -55,12 +56,8 @@ changed_is (Err m) key first change = refl
 under_is : (t key first : Text) (change : Text → Answer Text) → under_key t key first change ≡ changed t key first change
 under_is t key first change = changed_is (pairs_of t) key first change
 
-then_both : (s : Answer Text) (f g : Text → Answer Text) → (s >>= λ x. f x >>= g) ≡ ((s >>= f) >>= g)
-then_both (Ok x) f g = refl
-then_both (Err m) f g = refl
-
 known_is : (r : Answer Pairs) (key : Text) (f : Text → Answer Text) → less_in r key f ≡ ((known_in r key >>= f) >>= put_in r key)
-known_is (Ok ps) key f = then_both (known key (value_at key ps)) f (λ x. Ok (dictionary (put_key ps key x)))
+known_is (Ok ps) key f = in_turn (known key (value_at key ps)) f (λ x. Ok (dictionary (put_key ps key x)))
 known_is (Err m) key f = refl
 
 pub by_first : (t : Text) (ws : List Text) (change : Text → List Text → Answer Text) → 1 ≤ length ws → by_key t ws change ≡ change (word ws 0) (drop 1 ws)

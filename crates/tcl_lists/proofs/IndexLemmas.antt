@@ -12,6 +12,7 @@ use Rattle.tcl_pages.specs.Answers.{Answer, ◌>>=◌}
 use Rattle.tcl_pages.specs.Lists.{index, element_or_empty, element_at, element_by, indices_of, lindex}
 use Rattle.tcl_pages.specs.Texts.{Text}
 use Rattle.tcl_pages.specs.Usage.{usage}
+use Rattle.tcl_values.proofs.Placed.{one_more}
 use Rattle.tcl_values.specs.Kept.{Kept, texts}
 
 -- a question whose answer is used in two steps
@@ -29,9 +30,6 @@ stops_same (fault.Error t) r s e h = sym e ∙ h
 stops_same fault.Memory r s e h = tt
 
 -- ---- words and elements at their places
-
-pub one_more : (n : ℕ) → suc n ≡ n + 1
-one_more n = omega arith
 
 -- the same of a list of which something is seen
 module _ {A B : Type 0} (f : A → B) where

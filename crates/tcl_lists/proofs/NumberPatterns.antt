@@ -1,5 +1,5 @@
 -- Numbers are the same where their decimal texts are.
-use Rattle.std.proofs.Common.{◌≡◌, ℕ, ◌<◌, ◌^◌, List, ℤ, pos, negsuc, FitsSigned, to_z, of_z, nat_eq, sym, ap, ◌∙◌}
+use Rattle.std.proofs.Common.{◌≡◌, ℕ, List, ℤ, FitsSigned, to_z, of_z, nat_eq, sym, ap, ◌∙◌}
 use Rattle.std.specs.Fmt.{signed_decimal}
 use Rattle.std.specs.Int.{w64}
 use Rattle.std.proofs.lemmas.Bool.Decides.{Decides-eqb, Decides-like, same_from_decides}
@@ -7,11 +7,7 @@ use Rattle.std.proofs.lemmas.Fmt.{signed_decimal_injective}
 use Rattle.std.proofs.lemmas.Int.{to_z-of_z}
 use Rattle.std.proofs.lemmas.Slice.Eq.{bytes_eq-Decides}
 use Rattle.tcl_chars.specs.Texts.{same_text}
-use lib.Signed.{mag}
-
-small : (z : ℤ) → FitsSigned w64 z → mag z < 2 ^ 63
-small (pos n) f = f.sfits
-small (negsuc n) f = f.sfits
+use Rattle.tcl_values.proofs.Decimals.{small}
 
 pub same_numbers : (y z : ℤ) (s t : List ℕ) → FitsSigned w64 y → FitsSigned w64 z → t ≡ signed_decimal y → s ≡ signed_decimal z → nat_eq (of_z w64 y) (of_z w64 z) ≡ same_text s t
 same_numbers y z s t f g own number =

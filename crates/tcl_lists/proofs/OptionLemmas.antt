@@ -12,7 +12,8 @@ use Rattle.tcl_chars.specs.Messages.{about}
 use Rattle.tcl_chars.specs.Texts.{literal, same_text}
 use Rattle.tcl_lists.specs.Options.{with_options}
 use Rattle.tcl_lists.specs.WordAt.{word}
-use Rattle.tcl_lists.proofs.IndexLemmas.{one_more, stops_first, stops_same}
+use Rattle.tcl_lists.proofs.IndexLemmas.{stops_first, stops_same}
+use Rattle.tcl_values.proofs.Placed.{one_more}
 use Rattle.tcl_pages.specs.Answers.{Answer, ◌>>=◌}
 use Rattle.tcl_pages.specs.Searching.{search_options, with_search_option}
 use Rattle.tcl_pages.specs.Sorting.{sort_options, with_sort_option}

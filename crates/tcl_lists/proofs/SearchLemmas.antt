@@ -11,7 +11,8 @@ use Rattle.tcl_chars.specs.Texts.{literal}
 use Rattle.tcl_list.specs.Elements.{elements_of}
 use Rattle.tcl_lists.specs.Options.{with_options}
 use Rattle.tcl_lists.specs.WordAt.{word}
-use Rattle.tcl_lists.proofs.IndexLemmas.{one_more, texts_at, stops_same, stops_first, in_steps}
+use Rattle.tcl_lists.proofs.IndexLemmas.{texts_at, stops_same, stops_first, in_steps}
+use Rattle.tcl_values.proofs.Placed.{one_more}
 use Rattle.tcl_pages.specs.Answers.{Answer, ◌>>=◌}
 use Rattle.tcl_pages.specs.Searching.{is_wanted, wanted, hit_text, first_found, found, with_search_option, plain_search, search_with, lsearch}
 use Rattle.tcl_pages.specs.Texts.{Text}

@@ -131,7 +131,7 @@ pub known_or : (m : Making) (key : Text) → made_new m key ≡ Err (unknown_key
 known_or m key e None = sym e
 known_or m key e (Some t) = refl
 
-in_turn : (s : Answer Text) (f g : Text → Answer Text) → (s >>= λ x. f x >>= g) ≡ ((s >>= f) >>= g)
+pub in_turn : (s : Answer Text) (f g : Text → Answer Text) → (s >>= λ x. f x >>= g) ≡ ((s >>= f) >>= g)
 in_turn (Ok x) f g = refl
 in_turn (Err m) f g = refl
 

@@ -37,7 +37,7 @@ same_printed z bytes text f e same =
 pub utf8_decimal : (z : ℤ) (bs : List ℕ) → FitsSigned w64 z → bs ≡ signed_decimal z → IsUtf8 bs
 utf8_decimal z bs f e = subst IsUtf8 (sym e) (IsUtf8-from_ascii _ (IsAscii-signed_decimal z f))
 
-small : (z : ℤ) → FitsSigned w64 z → mag z < 2 ^ 63
+pub small : (z : ℤ) → FitsSigned w64 z → mag z < 2 ^ 63
 small (pos n) f = f.sfits
 small (negsuc n) f = f.sfits
 

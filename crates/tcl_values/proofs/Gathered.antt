@@ -1,7 +1,7 @@
 -- Elements that are gathered to be a list.
-use Rattle.std.proofs.Common.{◌≡◌, ℕ, zero, suc, ◌+◌, ◌≤◌, ◌<◌, List, [], ◌∷◌, ◌++◌, length, get_or, max, take, drop, reverse, append_assoc, ap, sym, ◌∙◌, refl, arith}
-use Rattle.std.proofs.lemmas.List.{append-nil, map-append, reverse-append, take_more}
-use Rattle.tcl_pages.specs.Lists.{times}
+use Rattle.std.proofs.Common.{◌≡◌, ℕ, zero, suc, ◌+◌, ◌≤◌, ◌<◌, List, [], ◌∷◌, ◌++◌, length, get_or, max, take, drop, reverse, slice_set, append_assoc, ap, sym, ◌∙◌, ◌-◌, refl, arith}
+use Rattle.std.proofs.lemmas.List.{append-nil, drop-set-lt, drop_more, map-append, reverse-append, take_more}
+use Rattle.tcl_pages.specs.Lists.{replaced, times}
 use Rattle.tcl_values.proofs.Depths.{depth_least, depth_over-append, depth_over-push, depth_take, depth_drop}
 use Rattle.tcl_values.specs.Kept.{Kept, texts, depth_over}
 
@@ -47,6 +47,44 @@ pub came_texts : (old now new : List Kept) (k : Kept) (ts : List (List ℕ)) (i 
 came_texts old now new k ts i t l is e said same =
     ap texts e ∙ map-append (λ (q : Kept). q.text) now (k ∷ []) ∙ ap (λ us. us ++ k.text ∷ []) same ∙ append_assoc (texts old) (take i ts) (k.text ∷ [])
     ∙ ap (λ us. texts old ++ us) (ap (λ x. take i ts ++ x ∷ []) (said ∙ is) ∙ sym (take_more ts i t l))
+
+-- one that is taken from the front of what is left
+pub took_texts : (now new : List Kept) (k : Kept) (ts us all : List (List ℕ)) (i : ℕ) (t v : List ℕ) → i < length ts → t ≡ get_or ts i t → us ≡ slice_set ts i v → new ≡ now ++ k ∷ [] → k.text ≡ t → texts now ++ drop i ts ≡ all → texts new ++ drop (i + 1) us ≡ all
+took_texts now new k ts us all i t v l is left e said same =
+    ap (λ (ks : List Kept). texts ks ++ drop (i + 1) us) e ∙ ap (λ xs. xs ++ drop (i + 1) us) (map-append (λ (q : Kept). q.text) now (k ∷ []))
+    ∙ append_assoc (texts now) (k.text ∷ []) (drop (i + 1) us)
+    ∙ ap (λ xs. texts now ++ xs)
+    (ap (λ x. x ∷ drop (i + 1) us) (said ∙ is) ∙ ap (λ ys. get_or ts i t ∷ drop (i + 1) ys) left
+    ∙ ap (λ ys. get_or ts i t ∷ ys) (drop-set-lt (i + 1) ts i v (omega arith)) ∙ sym (drop_more ts i t l))
+    ∙ same
+
+-- ---- others in the place of some
+
+pub replaced_deeper : (ks ls now : List Kept) (i c d n m : ℕ) → now ≡ take i ks ++ ls ++ drop (i + c) ks → depth_over ks ≤ d → depth_over ls ≤ n → m ≡ max d n → depth_over now ≤ m
+replaced_deeper ks ls now i c d n m e deep new most =
+    omega (arith, ap depth_over e, depth_over-append (take i ks ++ ls) (drop (i + c) ks), depth_over-append (take i ks) ls, depth_take i ks, depth_drop (i + c) ks, deep, new, most)
+
+pub replaced_texts : (ks ls now : List Kept) (i j c : ℕ) (s t : List (List ℕ)) → now ≡ take i ks ++ ls ++ drop (i + c) ks → c ≡ j - i → texts ks ≡ s → texts ls ≡ t → texts now ≡ replaced s i j t
+replaced_texts ks ls now i j c s t e gone is_old is_new =
+    let m : i + c ≡ max i j = omega (arith, gone) in
+    ap texts e ∙ map-append (λ (q : Kept). q.text) (take i ks ++ ls) (drop (i + c) ks)
+    ∙ ap (λ xs. xs ++ texts (drop (i + c) ks)) (map-append (λ (q : Kept). q.text) (take i ks) ls ∙ ap (λ xs. xs ++ texts ls) (texts_front i ks ∙ ap (take i) is_old) ∙ ap (λ xs. take i s ++ xs) is_new)
+    ∙ append_assoc (take i s) t (texts (drop (i + c) ks))
+    ∙ ap (λ xs. take i s ++ (t ++ xs)) (texts_rest (i + c) ks ∙ ap (drop (i + c)) is_old ∙ ap (λ (n : ℕ). drop n s) m)
+
+-- ---- some elements alone
+
+part_is : (ks front none now : List Kept) (i j : ℕ) → front ≡ take j ks → none ≡ [] → now ≡ take 0 front ++ none ++ drop (0 + i) front → now ≡ drop i (take j ks)
+part_is ks front none now i j f n e =
+    let z : 0 + i ≡ i = omega arith in
+    e ∙ ap (λ (xs : List Kept). take 0 front ++ xs ++ drop (0 + i) front) n ∙ ap (λ (m : ℕ). drop m front) z ∙ ap (drop i) f
+
+pub part_fits : (ks front none now : List Kept) (i j d : ℕ) → front ≡ take j ks → none ≡ [] → now ≡ take 0 front ++ none ++ drop (0 + i) front → depth_over ks ≤ d → depth_over now ≤ d
+part_fits ks front none now i j d f n e deep = omega (arith, ap depth_over (part_is ks front none now i j f n e), depth_drop i (take j ks), depth_take j ks, deep)
+
+pub part_of_texts : (ks front none now : List Kept) (i j : ℕ) (s : List (List ℕ)) → front ≡ take j ks → none ≡ [] → now ≡ take 0 front ++ none ++ drop (0 + i) front → texts ks ≡ s → texts now ≡ drop i (take j s)
+part_of_texts ks front none now i j s f n e is =
+    ap texts (part_is ks front none now i j f n e) ∙ texts_rest i (take j ks) ∙ ap (drop i) (texts_front j ks ∙ ap (take j) is)
 
 -- ---- turned round
 

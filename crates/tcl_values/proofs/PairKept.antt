@@ -111,7 +111,7 @@ even_less js ks vs ws i e l keys values =
 
 -- a list that is read as pairs, with its text
 pub read_kept : (p : Pairs) (r : Items) (t : RcStr Global) → AreKept r → text_of t ≡ items_text r → ArePaired p → read_pairs [] (texts (elements r)) ≡ Ok (pairs_in p)
-    → ArePaired (record { text = Some t; depth = p.depth; keys = p.keys; values = p.values })
+    → ArePaired (record p { text = Some t })
 unfolding pairs_of
 read_kept p r t row text kept read = record {
   limit = kept.limit;

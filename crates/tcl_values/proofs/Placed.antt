@@ -17,7 +17,7 @@ use Rattle.tcl_values.specs.Lists.{Leaves}
 
 -- ---- at a place that is there
 
-one_more : (n : ℕ) → suc n ≡ n + 1
+pub one_more : (n : ℕ) → suc n ≡ n + 1
 one_more n = omega arith
 
 set_from : (ts : List Text) (k : ℕ) (v : Text) → k < length ts → slice_set ts k v ≡ take k ts ++ v ∷ drop (suc k) ts

@@ -131,6 +131,20 @@ impl Value {
         }
     }
 
+    /// May copies of it be read as a dictionary only by reading a list anew, its own or one under a key? Only then it is worth the while to
+    /// have lists keep the dictionaries that they are read as.
+    #[inline(always)]
+    pub fn lacks_dictionary(&self) -> bool {
+        match &self.held {
+            Held::Dict(pairs) => pairs.has_lists,
+            Held::Row(row) => match &row.pairs {
+                Some(pairs) => pairs.has_lists,
+                None => true,
+            },
+            _ => false,
+        }
+    }
+
     /// Has a list of 16 elements or more under a key of the dictionary that it is kept or read as keep the dictionary that the inner list is
     /// read as, where nobody else holds the outer one: copies are to be read as a dictionary of dictionaries.
     ///

@@ -63,6 +63,8 @@ pub(crate) struct Pairs {
     pub(crate) keys: IndexSet<RcStr>,
     /// The keys' values, in the places of the keys.
     pub(crate) values: Vec<Element>,
+    /// May there be a list among the values? A hint that no contract needs.
+    pub(crate) has_lists: bool,
 }
 
 impl Model for Element {
@@ -92,6 +94,11 @@ impl Element {
         Element {
             entry: Entry::Number(n),
         }
+    }
+
+    /// Is it kept as a list?
+    pub(crate) fn is_list(&self) -> bool {
+        matches!(&self.entry, Entry::Row(_))
     }
 
     /// Its text: lent where it stands ready, else written.

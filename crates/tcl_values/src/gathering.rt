@@ -2,16 +2,17 @@
 
 ghost use Rattle.std.specs.Prelude.{◌≡◌, ◌≤◌, ◌++◌, [], drop, max, take, reverse, IfOk, IfSome, OnOk};
 ghost use Rattle.tcl_list.specs.Written.{written};
-ghost use Rattle.tcl_pages.specs.Lists.{times};
+ghost use Rattle.tcl_pages.specs.Lists.{replaced, times};
 ghost use Rattle.tcl_values.specs.Kept.{texts, depth_over};
 ghost use Rattle.tcl_values.specs.Shape.{elements};
 
 use crate::element::{Element, Items};
-use crate::items::deepest;
+use crate::items::{copy_elements, deepest, splice_elements};
 use crate::row::Row;
 use crate::value::{Held, Value};
 use std::alloc::{AllocError, Global};
 use std::marker::Model;
+use std::mem;
 use std::rc::Rc;
 
 /// Elements, and how deep a list of them is at most. Each stands there once, as it is kept in the list.
@@ -81,6 +82,30 @@ fn add_values(
     Ok(deepest)
 }
 
+/// The same, of values that are taken: nobody needs them any more.
+fn add_taken(
+    alloc: Global,
+    items: &mut Vec<Element>,
+    depth: u8,
+    more: &mut [Value],
+) -> Result<u8, AllocError>
+    requires deeper { depth_over items.old.items ≤ depth }
+    requires limit { depth ≤ 64 }
+    ensures texts { OnOk result (texts items.new.items ≡ texts items.old.items ++ more.old) }
+    ensures deeper { IfOk result (λ d. depth_over items.new.items ≤ d) }
+    ensures limit { IfOk result (λ d. d ≤ 64) }
+{
+    items.reserve(more.len())?;
+    let mut deepest = depth;
+    for place in 0..more.len() {
+        let taken = mem::replace(&mut more[place], Value::of_int(0));
+        let element = taken.into_element(alloc)?;
+        deepest = deepest.max(element.depth() + 1);
+        items.push(element)?;
+    }
+    Ok(deepest)
+}
+
 /// Adds copies of the elements `more`, `count` times over.
 fn add_times(items: &mut Vec<Element>, more: &[Element], count: u64) -> Result<(), AllocError>
     ensures texts { OnOk result (texts items.new.items ≡ texts items.old.items ++ times count (texts more.now)) }
@@ -115,6 +140,22 @@ impl Gathering {
         })
     }
 
+    /// The elements of a row, which are taken where nobody else holds them, and else copied.
+    pub fn of_row(alloc: Global, row: Row) -> Result<Gathering, AllocError>
+        ensures { IfOk result (λ g. g ≡ row) }
+    {
+        match Rc::try_unwrap(row.items) {
+            Ok(own) => Ok(Gathering {
+                depth: own.depth,
+                items: own.items,
+            }),
+            Err(shared) => Ok(Gathering {
+                depth: shared.depth,
+                items: copy_elements(alloc, &shared.items)?,
+            }),
+        }
+    }
+
     /// The elements, and behind them those of a row from the place `first` on, up to `last` and without it. What is kept of them is
     /// shared.
     pub fn with_part(self, row: &Row, first: usize, last: usize) -> Result<Gathering, AllocError>
@@ -135,6 +176,48 @@ impl Gathering {
         let mut items = self.items;
         let depth = add_values(alloc, &mut items, self.depth, values)?;
         Ok(Gathering { depth, items })
+    }
+
+    /// The same, of values that are taken: nobody needs them any more.
+    pub fn with_taken(self, alloc: Global, values: &mut [Value]) -> Result<Gathering, AllocError>
+        ensures { IfOk result (λ g. g ≡ self ++ values.old) }
+    {
+        let mut items = self.items;
+        let depth = add_taken(alloc, &mut items, self.depth, values)?;
+        Ok(Gathering { depth, items })
+    }
+
+    /// The elements, with values in the place of those from the place `first` on, in front of `last`.
+    pub fn spliced(
+        self,
+        alloc: Global,
+        first: usize,
+        last: usize,
+        values: &[Value],
+    ) -> Result<Gathering, AllocError>
+        ensures { IfOk result (λ g. g ≡ replaced self first last values.now) }
+    {
+        let mut items = self.items;
+        let mut inserted = Vec::new(alloc);
+        let new = add_values(alloc, &mut inserted, 1, values)?;
+        splice_elements(&mut items, first, last.saturating_sub(first), inserted)?;
+        Ok(Gathering {
+            depth: self.depth.max(new),
+            items,
+        })
+    }
+
+    /// The elements from the place `first` on, in front of `last`.
+    pub fn part(self, alloc: Global, first: usize, last: usize) -> Result<Gathering, AllocError>
+        ensures { IfOk result (λ g. g ≡ drop first (take last self)) }
+    {
+        let mut items = self.items;
+        items.truncate(last);
+        splice_elements(&mut items, 0, first, Vec::new(alloc))?;
+        Ok(Gathering {
+            depth: self.depth,
+            items,
+        })
     }
 
     /// The elements in reverse order.

@@ -280,7 +280,7 @@ fn rotate_tail(elements: &mut Vec<Element>, first: usize, count: usize)
 }
 
 /// Puts elements in the place of the `count` that stand behind the first `first` ones.
-fn splice_elements(
+pub(crate) fn splice_elements(
     elements: &mut Vec<Element>,
     first: usize,
     count: usize,

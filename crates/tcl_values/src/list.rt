@@ -185,6 +185,12 @@ impl Value {
             Held::Number(n) => Ok(Element::of_number(*n)),
             Held::Row(row) => row_element(row.clone()?, alloc),
             Held::Dict(pairs) => dict_element(pairs.clone()?, alloc),
+            Held::Text(text) => Ok(Element {
+                entry: Entry::Text(text.clone()?),
+            }),
+            Held::Ascii(text) => Ok(Element {
+                entry: Entry::Text(text.clone()?),
+            }),
             held => Ok(Element {
                 entry: Entry::Text(held.text(alloc)?),
             }),
@@ -208,6 +214,15 @@ impl Value {
                 Ok(())
             }
             _ => unreachable!(),
+        }
+    }
+
+    /// Is it kept as a list of 16 elements or more that nobody else holds? Then it is worth the while to change it in place.
+    #[inline(always)]
+    pub fn is_own_list(&self) -> bool {
+        match &self.held {
+            Held::Row(row) => row.items.len() >= 16 && Rc::strong_count(row) == 1,
+            _ => false,
         }
     }
 

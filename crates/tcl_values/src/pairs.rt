@@ -34,6 +34,7 @@ impl Clone for Pairs {
             depth: self.depth,
             keys: self.keys.clone()?,
             values,
+            has_lists: self.has_lists,
         })
     }
 }
@@ -143,6 +144,7 @@ pub(crate) fn no_pairs(alloc: Global) -> Pairs
         depth: 1,
         keys: IndexSet::new(alloc),
         values: Vec::new(alloc),
+        has_lists: false,
     }
 }
 
@@ -158,6 +160,7 @@ fn set_value(own: &mut Pairs, place: usize, value: Element)
     ensures text { own.new.text ≡ None }
 {
     own.depth = own.depth.max(value.depth() + 1);
+    own.has_lists = own.has_lists || value.is_list();
     own.values[place] = value;
     own.text = None;
 }
@@ -178,12 +181,14 @@ pub(crate) fn add_pair(own: &mut Pairs, key: RcStr, value: Element) -> Result<()
     ensures deeper { depth_over own.new.values.items ≤ own.new.depth }
 {
     let depth = value.depth() + 1;
+    let is_list = value.is_list();
     own.values.push(value)?;
     if let Err(_) = own.keys.insert(key) {
         own.values.pop();
         return Err(AllocError);
     }
     own.depth = own.depth.max(depth);
+    own.has_lists = own.has_lists || is_list;
     own.text = None;
     Ok(())
 }
@@ -252,13 +257,14 @@ fn build_pairs(alloc: Global, elements: &[Element]) -> Result<Pairs, Fault>
 
 /// The pairs, beside this text.
 fn with_text(pairs: Pairs, text: RcStr) -> Pairs
-    ensures { result ≡ record { text = Some text; depth = pairs.depth; keys = pairs.keys; values = pairs.values } }
+    ensures { result ≡ record pairs { text = Some text } }
 {
     Pairs {
         text: Some(text),
         depth: pairs.depth,
         keys: pairs.keys,
         values: pairs.values,
+        has_lists: pairs.has_lists,
     }
 }
 

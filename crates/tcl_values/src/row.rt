@@ -59,6 +59,11 @@ impl Row {
         self.items.items.len()
     }
 
+    /// Does nobody else hold them?
+    pub fn is_alone(&self) -> bool {
+        Rc::strong_count(&self.items) == 1
+    }
+
     /// The value that is a list of them: their written form (list(n)).
     pub fn into_value(self) -> Result<Value, AllocError>
         ensures { IfOk result (λ v. v ≡ written self) }
