@@ -6,7 +6,7 @@ ghost use Rattle.tcl_meaning.specs.Pure.{pure};
 
 use crate::dicts::dict_page;
 use crate::info::info_complete;
-use crate::lists::list_page;
+use crate::lists::{list_page, list_page_taking};
 use std::alloc::Global;
 use tcl_chars::{Dialect, Fault};
 use tcl_pages::PurePage;
@@ -33,5 +33,25 @@ pub fn pure_page(
         PurePage::String(page) => string_page(alloc, page, words, dialect),
         PurePage::Dict(page) => dict_page(alloc, page, words),
         PurePage::InfoComplete => info_complete(alloc, words),
+    }
+}
+
+/// The same, of words that nobody needs any more: a list that nobody else holds is changed in place.
+///
+/// # Errors
+///
+/// As of `pure_page`.
+#[tactic(auto, unfolding(tcl_meaning::specs::Pure::pure))]
+pub(crate) fn pure_page_taking(
+    alloc: Global,
+    dialect: Dialect,
+    page: PurePage,
+    words: &mut [Value],
+) -> Result<Value, Fault>
+    ensures { Answers (λ v. v) result (pure dialect page words.old) }
+{
+    match page {
+        PurePage::List(page) => list_page_taking(alloc, dialect, page, words),
+        page => pure_page(alloc, dialect, page, words),
     }
 }

@@ -1,6 +1,6 @@
 -- Elements that are gathered to be a list.
-use Rattle.std.proofs.Common.{◌≡◌, ℕ, zero, suc, ◌+◌, ◌≤◌, ◌<◌, List, [], ◌∷◌, ◌++◌, length, get_or, max, take, drop, reverse, slice_set, append_assoc, ap, sym, ◌∙◌, ◌-◌, refl, arith}
-use Rattle.std.proofs.lemmas.List.{append-nil, drop-set-lt, drop_more, map-append, reverse-append, take_more}
+use Rattle.std.proofs.Common.{◌≡◌, ℕ, zero, suc, ◌+◌, ◌≤◌, ◌<◌, List, [], ◌∷◌, ◌++◌, length, get_or, max, take, drop, reverse, append_assoc, ap, sym, ◌∙◌, ◌-◌, refl, arith}
+use Rattle.std.proofs.lemmas.List.{append-nil, map-append, reverse-append, take_more}
 use Rattle.tcl_pages.specs.Lists.{replaced, times}
 use Rattle.tcl_values.proofs.Depths.{depth_least, depth_over-append, depth_over-push, depth_take, depth_drop}
 use Rattle.tcl_values.specs.Kept.{Kept, texts, depth_over}
@@ -47,16 +47,6 @@ pub came_texts : (old now new : List Kept) (k : Kept) (ts : List (List ℕ)) (i 
 came_texts old now new k ts i t l is e said same =
     ap texts e ∙ map-append (λ (q : Kept). q.text) now (k ∷ []) ∙ ap (λ us. us ++ k.text ∷ []) same ∙ append_assoc (texts old) (take i ts) (k.text ∷ [])
     ∙ ap (λ us. texts old ++ us) (ap (λ x. take i ts ++ x ∷ []) (said ∙ is) ∙ sym (take_more ts i t l))
-
--- one that is taken from the front of what is left
-pub took_texts : (now new : List Kept) (k : Kept) (ts us all : List (List ℕ)) (i : ℕ) (t v : List ℕ) → i < length ts → t ≡ get_or ts i t → us ≡ slice_set ts i v → new ≡ now ++ k ∷ [] → k.text ≡ t → texts now ++ drop i ts ≡ all → texts new ++ drop (i + 1) us ≡ all
-took_texts now new k ts us all i t v l is left e said same =
-    ap (λ (ks : List Kept). texts ks ++ drop (i + 1) us) e ∙ ap (λ xs. xs ++ drop (i + 1) us) (map-append (λ (q : Kept). q.text) now (k ∷ []))
-    ∙ append_assoc (texts now) (k.text ∷ []) (drop (i + 1) us)
-    ∙ ap (λ xs. texts now ++ xs)
-    (ap (λ x. x ∷ drop (i + 1) us) (said ∙ is) ∙ ap (λ ys. get_or ts i t ∷ drop (i + 1) ys) left
-    ∙ ap (λ ys. get_or ts i t ∷ ys) (drop-set-lt (i + 1) ts i v (omega arith)) ∙ sym (drop_more ts i t l))
-    ∙ same
 
 -- ---- others in the place of some
 

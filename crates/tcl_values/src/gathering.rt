@@ -12,7 +12,6 @@ use crate::row::Row;
 use crate::value::{Held, Value};
 use std::alloc::{AllocError, Global};
 use std::marker::Model;
-use std::mem;
 use std::rc::Rc;
 
 /// Elements, and how deep a list of them is at most. Each stands there once, as it is kept in the list.
@@ -76,30 +75,6 @@ fn add_values(
     let mut deepest = depth;
     for value in more {
         let element = value.element(alloc)?;
-        deepest = deepest.max(element.depth() + 1);
-        items.push(element)?;
-    }
-    Ok(deepest)
-}
-
-/// The same, of values that are taken: nobody needs them any more.
-fn add_taken(
-    alloc: Global,
-    items: &mut Vec<Element>,
-    depth: u8,
-    more: &mut [Value],
-) -> Result<u8, AllocError>
-    requires deeper { depth_over items.old.items ≤ depth }
-    requires limit { depth ≤ 64 }
-    ensures texts { OnOk result (texts items.new.items ≡ texts items.old.items ++ more.old) }
-    ensures deeper { IfOk result (λ d. depth_over items.new.items ≤ d) }
-    ensures limit { IfOk result (λ d. d ≤ 64) }
-{
-    items.reserve(more.len())?;
-    let mut deepest = depth;
-    for place in 0..more.len() {
-        let taken = mem::replace(&mut more[place], Value::of_int(0));
-        let element = taken.into_element(alloc)?;
         deepest = deepest.max(element.depth() + 1);
         items.push(element)?;
     }
@@ -175,15 +150,6 @@ impl Gathering {
     {
         let mut items = self.items;
         let depth = add_values(alloc, &mut items, self.depth, values)?;
-        Ok(Gathering { depth, items })
-    }
-
-    /// The same, of values that are taken: nobody needs them any more.
-    pub fn with_taken(self, alloc: Global, values: &mut [Value]) -> Result<Gathering, AllocError>
-        ensures { IfOk result (λ g. g ≡ self ++ values.old) }
-    {
-        let mut items = self.items;
-        let depth = add_taken(alloc, &mut items, self.depth, values)?;
         Ok(Gathering { depth, items })
     }
 

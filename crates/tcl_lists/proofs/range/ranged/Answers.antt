@@ -5,7 +5,7 @@ use Rattle.std.proofs.lemmas.Int.{to_z-of_z}
 use Rattle.tcl_chars.specs.Answers.{Answers}
 use Rattle.tcl_chars.specs.Index.{clamp}
 use Rattle.tcl_lists.proofs.WordsLemmas.{lrange_usage, lrange_is, count_is}
-use Rattle.tcl_lists.proofs.range.lrange.Goals as goal
+use Rattle.tcl_lists.proofs.range.ranged.Goals as goal
 
 pub returns-then-words-ne3-clause-answer : goal.returns-then-words-ne3-clause-answer
 returns-then-words-ne3-clause-answer c = subst (Answers (λ v. v) c.usage.result) (sym (lrange_usage c.args.dialect c.args.words.now c.if-words-ne3.true)) c.usage.ensures
