@@ -4,6 +4,9 @@ use Rattle.std.specs.Prelude.{◌+ℤ◌, int_lt}
 use Rattle.tcl_chars.specs.Index.{clamp}
 use Rattle.tcl_chars.specs.Messages.{about, number}
 use Rattle.std.proofs.lemmas.List.{length-map}
+use Rattle.tcl_chars.specs.Answers.{Stops}
+use Rattle.tcl_chars.specs.declared.fault.Fault.{Fault}
+use Rattle.tcl_lists.proofs.IndexLemmas.{stops_first, stops_same}
 use Rattle.tcl_lists.specs.WordAt.{word}
 use Rattle.tcl_pages.specs.Answers.{Answer, ◌>>=◌}
 use Rattle.tcl_list.specs.Elements.{elements_of}
@@ -135,6 +138,13 @@ lreplace_is d ws ws1 ws2 ws3 es n f l a b ts v len s1 s2 s3 e0 en e1 e2 ea eb et
   where
     same : written (replaced ts a b (drop 3 ws3)) ≡ written (replaced es (clamp f (length es)) (clamp (l +ℤ pos 1) (length es)) (drop 3 ws))
     same = rw (ea, eb, et, en, s3, s2, s1) refl
+
+pub lreplace_first : (d : Dialect) (ws ws1 es : List Text) (n : ℕ) (f : Fault) → 3 ≤ length ws → ws1 ≡ ws → elements_of (word ws 0) ≡ Ok es → n ≡ length es → Stops f (index d (word ws1 1) n) → Stops f (lreplace d ws)
+lreplace_first d ws ws1 es n f len s e0 en h =
+    stops_same f (index d (word ws1 1) n >>= replace_last d (word ws 2) (drop 3 ws) es) (lreplace d ws)
+    (ap (λ r. r >>= replace_last d (word ws 2) (drop 3 ws) es) (ap (λ u. index d (word u 1) n) s ∙ ap (index d (word ws 1)) en)
+    ∙ sym (ap (lreplace d) (three_more ws len) ∙ ap (λ r. r >>= replace_first d (word ws 1) (word ws 2) (drop 3 ws)) e0))
+    (stops_first f (index d (word ws1 1) n) (replace_last d (word ws 2) (drop 3 ws) es) h)
 
 abbrev repeated_by : List Text → ℤ → Answer Text
 repeated_by ws z = repeated (word ws 0) z (drop 1 ws)
