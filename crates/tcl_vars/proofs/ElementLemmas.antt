@@ -4,7 +4,7 @@ use Rattle.std.specs.Prelude.{cond, nat_lt, slice_get, slice_set}
 use Rattle.tcl_chars.specs.Reading.{◌>>=◌}
 use Rattle.tcl_list.specs.Elements.{elements_of}
 use Rattle.tcl_list.specs.Written.{written}
-use Rattle.tcl_lists.proofs.IndexLemmas.{one_more}
+use Rattle.tcl_values.proofs.Placed.{one_more}
 use Rattle.tcl_pages.specs.Lists.{with_element}
 use Rattle.tcl_pages.specs.Texts.{Text}
 use Rattle.tcl_vars.proofs.WayLemmas.{put_in, get_in}
