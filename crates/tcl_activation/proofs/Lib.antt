@@ -11,6 +11,7 @@ pub mod Pages
 mod Passing
 mod QuickLemmas
 mod Resuming
+mod Runs
 mod Spelling
 mod Standing
 mod Stepping

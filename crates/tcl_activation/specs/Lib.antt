@@ -14,3 +14,4 @@ pub mod Needs
 pub mod Standing
 pub mod Quick
 pub mod Behind
+pub mod Together

@@ -18,6 +18,7 @@ mod results;
 mod stack;
 mod steps;
 mod texts;
+mod together;
 mod variables;
 mod ways;
 
