@@ -15,6 +15,7 @@ mod Runs
 mod Spelling
 mod Standing
 mod Stepping
+mod Storing
 mod Straight
 mod Taking
 mod Topics

@@ -3,6 +3,7 @@
 
 mod activation;
 mod calls;
+mod changing;
 mod expressions;
 mod guards;
 mod inlined;

@@ -4,7 +4,7 @@ use Rattle.std.specs.Prelude.{slice_get, option_map, IfSome, MatchOption}
 use Rattle.std.proofs.lemmas.Option.{slice_get-map, get_or_from_slice_get}
 use Rattle.tcl_pages.specs.Texts.{Text}
 use Rattle.tcl_code.specs.Instructions.{Instruction}
-use Rattle.tcl_code.specs.Shown.{shown, shown_by, text_in, IsKnown, AllKnown, Listing, listing}
+use Rattle.tcl_code.specs.Shown.{CodeTexts, shown, shown_by, text_in, IsKnown, AllKnown, Listing, listing}
 use Rattle.tcl_code.specs.Build.{with_count}
 use Rattle.tcl_code.specs.declared.instr.Instr.{Instr}
 
@@ -12,28 +12,28 @@ use Rattle.tcl_code.specs.declared.instr.Instr.{Instr}
 pub shown_at : (l : Listing) (p : ℕ) (o : Option Instr) → slice_get l.instrs p ≡ o → slice_get (shown_by l) p ≡ option_map (shown l.texts) o
 shown_at l p o e = slice_get-map (shown l.texts) l.instrs p ∙ ap (option_map (shown l.texts)) e
 
--- its text is in the table
-pub known_at : (ts : List Text) (is : List Instr) (p : ℕ) (i : Instr) → AllKnown ts is → slice_get is p ≡ Some i → IsKnown (length ts) i
+-- its text is there
+pub known_at : (ts : CodeTexts) (is : List Instr) (p : ℕ) (i : Instr) → AllKnown ts is → slice_get is p ≡ Some i → IsKnown ts i
 known_at ts [] p i h e = absurd (cc)
 known_at ts (j ∷ is) zero i h e =
-    let P : Instr → Type 0 = λ x. IsKnown (length ts) x in
+    let P : Instr → Type 0 = λ x. IsKnown ts x in
     let f : j ≡ i = cc in
     subst P f h.0
 known_at ts (j ∷ is) (suc p) i h e = known_at ts is p i h.1 e
 
-known_there : (ts : List Text) (is : List Instr) (p : ℕ) (o : Option Instr) → AllKnown ts is → slice_get is p ≡ o → IfSome o (λ i. IsKnown (length ts) i)
+known_there : (ts : CodeTexts) (is : List Instr) (p : ℕ) (o : Option Instr) → AllKnown ts is → slice_get is p ≡ o → IfSome o (λ i. IsKnown ts i)
 known_there ts is p None h e = tt
 known_there ts is p (Some i) h e = known_at ts is p i h e
 
-module _ (is found : List Instr) (ts : List Text) (p : ℕ) (o : Option Instr) (l : Listing) (e : listing is ts ≡ l) (f : found ≡ is) (h : o ≡ slice_get found p) where
+module _ (is found : List Instr) (ts : CodeTexts) (p : ℕ) (o : Option Instr) (l : Listing) (e : listing is ts ≡ l) (f : found ≡ is) (h : o ≡ slice_get found p) where
   at_place : slice_get is p ≡ o
   at_place = ap (λ x. slice_get x p) (sym f) ∙ sym h
 
   pub shown_here : slice_get (shown_by l) p ≡ option_map (shown l.texts) o
   shown_here = let P : Listing → Type 0 = λ x. slice_get (shown_by x) p ≡ option_map (shown x.texts) o in subst P e (shown_at (listing is ts) p o at_place)
 
-  pub known_here : AllKnown ts is → IfSome o (λ i. IsKnown (length l.texts) i)
-  known_here k = let P : Listing → Type 0 = λ x. IfSome o (λ i. IsKnown (length x.texts) i) in subst P e (known_there ts is p o k at_place)
+  pub known_here : AllKnown ts is → IfSome o (λ i. IsKnown l.texts i)
+  known_here k = let P : Listing → Type 0 = λ x. IfSome o (λ i. IsKnown x.texts i) in subst P e (known_there ts is p o k at_place)
 
 -- the text that is found is the item's
 pub text_found : (ts : List Text) (n : ℕ) (t : Text) → slice_get ts n ≡ Some t → text_in ts n ≡ t

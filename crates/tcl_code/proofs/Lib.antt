@@ -9,6 +9,7 @@ pub mod Noting
 pub mod Numbering
 pub mod Place
 pub mod Placing
+pub mod RareLemmas
 pub mod Reading
 pub mod Settling
 pub mod Shapes

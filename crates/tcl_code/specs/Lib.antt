@@ -7,6 +7,7 @@ pub mod Machine
 pub mod Means
 pub mod Open
 pub mod Parts
+pub mod Rare
 pub mod Running
 pub mod Search
 pub mod Shown

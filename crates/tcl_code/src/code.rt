@@ -1,20 +1,22 @@
 //! A code, valid by its type.
 
-ghost use Rattle.std.specs.Prelude.{◌≡◌, ◌<◌, IfSome, Some, length, option_map, slice_get};
+ghost use Rattle.std.specs.Prelude.{◌≡◌, ◌<◌, IfOk, IfSome, Some, length, option_map, slice_get};
 ghost use Rattle.tcl_code.specs.Shown.{IsKnown, shown, shown_by};
 ghost use Rattle.tcl_code.specs.Turns.{turns_of};
 ghost use Rattle.tcl_code.specs.Valid.{Covers, Valid};
 
 use crate::instr::Instr;
 use crate::shape::Shape;
+use crate::texts::Texts;
+use std::alloc::{AllocError, Global};
 use std::marker::Model;
 use tcl_values::Value;
 
-/// A valid code: its instructions and the table of their texts.
+/// A valid code: its instructions and their texts.
 #[derive(Drop)]
 pub struct Code {
     pub(crate) instrs: Vec<Instr>,
-    pub(crate) texts: Vec<Value>,
+    pub(crate) texts: Texts,
     pub(crate) top: Shape,
 }
 
@@ -24,9 +26,9 @@ impl Model for Code {
 
     ghost Value = { Listing };
 
-    ghost view = { λ c. listing c.instrs.items c.texts.items };
+    ghost view = { λ c. listing c.instrs.items c.texts };
 
-    ghost invariant = { λ c. Valid (instructions c.texts.items c.instrs.items) × Covers (instructions c.texts.items c.instrs.items) c.top × AllKnown c.texts.items c.instrs.items };
+    ghost invariant = { λ c. Valid (instructions c.texts c.instrs.items) × Covers (instructions c.texts c.instrs.items) c.top × AllKnown c.texts c.instrs.items };
 }
 
 /// The instruction at a place, if there is one.
@@ -67,18 +69,26 @@ impl Code {
     pub fn instr(&self, place: usize) -> Option<Instr>
         ensures instr { result ≡ slice_get self.now.instrs place }
         ensures shown { slice_get (shown_by self.now) place ≡ option_map (shown self.now.texts) result }
-        ensures known { IfSome result (λ i. IsKnown (length self.now.texts) i) }
+        ensures known { IfSome result (λ i. IsKnown self.now.texts i) }
         ensures valid { Valid (shown_by self.now) }
     {
         item(self.instrs.as_slice(), place)
     }
 
-    /// The text of a number.
+    /// The kept text of a number.
     #[inline(always)]
     pub fn text(&self, number: u32) -> &Value
-        requires { number < length self.now.texts }
-        ensures { slice_get self.now.texts number ≡ Some result.now }
+        requires { number < length self.now.texts.kept }
+        ensures { slice_get self.now.texts.kept number ≡ Some result.now }
     {
-        &self.texts[number as usize]
+        self.texts.kept(number)
+    }
+
+    /// The text of a number among those that are rarely asked for. It is made for who asks.
+    pub fn rare_text(&self, alloc: Global, number: u32) -> Result<Value, AllocError>
+        requires { number < length self.now.texts.rare }
+        ensures { IfOk result (λ v. slice_get self.now.texts.rare number ≡ Some v) }
+    {
+        self.texts.rare(alloc, number)
     }
 }

@@ -13,9 +13,11 @@ mod instr;
 pub mod laws;
 mod notes;
 mod numbers;
+mod rare;
 mod recent;
 mod search;
 mod shape;
+mod texts;
 
 pub use builder::{CodeBuilder, CodeFault};
 pub use code::Code;

@@ -33,7 +33,7 @@ fn widened(alloc: Global, narrow: &[u8]) -> Result<Vec<u32>, AllocError>
 }
 
 /// The item at a place.
-fn get_item<T: Copy>(items: &[T], place: usize) -> Option<T>
+pub(crate) fn get_item<T: Copy>(items: &[T], place: usize) -> Option<T>
     ensures { result ≡ slice_get items.now place }
 {
     items.get(place).copied()

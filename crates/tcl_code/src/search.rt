@@ -2,9 +2,8 @@
 
 ghost use Rattle.std.specs.Prelude.{◌≡◌, ◌+◌, ◌<◌, ◌≤◌, ◌++◌, ◌∷◌, [], false, true, IfOk, IfSome, List, None, Some, length, ℕ};
 ghost use Rattle.tcl_code.specs.Search.{Closed, Decides, Has, Noted, Sound, left_over, listed, maybe_one, shape_at};
-ghost use Rattle.tcl_code.specs.Shown.{instructions};
+ghost use Rattle.tcl_code.specs.Shown.{CodeTexts, instructions, no_texts};
 ghost use Rattle.tcl_code.specs.Valid.{IsWithin, Valid, bare};
-ghost use Rattle.tcl_pages.specs.Texts.{Text};
 ghost use Rattle.tcl_code.specs.declared.shape.Shape.{Shape};
 
 use crate::instr::Instr;
@@ -84,11 +83,11 @@ impl Search {
 
     /// Looks at a place: does its instruction find what it needs and lead inside, and does all that it leads to fit?
     fn settle(&mut self, code: &[Instr], place: usize) -> Result<bool, AllocError>
-        requires sound { Sound (instructions [] code.now) self.old.shapes }
-        requires closed { Closed (instructions [] code.now) self.old.shapes (self.old.pending.items ++ place ∷ []) }
+        requires sound { Sound (instructions no_texts code.now) self.old.shapes }
+        requires closed { Closed (instructions no_texts code.now) self.old.shapes (self.old.pending.items ++ place ∷ []) }
         requires long { length self.old.shapes ≡ length code.now + 1 }
-        ensures yes { IfOk result (λ fits. fits ≡ true → Sound (instructions [] code.now) self.new.shapes × Closed (instructions [] code.now) self.new.shapes self.new.pending.items) }
-        ensures no { IfOk result (λ fits. fits ≡ false → Valid (instructions [] code.now) → ⊥) }
+        ensures yes { IfOk result (λ fits. fits ≡ true → Sound (instructions no_texts code.now) self.new.shapes × Closed (instructions no_texts code.now) self.new.shapes self.new.pending.items) }
+        ensures no { IfOk result (λ fits. fits ≡ false → Valid (instructions no_texts code.now) → ⊥) }
         ensures kept { IfOk result (λ _. (p : ℕ) (s : Shape) → shape_at self.old.shapes p ≡ Some s → shape_at self.new.shapes p ≡ Some s) }
         ensures long { IfOk result (λ _. length self.new.shapes ≡ length self.old.shapes) }
         ensures less { IfOk result (λ _. left_over self.new.shapes self.new.pending.items ≤ left_over self.old.shapes self.old.pending.items) }
@@ -134,8 +133,8 @@ fn nothing(alloc: Global, count: usize) -> Result<Search, AllocError>
 fn started(alloc: Global, count: usize) -> Result<Search, AllocError>
     requires { 0 < count }
     ensures start { IfOk result (λ s. shape_at s.shapes 0 ≡ Some bare) }
-    ensures sound { IfOk result (λ s. (code : List Instr) → Sound (instructions [] code) s.shapes) }
-    ensures closed { IfOk result (λ s. (code : List Instr) → Closed (instructions [] code) s.shapes s.pending.items) }
+    ensures sound { IfOk result (λ s. (code : List Instr) → Sound (instructions no_texts code) s.shapes) }
+    ensures closed { IfOk result (λ s. (code : List Instr) → Closed (instructions no_texts code) s.shapes s.pending.items) }
     ensures long { IfOk result (λ s. length s.shapes ≡ count) }
 {
     let mut search = nothing(alloc, count)?;
@@ -145,7 +144,7 @@ fn started(alloc: Global, count: usize) -> Result<Search, AllocError>
 
 /// The shape that covers all that is reached in a code, whatever its texts, if it is valid.
 pub(crate) fn decide(alloc: Global, code: &[Instr]) -> Result<Option<Shape>, AllocError>
-    ensures { IfOk result (λ top. (texts : List Text) → Decides top (instructions texts code.now)) }
+    ensures { IfOk result (λ top. (texts : CodeTexts) → Decides top (instructions texts code.now)) }
 {
     let mut search = started(alloc, code.len() + 1)?;
     while let Some(place) = search.pending.pop() {

@@ -2,10 +2,11 @@
 
 ghost use Rattle.std.specs.Prelude.{◌≡◌, ◌+◌, ◌-◌, ◌<◌, ◌≤◌, ◌^◌, ◌∷◌, [], ◌↔◌, IfOk, IfSome, IsTrue, length};
 ghost use Rattle.tcl_code.specs.Search.{StaysInside, begun, listed, maybe_one, reached};
-ghost use Rattle.tcl_code.specs.Shown.{shown};
+ghost use Rattle.tcl_code.specs.Shown.{no_texts, shown, textual};
+ghost use Rattle.tcl_pages.specs.Texts.{Text};
 ghost use Rattle.tcl_code.specs.Valid.{IsEager, IsFine, IsWithin, bare, bare_in, inner, left_by, with_texts};
 
-use crate::instr::Instr;
+use crate::instr::{Instr, TextInstr};
 use std::alloc::AllocError;
 use tcl_expr::BinaryOp;
 
@@ -97,7 +98,7 @@ impl Shape {
 
     /// What stands where an instruction leads with another shape.
     pub(crate) fn inner(self, instr: Instr) -> Result<Shape, AllocError>
-        ensures { IfOk result (λ s. s ≡ inner (shown [] instr) self) }
+        ensures { IfOk result (λ s. s ≡ inner (shown no_texts instr) self) }
     {
         match instr {
             Instr::Guard(_, _) => Ok(Shape {
@@ -128,15 +129,19 @@ impl Shape {
 
     /// What an instruction leaves.
     pub(crate) fn after(self, instr: Instr) -> Result<Shape, AllocError>
-        ensures { IfOk result (λ s. s ≡ left_by (shown [] instr) self) }
+        ensures { IfOk result (λ s. s ≡ left_by (shown no_texts instr) self) }
     {
         match instr {
-            Instr::Push(_) | Instr::Read(_) | Instr::ReadPairs(_) | Instr::TakeFirst => {
-                self.with_texts(0, 1)
-            }
-            Instr::ReadElement(_) | Instr::Unary(_) | Instr::Truth | Instr::Final => {
-                self.with_texts(1, 1)
-            }
+            Instr::Push(_)
+            | Instr::Read(_)
+            | Instr::ReadPairs(_)
+            | Instr::Rare(TextInstr::Push | TextInstr::Read, _)
+            | Instr::TakeFirst => self.with_texts(0, 1),
+            Instr::ReadElement(_)
+            | Instr::Rare(TextInstr::ReadElement, _)
+            | Instr::Unary(_)
+            | Instr::Truth
+            | Instr::Final => self.with_texts(1, 1),
             Instr::Join(n) | Instr::Apply(_, n) => self.with_texts(n, 1),
             Instr::Binary(_) | Instr::Power => self.with_texts(2, 1),
             Instr::Add
@@ -144,9 +149,11 @@ impl Shape {
             | Instr::SkipWhen(_, _)
             | Instr::Answer
             | Instr::Write(_)
-            | Instr::Bump(_) => self.with_texts(1, 0),
-            Instr::Under(_) => self.with_texts(1, 2),
+            | Instr::Bump(_)
+            | Instr::Rare(TextInstr::Write | TextInstr::Bump, _) => self.with_texts(1, 0),
+            Instr::Under(_) | Instr::Rare(TextInstr::Under, _) => self.with_texts(1, 2),
             Instr::Raise(_)
+            | Instr::Rare(TextInstr::Raise, _)
             | Instr::Skip(_)
             | Instr::Turn(_)
             | Instr::Guard(_, _)
@@ -198,9 +205,20 @@ impl Shape {
         }
     }
 
+    /// Does an instruction that has a text find what it needs?
+    fn suits_text(self, instr: TextInstr) -> bool
+        ensures { (text : Text) → IsTrue result ↔ IsFine (textual instr text) self }
+    {
+        match instr {
+            TextInstr::Push | TextInstr::Read | TextInstr::Raise => true,
+            TextInstr::ReadElement | TextInstr::Under | TextInstr::Write | TextInstr::Bump =>
+                self.height >= 1,
+        }
+    }
+
     /// Does an instruction find what it needs?
     pub(crate) fn suits(self, instr: Instr) -> bool
-        ensures { IsTrue result ↔ IsFine (shown [] instr) self }
+        ensures { IsTrue result ↔ IsFine (shown no_texts instr) self }
     {
         match instr {
             Instr::Push(_)
@@ -227,6 +245,7 @@ impl Shape {
             | Instr::Under(_)
             | Instr::Write(_)
             | Instr::Bump(_) => self.height >= 1,
+            Instr::Rare(instr, _) => self.suits_text(instr),
             Instr::Join(n) | Instr::Apply(_, n) | Instr::Deal(n) => self.height >= n,
             Instr::Leave | Instr::Become => self.depth >= 1,
             Instr::Call(n) => self.height >= n && self.paid >= 1,
@@ -241,7 +260,7 @@ impl Shape {
 /// Does an instruction lead inside?
 pub(crate) fn stays_inside(place: usize, count: usize, instr: Instr) -> bool
     requires { place < count }
-    ensures { IsTrue result ↔ StaysInside place count (shown [] instr) }
+    ensures { IsTrue result ↔ StaysInside place count (shown no_texts instr) }
 {
     match instr {
         Instr::Skip(n) | Instr::SkipWhen(_, n) | Instr::SkipEmpty(n) | Instr::Guard(_, n) => {
@@ -256,12 +275,16 @@ pub(crate) fn stays_inside(place: usize, count: usize, instr: Instr) -> bool
 /// The places that an instruction leads to, which are inside.
 pub(crate) fn leads_to(place: usize, count: usize, instr: Instr) -> Reached
     requires at { place < count }
-    requires inside { StaysInside place count (shown [] instr) }
-    ensures { listed result ≡ reached place (shown [] instr) }
+    requires inside { StaysInside place count (shown no_texts instr) }
+    ensures { listed result ≡ reached place (shown no_texts instr) }
 {
     let next = place + 1;
     match instr {
-        Instr::Raise(_) | Instr::Again | Instr::Break | Instr::Continue => Reached {
+        Instr::Raise(_)
+        | Instr::Rare(TextInstr::Raise, _)
+        | Instr::Again
+        | Instr::Break
+        | Instr::Continue => Reached {
             first: None,
             second: None,
         },
@@ -291,7 +314,7 @@ pub(crate) fn leads_to(place: usize, count: usize, instr: Instr) -> Reached
 /// The place that an instruction leads to with another shape.
 pub(crate) fn inner_at(place: usize, count: usize, instr: Instr) -> Option<usize>
     requires at { place < count }
-    ensures place { maybe_one result ≡ begun place (shown [] instr) }
+    ensures place { maybe_one result ≡ begun place (shown no_texts instr) }
     ensures inside { IfSome result (λ p. p ≤ count) }
 {
     match instr {

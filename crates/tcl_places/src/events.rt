@@ -1,7 +1,7 @@
 //! Commands of a code, by its instructions.
 
 use std::alloc::{AllocError, Global};
-use tcl_code::{Code, Inlined, Instr};
+use tcl_code::{Code, Inlined, Instr, TextInstr};
 
 // Does a script end at an instruction that stands in a code?
 fn ends_script(instr: Option<Instr>) -> bool {
@@ -15,7 +15,9 @@ fn ends_script(instr: Option<Instr>) -> bool {
 fn begins_at(code: &Code, place: usize) -> bool {
     match code.instr(place) {
         Some(Instr::Spend) => true,
-        Some(Instr::Raise(_)) => ends_script(code.instr(place.saturating_add(1))),
+        Some(Instr::Raise(_) | Instr::Rare(TextInstr::Raise, _)) => ends_script(code.instr(
+            place.saturating_add(1),
+        )),
         _ => false,
     }
 }
