@@ -1,5 +1,5 @@
 //! Values that are put on top of one another.
-ghost use Rattle.std.specs.Prelude.{◌≡◌, ◌≤◌, ◌<◌, ◌∷◌, ◌++◌, Some, [], length, take, drop, reverse, option_map, vec_len, vec_capacity, OnOk, OnErr, IfOk};
+ghost use Rattle.std.specs.Prelude.{◌≡◌, ◌≤◌, ◌<◌, ◌∷◌, ◌++◌, Some, [], true, false, length, take, drop, reverse, option_map, vec_len, vec_capacity, OnOk, OnErr, IfOk};
 ghost use Rattle.std.specs.Borrow.{sem};
 ghost use Rattle.tcl_activation.specs.Piles.{Lifts};
 ghost use Rattle.tcl_activation.specs.PileLent.{LendsNewest, LendsTop};
@@ -65,6 +65,19 @@ impl<T: Drop> Pile<T> {
         }
         self.items.push_reserved(item);
         Ok(())
+    }
+
+    /// One more on top, if there is room for it: tells whether there is.
+    #[inline(always)]
+    pub fn push_near(&mut self, item: T) -> bool
+        ensures done { result ≡ true → self.new ≡ item ∷ self.old }
+        ensures same { result ≡ false → self.new ≡ self.old }
+    {
+        if self.items.len() >= self.items.capacity() {
+            return false;
+        }
+        self.items.push_reserved(item);
+        true
     }
 
     /// What lies on top is taken away.

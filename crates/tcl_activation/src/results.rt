@@ -1,5 +1,5 @@
 //! How the last commands of open scripts have ended.
-ghost use Rattle.std.specs.Prelude.{◌≡◌, ◌≤◌, [], ◌∷◌, drop, length, IfOk, OnOk};
+ghost use Rattle.std.specs.Prelude.{◌≡◌, ◌≤◌, [], ◌∷◌, drop, false, length, IfOk, OnOk};
 ghost use Rattle.tcl_meaning.specs.Completions.{nothing, normal};
 
 use crate::pile::grow;
@@ -219,6 +219,14 @@ impl Results {
         ensures { self.new ≡ drop 1 self.old }
     {
         discard(self.pop());
+    }
+
+    /// Has no script begun?
+    #[inline(always)]
+    pub(crate) fn is_empty(&self) -> bool
+        ensures { result ≡ false → 1 ≤ length self.now }
+    {
+        self.items.is_empty()
     }
 
     /// The newest is let go: its script's next command begins.
