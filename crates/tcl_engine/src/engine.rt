@@ -35,6 +35,7 @@ impl<V: Devices> Engine for Host<'_, '_, '_, '_, V> {
 
     ghost leaves = { HostLeaves V.leaves };
 
+    #[inline(always)]
     fn step(
         &mut self,
         activation: &mut Activation,
