@@ -11,6 +11,7 @@ pub mod Pages
 mod Passing
 mod QuickLemmas
 mod Resuming
+mod Rounding
 mod Runs
 mod Spelling
 mod Standing

@@ -15,3 +15,4 @@ pub mod Standing
 pub mod Quick
 pub mod Behind
 pub mod Together
+pub mod Rounds

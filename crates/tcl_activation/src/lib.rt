@@ -16,6 +16,7 @@ mod quick;
 mod quick_pairs;
 mod quick_step;
 mod results;
+mod rounds;
 mod stack;
 mod steps;
 mod texts;

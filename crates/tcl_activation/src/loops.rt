@@ -1,6 +1,7 @@
 //! Loops whose bodies run.
 ghost use Rattle.std.specs.Prelude.{◌≡◌, ◌≤◌, ◌<◌, ◌+◌, ◌^◌, Bool, [], ◌∷◌, true, false, length, reverse, take, OnOk};
 ghost use Rattle.tcl_activation.specs.Passing.{Passes};
+ghost use Rattle.tcl_activation.specs.Rounds.{IsOpen};
 ghost use Rattle.tcl_activation.specs.Saved.{loop_of};
 ghost use Rattle.tcl_meaning.specs.Completions.{nothing};
 
@@ -30,6 +31,14 @@ impl Model for Loops {
     ghost view = { λ l. reverse (take l.open l.items.items) };
 
     ghost invariant = { λ l. l.open ≤ length l.items.items };
+}
+
+/// What the newest loop goes on with, as it stands on the stack: its place behind `break`, whether `continue` passes it, and its depth.
+#[derive(Clone, Copy)]
+pub(crate) struct Open {
+    pub(crate) at: usize,
+    pub(crate) passes: bool,
+    pub(crate) depth: u32,
 }
 
 // Has one more than `count` there.
@@ -90,11 +99,27 @@ impl Loops {
         self.open == 0
     }
 
+    /// The newest.
+    #[inline(always)]
+    pub(crate) fn newest(&self) -> Open
+        requires { 1 ≤ length self.now }
+        ensures { IsOpen result self.now }
+    {
+        self.items[self.open - 1].seen()
+    }
+
     /// How many of the newest in a row `continue` passes, if it doesn't pass all.
     pub fn passed(&self) -> Option<usize>
         ensures { Passes result self.now }
     {
         passed(&self.items[..self.open])
+    }
+
+    /// All are closed, and what they have saved isn't put back.
+    pub(crate) fn close_all(&mut self)
+        ensures { self.new ≡ [] }
+    {
+        self.open = 0;
     }
 
     /// One more is open, and saves these. In their place comes what its body begins with.

@@ -3,6 +3,7 @@ ghost use Rattle.std.specs.Prelude.{◌≡◌, ◌+◌, ◌<◌, ◌^◌, [], �
 ghost use Rattle.tcl_activation.specs.Saved.{loop_of};
 ghost use Rattle.tcl_meaning.specs.Completions.{nothing};
 
+use crate::loops::Open;
 use crate::pile::Pile;
 use crate::results::Results;
 use crate::stack::Words;
@@ -70,6 +71,21 @@ impl OpenLoop {
         texts.move_to(&mut self.texts);
         lists.move_to(&mut self.lists);
         results.move_to(&mut self.results);
+    }
+
+    /// What it goes on with.
+    #[inline(always)]
+    pub(crate) fn seen(&self) -> Open
+        ensures at { result.at ≡ self.now.at }
+        ensures passes { result.passes ≡ self.now.passes }
+        ensures depth { result.depth ≡ self.now.depth }
+        ensures place { result.at + 1 < 2 ^ 64 }
+    {
+        Open {
+            at: self.at,
+            passes: self.passes,
+            depth: self.depth,
+        }
     }
 
     /// Does `continue` pass it?

@@ -55,6 +55,25 @@ impl<T: Drop> Pile<T> {
         })
     }
 
+    /// All is dropped, but for the room.
+    pub(crate) fn clear(&mut self)
+        ensures { self.new ≡ [] }
+    {
+        self.items.clear();
+    }
+
+    /// Makes room for `count` more.
+    pub(crate) fn provide(&mut self, count: u32) -> Result<(), AllocError>
+        ensures { self.new ≡ self.old }
+    {
+        self.items.reserve(count as usize)
+    }
+
+    /// Is nothing there?
+    pub(crate) fn is_empty(&self) -> bool {
+        self.items.is_empty()
+    }
+
     /// One more on top.
     #[inline(always)]
     pub fn push(&mut self, item: T) -> Result<(), AllocError>

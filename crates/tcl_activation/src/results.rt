@@ -161,7 +161,7 @@ impl Results {
 
     // All are let go but that of one script, which has run no command yet.
     #[inline(always)]
-    fn restart(&mut self)
+    pub(crate) fn restart(&mut self)
         ensures { self.new ≡ nothing ∷ [] }
     {
         if self.items.len() == 1 {

@@ -1,6 +1,7 @@
 //! What stands where a code runs.
 ghost use Rattle.std.specs.Prelude.{◌≡◌, [], ◌∷◌, ◌++◌, ◌≤◌, Some, true, false, length, IfOk, OnOk};
 ghost use Rattle.tcl_code.specs.Machine.{taken};
+ghost use Rattle.tcl_meaning.specs.Completions.{nothing};
 
 use crate::loops::Loops;
 use crate::pile::Pile;
@@ -112,6 +113,30 @@ pub struct Stack {
     pub results: Results,
     pub loops: Loops,
     pub depth: u32,
+}
+
+impl Stack {
+    /// What a code begins with, with room for `height` texts.
+    pub(crate) fn begin(&mut self, height: u32, depth: u32) -> Result<(), AllocError>
+        ensures texts { OnOk result (self.new.texts ≡ []) }
+        ensures lists { OnOk result (self.new.lists ≡ []) }
+        ensures results { OnOk result (self.new.results ≡ nothing ∷ []) }
+        ensures loops { OnOk result (self.new.loops ≡ []) }
+        ensures depth { OnOk result (self.new.depth ≡ depth) }
+    {
+        self.texts.clear();
+        self.texts.provide(height)?;
+        self.lists.clear();
+        self.results.restart();
+        self.loops.close_all();
+        self.depth = depth;
+        Ok(())
+    }
+
+    /// Is nothing there but how last commands have ended?
+    pub(crate) fn is_empty(&self) -> bool {
+        self.texts.is_empty() && self.lists.is_empty() && self.loops.is_empty()
+    }
 }
 
 /// Takes the top `count` texts away and answers them, the oldest first.

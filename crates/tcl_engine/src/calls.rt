@@ -82,7 +82,7 @@ fn found<'a>(table: &'a Table, word: &str, first: &Value) -> Option<&'a Command>
     }
 }
 
-impl<V: Devices> Host<'_, '_, '_, '_, V> {
+impl<V: Devices> Host<'_, '_, '_, '_, '_, V> {
     // A command, or a subcommand, by its page.
     fn page(
         &mut self,

@@ -6,18 +6,18 @@ ghost use Rattle.tcl_engine.specs.Hosts.{shown, HostLeaves};
 use crate::host::Host;
 use crate::lifts::asked_over;
 use crate::owed::after;
+use crate::rooms::Room;
 use crate::scopes;
 use crate::undone::Undone;
 use std::alloc::AllocError;
-use tcl_activation::Activation;
 use tcl_channels::Devices;
 use tcl_each::turned;
 use tcl_steps::{Completion, Loop, Owes, Scope, Step};
 use tcl_values::Value;
 use tcl_vm::{Engine, Progress, Stop};
 
-impl<V: Devices> Engine for Host<'_, '_, '_, '_, V> {
-    type Activation = Activation;
+impl<V: Devices> Engine for Host<'_, '_, '_, '_, '_, V> {
+    type Activation = Room;
 
     type Undone = Undone;
 
@@ -38,39 +38,39 @@ impl<V: Devices> Engine for Host<'_, '_, '_, '_, V> {
     #[inline(always)]
     fn step(
         &mut self,
-        activation: &mut Activation,
+        room: &mut Room,
         paid: &mut u64,
     ) -> Result<Progress<Scope, Owes, Loop>, Stop> {
         let dialect = self.codes.dialect();
-        self.stride(dialect, activation, paid)
+        self.stride(dialect, &mut room.activation, paid)
     }
 
-    fn depth(&self, activation: &Activation) -> u64 {
-        u64::from(activation.depth())
+    fn depth(&self, room: &Room) -> u64 {
+        u64::from(room.activation.depth())
     }
 
     fn answer(
         &self,
-        activation: &mut Activation,
+        room: &mut Room,
         completion: Completion,
     ) -> Result<Option<Completion>, AllocError> {
-        activation.answer(completion)
+        room.activation.answer(completion)
     }
 
     fn too_deep(&self) -> Result<Completion, AllocError> {
         Completion::too_deep(self.alloc)
     }
 
-    fn script(&mut self, mut text: Value, depth: u64) -> Result<Activation, AllocError> {
+    fn script(&mut self, mut text: Value, depth: u64) -> Result<Room, AllocError> {
         let text = text.text(self.alloc)?;
         let code = self.codes.script(self.alloc, text.as_str())?;
-        Activation::new(self.alloc, code, depth as u32)
+        self.rooms.begin(self.alloc, code, depth as u32)
     }
 
-    fn expression(&mut self, mut text: Value, depth: u64) -> Result<Activation, AllocError> {
+    fn expression(&mut self, mut text: Value, depth: u64) -> Result<Room, AllocError> {
         let text = text.text(self.alloc)?;
         let code = self.codes.expression(self.alloc, text.as_str())?;
-        Activation::new(self.alloc, code, depth as u32)
+        self.rooms.begin(self.alloc, code, depth as u32)
     }
 
     fn enter(&mut self, scope: Scope) -> Result<Undone, AllocError> {
@@ -81,8 +81,9 @@ impl<V: Devices> Engine for Host<'_, '_, '_, '_, V> {
         Undone::Nothing
     }
 
-    fn undo(&mut self, undone: Undone) {
+    fn undo(&mut self, undone: Undone, ended: Room) {
         scopes::leave(self.frames, undone);
+        self.rooms.leave(ended);
     }
 
     fn owed(

@@ -4,16 +4,16 @@ ghost use Rattle.tcl_engine.specs.Answered.{host_views};
 ghost use Rattle.tcl_noting.specs.Following.{is_leaving};
 
 use crate::host::Host;
-use tcl_activation::Activation;
+use crate::rooms::Room;
 use tcl_channels::Devices;
 use tcl_noting::Follow;
 use tcl_steps::Owes;
 
-impl<V: Devices> Follow for Host<'_, '_, '_, '_, V> {
-    fn place(activation: &Activation) -> usize
-        ensures { result ≡ (host_views.running activation.now).spot.at }
+impl<V: Devices> Follow for Host<'_, '_, '_, '_, '_, V> {
+    fn place(room: &Room) -> usize
+        ensures { result ≡ (host_views.running room.now).spot.at }
     {
-        activation.place()
+        room.activation.place()
     }
 
     fn is_leaving(owes: &Owes) -> bool

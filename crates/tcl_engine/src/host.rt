@@ -5,6 +5,7 @@ ghost use Rattle.tcl_engine.specs.Hosts.{shown, HostLeaves};
 ghost use Rattle.tcl_meaning.specs.State.{with_units};
 
 use crate::kept::Kept;
+use crate::rooms::Rooms;
 use std::alloc::{AllocError, Global};
 use tcl_activation::{Activation, Progress};
 use tcl_channels::Devices;
@@ -15,28 +16,31 @@ use tcl_table::Table;
 
 /// What a run works on: what an interpreter keeps, and devices. Its units are what is left of them.
 #[derive(Drop)]
-pub struct Host<'frames, 'table, 'codes, 'devices, V: Devices> {
+pub struct Host<'frames, 'table, 'codes, 'devices, 'rooms, V: Devices> {
     pub(crate) alloc: Global,
     pub(crate) frames: &'frames mut Frames,
     pub(crate) table: &'table mut Table,
     pub(crate) codes: &'codes mut Codes,
     pub(crate) devices: &'devices mut V,
+    pub(crate) rooms: &'rooms mut Rooms,
     pub(crate) units: u64,
 }
 
 /// The host over what is lent.
-pub fn host_over<'frames, 'table, 'codes, 'devices, V: Devices>(
+pub fn host_over<'frames, 'table, 'codes, 'devices, 'rooms, V: Devices>(
     alloc: Global,
     frames: &'frames mut Frames,
     table: &'table mut Table,
     codes: &'codes mut Codes,
     devices: &'devices mut V,
+    rooms: &'rooms mut Rooms,
     units: u64,
-) -> Host<'frames, 'table, 'codes, 'devices, V>
+) -> Host<'frames, 'table, 'codes, 'devices, 'rooms, V>
     ensures frames { result.frames ≡ frames.entry }
     ensures table { result.table ≡ table.entry }
     ensures codes { result.codes ≡ codes.entry }
     ensures devices { result.devices ≡ devices.entry }
+    ensures rooms { result.rooms ≡ rooms.entry }
     ensures units { result.units ≡ units }
 {
     Host {
@@ -45,11 +49,12 @@ pub fn host_over<'frames, 'table, 'codes, 'devices, V: Devices>(
         table,
         codes,
         devices,
+        rooms,
         units,
     }
 }
 
-impl<V: Devices> Host<'_, '_, '_, '_, V> {
+impl<V: Devices> Host<'_, '_, '_, '_, '_, V> {
     /// How many units are left.
     pub fn units(&self) -> u64
         ensures { result ≡ self.now.units }

@@ -15,9 +15,11 @@ mod lifts;
 mod looking;
 mod owed;
 mod pages;
+mod rooms;
 mod scopes;
 mod stride;
 mod undone;
 
 pub use host::{Host, host_over};
+pub use rooms::{Room, Rooms};
 pub use undone::Undone;

@@ -4,7 +4,7 @@ use Rattle.std.specs.Coded.{Coded, code_by, coded×}
 use Rattle.tcl_chan.specs.declared.reading.Reader.{Reader}
 use Rattle.tcl_chan.specs.declared.world.World.{World}
 use Rattle.tcl_channels.specs.Shown.{channels_of}
-use Rattle.tcl_activation.specs.contracts.activation.Activation as activation
+use Rattle.tcl_engine.specs.contracts.rooms.Room as room
 use Rattle.tcl_chars.specs.contracts.numbers.Dialect as dialect
 use Rattle.tcl_chars.specs.declared.numbers.Dialect.{Dialect}
 use Rattle.tcl_code.specs.Running.{Running}
@@ -52,7 +52,7 @@ pub record RunShows : Type 0 where
   pub stage : Stage
 
 abbrev pub machine_code : Coded Machine
-machine_code = (paused.the_row activation.the_row undone.the_row scope.the_row owes.the_row loop_row.the_row).coded
+machine_code = (paused.the_row room.the_row undone.the_row scope.the_row owes.the_row loop_row.the_row).coded
 
 abbrev pub run_code : Coded RunShows
 run_code = code_by (Dialect × (Machine × (Standing × (Commands × Stage)))) (coded× dialect.the_row.coded (coded× machine_code (coded× standing_code (coded× commands_code stage_row.the_row.coded)))) (λ r. (r.dialect, (r.machine, (r.frames, (r.commands, r.stage))))) (λ p. record { dialect = p.0; machine = p.1.0; frames = p.1.1.0; commands = p.1.1.1.0; stage = p.1.1.1.1 }) (λ _. refl)

@@ -15,11 +15,10 @@ use crate::outcome::outcome_of;
 use crate::stage::{Stage, stage_after, stage_fails};
 use std::alloc::Global;
 use std::marker::Model;
-use tcl_activation::Activation;
 use tcl_chan::device::{Input, Output};
 use tcl_chan::world::World;
 use tcl_compile::Codes;
-use tcl_engine::Undone;
+use tcl_engine::{Room, Undone};
 use tcl_frames::Frames;
 use tcl_run::{resume, start};
 use tcl_steps::{Loop, Owes, Scope};
@@ -34,7 +33,7 @@ pub struct Run {
     frames: Frames,
     table: Table,
     codes: Codes,
-    paused: Paused<Activation, Undone, Scope, Owes, Loop>,
+    paused: Paused<Room, Undone, Scope, Owes, Loop>,
     stage: Stage,
 }
 

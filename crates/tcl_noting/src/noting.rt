@@ -164,8 +164,8 @@ impl<E: Follow> Engine for Noting<'_, E, RefCell<Notes>> {
         self.engine.stay()
     }
 
-    fn undo(&mut self, undone: E::Undone) {
-        self.engine.undo(undone);
+    fn undo(&mut self, undone: E::Undone, ended: Followed<E::Activation>) {
+        self.engine.undo(undone, ended.activation);
     }
 
     fn owed(

@@ -13,11 +13,10 @@ ghost use Rattle.tcl_vm.specs.Turns.{Fits, Onward};
 ghost use Rattle.tcl_vm.specs.Unwinding.{Unwinds};
 
 use std::alloc::{AllocError, Global};
-use tcl_activation::Activation;
 use tcl_channels::Devices;
 use tcl_chars::message;
 use tcl_compile::Codes;
-use tcl_engine::{Undone, host_over};
+use tcl_engine::{Room, Rooms, Undone, host_over};
 use tcl_frames::Frames;
 use tcl_noting::Place;
 use tcl_steps::{Completion, Loop, Owes, Scope};
@@ -47,7 +46,8 @@ pub fn run<V: Devices>(
     ensures dialect { codes.new ≡ codes.old }
 {
     let text = Value::of_text(message(alloc, script)?);
-    let mut host = host_over(alloc, frames, table, codes, devices, *units);
+    let mut rooms = Rooms::new(alloc);
+    let mut host = host_over(alloc, frames, table, codes, devices, &mut rooms, *units);
     let ended = tcl_vm::run(alloc, &mut host, text, 1);
     *units = host.units();
     ended
@@ -75,7 +75,8 @@ pub fn run_noted<V: Devices>(
     ensures dialect { codes.new ≡ codes.old }
 {
     let text = Value::of_text(message(alloc, script)?);
-    let mut host = host_over(alloc, frames, table, codes, devices, *units);
+    let mut rooms = Rooms::new(alloc);
+    let mut host = host_over(alloc, frames, table, codes, devices, &mut rooms, *units);
     let ended = tcl_noting::run_noted(alloc, &mut host, text, 1, places);
     *units = host.units();
     ended
@@ -90,13 +91,13 @@ pub fn start(
     alloc: Global,
     codes: &mut Codes,
     script: &str,
-) -> Result<Paused<Activation, Undone, Scope, Owes, Loop>, AllocError>
+) -> Result<Paused<Room, Undone, Scope, Owes, Loop>, AllocError>
     ensures begins { IfOk result (λ paused. (s : State) → Begins codes.old (chars script.now) 1 (seen host_views paused s)) }
     ensures dialect { codes.new ≡ codes.old }
 {
     let code = codes.script(alloc, script)?;
-    let activation = Activation::new(alloc, code, 1)?;
-    Ok(Paused::new(alloc, activation))
+    let room = Room::new(alloc, code, 1)?;
+    Ok(Paused::new(alloc, room))
 }
 
 /// Goes on over what an interpreter keeps and over devices, and may spend `units`. Where a unit is wanting, the machine stands where it goes
@@ -111,7 +112,7 @@ pub fn resume<V: Devices>(
     table: &mut Table,
     codes: &mut Codes,
     devices: &mut V,
-    paused: &mut Paused<Activation, Undone, Scope, Owes, Loop>,
+    paused: &mut Paused<Room, Undone, Scope, Owes, Loop>,
     units: &mut u64,
 ) -> Result<Completion, Stop>
     requires fits { Fits (seen host_views paused.old (state_of table.old (V.channels devices.old) units.old frames.old)) }
@@ -120,7 +121,8 @@ pub fn resume<V: Devices>(
     ensures leaves { V.leaves (is_io result) devices.old devices.new }
     ensures dialect { codes.new ≡ codes.old }
 {
-    let mut host = host_over(alloc, frames, table, codes, devices, *units);
+    let mut rooms = Rooms::new(alloc);
+    let mut host = host_over(alloc, frames, table, codes, devices, &mut rooms, *units);
     let ended = tcl_vm::resume(&mut host, paused);
     *units = host.units();
     ended

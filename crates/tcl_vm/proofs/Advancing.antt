@@ -1,5 +1,5 @@
 -- What the real instructions make of the real machine.
-use Rattle.std.proofs.Common.{◌≡◌, refl, ap, ◌∙◌, arith, ℕ, ◌+◌, ◌-◌, ◌≤◌, List, Result, Ok, Err, IfOk, sym, subst, ⊎_elim}
+use Rattle.std.proofs.Common.{◌≡◌, refl, ap, ◌∙◌, arith, ℕ, ◌-◌, ◌≤◌, List, Result, Ok, Err, IfOk, sym, subst, ⊎_elim}
 use Rattle.tcl_meaning.specs.Completions.{Completion}
 use Rattle.tcl_chars.specs.declared.numbers.Dialect.{Dialect}
 use Rattle.tcl_meaning.specs.State.{State, remains}
@@ -10,7 +10,7 @@ use Rattle.tcl_vm.specs.Machines.{Stops, Makes}
 use Rattle.tcl_vm.specs.Standing.{Running, Waiting, Machine}
 use Rattle.tcl_meaning.specs.Beginnings.{more}
 use Rattle.tcl_meaning.specs.Pages.{invoked}
-use Rattle.tcl_vm.specs.Turns.{Turn, Next, Asking, Ending, Config, Fits, Kind, Onward, Later, Turned, Paused, Pauses, On, Used}
+use Rattle.tcl_vm.specs.Turns.{Turn, Asking, Ending, Config, Fits, Kind, Onward, Later, Turned, Paused, Pauses, On, Used}
 use Rattle.tcl_vm.specs.declared.engine.Stop.{Stop}
 use Rattle.tcl_vm.specs.declared.engine.Stop.TheVariants as stop
 use Rattle.tcl_steps.specs.declared.step.Step.{Step as Asked}

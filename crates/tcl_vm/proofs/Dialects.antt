@@ -1,5 +1,5 @@
 -- What is known in a dialect is known in the same one.
-use Rattle.std.proofs.Common.{◌≡◌, Result, Ok, subst}
+use Rattle.std.proofs.Common.{◌≡◌, Result, subst}
 use Rattle.tcl_chars.specs.declared.numbers.Dialect.{Dialect}
 use Rattle.tcl_meaning.specs.Completions.{Completion}
 use Rattle.tcl_meaning.specs.Effects.{does}

@@ -151,8 +151,8 @@ pub trait Engine {
     fn stay(&self) -> Self::Undone
         ensures { views.undone result ≡ Nothing };
 
-    /// A script has ended.
-    fn undo(&mut self, undone: Self::Undone)
+    /// A code has ended: what stood there is let go, or serves the next one.
+    fn undo(&mut self, undone: Self::Undone, ended: Self::Activation)
         requires { CanUndo (views.undone undone) (shown self.old) }
         ensures undone { shown self.new ≡ undo (views.undone undone) (shown self.old) }
         ensures leaves { leaves false self.old self.new };

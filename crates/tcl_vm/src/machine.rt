@@ -227,8 +227,8 @@ pub(crate) fn end<E: Engine>(
     match machine.callers.pop() {
         None => Ok(Made::Over(completion)),
         Some(waiting) => {
-            engine.undo(waiting.undone);
-            machine.current = waiting.caller;
+            let ended = mem::replace(&mut machine.current, waiting.caller);
+            engine.undo(waiting.undone, ended);
             machine.paid = waiting.paid;
             let next = engine.owed(waiting.owes, completion)?;
             Ok(Made::On(Turn::Asking(next)))
