@@ -178,6 +178,15 @@ impl<T: Drop> Pile<T> {
         self.items.slice_mut(left..)
     }
 
+    /// The top `count` items, in the order in which they came.
+    pub fn uppermost(&self, count: usize) -> &[T]
+        requires { count ≤ length self.now }
+        ensures { result.now ≡ reverse (take count self.now) }
+    {
+        let left = self.items.len() - count;
+        &self.items[left..]
+    }
+
     /// Drops the top `count` items.
     pub fn truncate(&mut self, count: usize)
         requires { count ≤ length self.old }

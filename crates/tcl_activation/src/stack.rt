@@ -9,7 +9,6 @@ use crate::results::Results;
 use std::alloc::{AllocError, Global};
 use std::marker::Model;
 use std::mem;
-use tcl_chars::message;
 use tcl_values::Value;
 
 /// Words that are gathered for a command, or to be taken one after the other. Contracts see those that weren't taken.
@@ -83,8 +82,8 @@ impl Words {
     {
         let taken = self.taken;
         if taken == self.items.len() {
-            let text = message(alloc, "")?;
-            return Ok(Value::of_text(text));
+            let text = Value::of_str(alloc, "")?;
+            return Ok(text);
         }
         self.taken = taken + 1;
         Ok(mem::replace(&mut self.items[taken], Value::of_int(0)))

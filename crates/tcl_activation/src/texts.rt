@@ -1,7 +1,6 @@
 //! Instructions that put texts onto the stack.
 ghost use Rattle.std.specs.Prelude.{◌≡◌, ◌≤◌, [], length, IfOk, OnOk};
 ghost use Rattle.std.specs.Bool.{OnTrue};
-ghost use Rattle.std.specs.List.{concat};
 ghost use Rattle.std.specs.Str.{chars};
 ghost use Rattle.std.specs.String.{string_bytes};
 ghost use Rattle.tcl_activation.specs.Moves.{Goes};
@@ -10,23 +9,12 @@ ghost use Rattle.tcl_code.specs.Instructions.{Push, Read, ReadElement, Join};
 ghost use Rattle.tcl_meaning.specs.Substitution.{spelled_element};
 
 use crate::progress::Progress;
-use crate::stack::{Stack, lifted};
+use crate::stack::Stack;
 use crate::variables::{Unread, Variables};
 use std::alloc::{AllocError, Global};
 use tcl_chars::push_text;
 use tcl_steps::Completion;
 use tcl_values::Value;
-
-// The texts as one.
-fn joined(alloc: Global, words: &[Value]) -> Result<Value, AllocError>
-    ensures { IfOk result (λ v. v ≡ concat words.now) }
-{
-    let mut whole = String::new(alloc);
-    for word in words {
-        word.write_to(alloc, &mut whole)?;
-    }
-    Value::of_string(alloc, whole)
-}
 
 // Is a text known to be empty?
 fn is_nothing(text: &Value) -> bool
@@ -112,7 +100,7 @@ impl Stack {
     }
 
     /// Joins the top `count` texts into one. One text alone stays as it is kept, and so does one with an empty text behind it.
-    #[tactic(auto, using(crate::proofs::Joining::one_goes, crate::proofs::Joining::nothing_goes))]
+    #[tactic(auto, using(crate::proofs::Joining::one_goes, crate::proofs::Joining::nothing_goes, crate::proofs::Joining::all_go))]
     pub fn join(&mut self, alloc: Global, count: u32) -> Result<(), AllocError>
         requires { count ≤ length self.old.texts }
         ensures { OnOk result (Goes (Join count) self.old self.new) }
@@ -124,8 +112,9 @@ impl Stack {
             self.texts.drop_newest();
             return Ok(());
         }
-        let words = lifted(&mut self.texts, count)?;
-        let text = joined(alloc, &words)?;
+        let count = count as usize;
+        let text = Value::joined(alloc, self.texts.uppermost(count))?;
+        self.texts.truncate(count);
         self.texts.push(text)
     }
 }

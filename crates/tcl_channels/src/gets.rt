@@ -85,7 +85,7 @@ fn line_text(alloc: Global, line: Option<RcStr>) -> Result<Value, AllocError>
 {
     match line {
         Some(text) => line_value(alloc, text),
-        None => Ok(Value::of_text(message(alloc, "")?)),
+        None => Value::of_str(alloc, ""),
     }
 }
 

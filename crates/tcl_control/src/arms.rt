@@ -10,8 +10,7 @@ use crate::answers::words_behind;
 use std::alloc::{AllocError, Global};
 use tcl_chars::is_text;
 use tcl_glob::glob_match;
-use tcl_steps::is_word;
-use tcl_values::{Element, Value};
+use tcl_values::{Element, ElementText, Value};
 
 /// Patterns and bodies, one behind the other.
 #[derive(Clone, Copy)]
@@ -77,6 +76,18 @@ impl<'a> Arms<'a> {
         }
     }
 
+    /// The text at a place: lent where it stands ready, else written.
+    #[tactic(auto, using(crate::proofs::ArmTexts::texts_length, crate::proofs::ArmTexts::text_at, crate::proofs::ArmTexts::texts_behind))]
+    fn text(self, alloc: Global, place: usize) -> Result<ElementText<'a>, AllocError>
+        requires { place < length (arm_texts self) }
+        ensures { IfOk result (λ t. t ≡ word (arm_texts self.entry) place) }
+    {
+        match self {
+            Arms::Words(words) => words[place].spelled(alloc),
+            Arms::Elements(elements) => elements[place].text(alloc),
+        }
+    }
+
     /// The value of the text at a place. What is kept of it is shared.
     #[tactic(auto, using(crate::proofs::ArmTexts::texts_length, crate::proofs::ArmTexts::text_at, crate::proofs::ArmTexts::texts_behind))]
     pub(crate) fn value(self, place: usize) -> Result<Value, AllocError>
@@ -97,8 +108,8 @@ impl<'a> Arms<'a> {
         if let Some(shown) = self.shown(place) {
             return Ok(is_text(shown, known));
         }
-        let value = self.value(place)?;
-        is_word(alloc, &value, known)
+        let own = self.text(alloc, place)?;
+        Ok(is_text(own.as_str(), known))
     }
 
     /// Does the pattern at a place match a text?
@@ -115,8 +126,7 @@ impl<'a> Arms<'a> {
         if let Some(pattern) = self.shown(place) {
             return Ok(matches_text(globs, pattern, text));
         }
-        let mut value = self.value(place)?;
-        let pattern = value.text(alloc)?;
+        let pattern = self.text(alloc, place)?;
         Ok(matches_text(globs, pattern.as_str(), text))
     }
 }

@@ -19,8 +19,8 @@ use tcl_values::Value;
 fn ended(alloc: Global, code: Code) -> Result<Step<Scope, Owes, Loop>, AllocError>
     ensures { IsAsked result (asking.done (ended code [])) }
 {
-    let text = message(alloc, "")?;
-    Ok(Step::Done(Completion::ended(alloc, code, Value::of_text(text))))
+    let text = Value::of_str(alloc, "")?;
+    Ok(Step::Done(Completion::ended(alloc, code, text)))
 }
 
 /// `break`: the loop is left.

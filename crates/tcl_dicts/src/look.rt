@@ -12,8 +12,8 @@ ghost use Rattle.tcl_pages.specs.Texts.{Text};
 use crate::words::dictionary_at;
 use std::alloc::{AllocError, Global};
 use std::rc::RcStr;
-use tcl_arguments::{text_at, usage};
-use tcl_chars::{Fault, about, message};
+use tcl_arguments::usage;
+use tcl_chars::{Fault, about};
 use tcl_values::Value;
 
 /// What is said of a key that isn't there.
@@ -47,7 +47,7 @@ fn value_under(
 {
     let mut value = start;
     for place in first..words.len() {
-        let key = text_at(alloc, words, place)?;
+        let key = words[place].spelled(alloc)?;
         value = inner_of(alloc, &mut value, key.as_str())?;
     }
     Ok(value)
@@ -77,9 +77,9 @@ fn is_found(alloc: Global, found: Result<Value, Fault>) -> Result<Value, Fault>
     ensures { (meant : Answer Text) → Answers (λ v. v) found meant → Answers (λ v. v) result (Ok (truth_text (spec.is_there meant))) }
 {
     match found {
-        Ok(_) => Ok(Value::of_text(message(alloc, "1")?)),
+        Ok(_) => Ok(Value::of_str(alloc, "1")?),
         Err(Fault::Memory) => Err(Fault::Memory),
-        Err(Fault::Error(_)) => Ok(Value::of_text(message(alloc, "0")?)),
+        Err(Fault::Error(_)) => Ok(Value::of_str(alloc, "0")?),
     }
 }
 

@@ -26,7 +26,7 @@ fn value_or(alloc: Global, first: &str, value: &mut Value, key: &str) -> Result<
 {
     match value.dict_get(alloc, key)? {
         Some(inner) => Ok(inner),
-        None => Ok(Value::of_text(RcStr::from_str(alloc, first)?)),
+        None => Ok(Value::of_str(alloc, first)?),
     }
 }
 
@@ -104,7 +104,7 @@ fn joined_words(alloc: Global, words: &mut [Value], first: usize) -> Result<RcSt
     ensures text { IfOk result (λ t. text_of t ≡ updates.text_appended [] (drop first words.old)) }
     ensures same { words.new ≡ words.old }
 {
-    let empty = Value::of_text(RcStr::from_str(alloc, "")?);
+    let empty = Value::of_str(alloc, "")?;
     let mut joined = with_words(alloc, empty, words, first)?;
     joined.text(alloc)
 }

@@ -3,14 +3,13 @@ ghost use Rattle.std.specs.Prelude.{◌≡◌, ◌<◌, [], length, IfOk};
 ghost use Rattle.tcl_arguments.specs.WordAt.{word};
 
 use std::alloc::{AllocError, Global};
-use tcl_chars::message;
 use tcl_values::Value;
 
 /// The empty text.
 pub(crate) fn empty(alloc: Global) -> Result<Value, AllocError>
     ensures { IfOk result (λ value. value ≡ []) }
 {
-    Ok(Value::of_text(message(alloc, "")?))
+    Value::of_str(alloc, "")
 }
 
 /// A value of the same text as the word at a place.

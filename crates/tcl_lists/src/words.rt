@@ -70,7 +70,7 @@ pub(crate) fn fault_in_front(
 pub(crate) fn empty(alloc: Global) -> Result<Value, AllocError>
     ensures { IfOk result (λ v. v ≡ []) }
 {
-    Ok(Value::of_text(message(alloc, "")?))
+    Value::of_str(alloc, "")
 }
 
 /// The place among `count` elements that the word at a place says.

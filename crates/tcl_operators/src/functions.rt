@@ -9,7 +9,7 @@ ghost use Rattle.tcl_operators.specs.Numeric.{IsNumeric, numeric_answer};
 use crate::numbers::in_decimal;
 use crate::operators::truth;
 use std::alloc::{AllocError, Global};
-use tcl_chars::{Arith, Dialect, Fault, UnOp, Whole, expect_number, message};
+use tcl_chars::{Arith, Dialect, Fault, UnOp, Whole, expect_number};
 use tcl_expr::Function;
 use tcl_values::Value;
 
@@ -41,7 +41,7 @@ fn numbers(alloc: Global, dialect: Dialect, values: &mut [Value]) -> Result<Vec<
 fn empty(alloc: Global) -> Result<Value, AllocError>
     ensures { IfOk result (λ v. v ≡ []) }
 {
-    Ok(Value::of_text(message(alloc, "")?))
+    Value::of_str(alloc, "")
 }
 
 // The greatest of a number and others.

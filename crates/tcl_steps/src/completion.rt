@@ -194,8 +194,8 @@ impl Completion {
     pub fn nothing(alloc: Global) -> Result<Completion, AllocError>
         ensures { IfOk result (λ c. c ≡ nothing) }
     {
-        let text = message(alloc, "")?;
-        Ok(Completion::normal(alloc, Value::of_text(text)))
+        let text = Value::of_str(alloc, "")?;
+        Ok(Completion::normal(alloc, text))
     }
 
     /// The error with a message.

@@ -4,5 +4,4 @@ pub mod FieldLaws
 pub mod FormatText
 pub mod Grouped
 pub mod Shown
-pub mod Singles
 pub mod Taken

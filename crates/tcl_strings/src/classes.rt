@@ -201,6 +201,13 @@ pub fn string_is(alloc: Global, words: &mut [Value], dialect: Dialect) -> Result
     ensures answer { Answers (λ v. v) result (spec.string_is dialect words.old) }
     ensures same { words.new ≡ words.old }
 {
+    if let [word, text] = &*words {
+        let word = word.spelled(alloc)?;
+        let class = class_of(alloc, word.as_str())?;
+        let text = text.spelled(alloc)?;
+        let truth = belongs(alloc, false, class, text.as_str(), dialect)?;
+        return Ok(Value::of_truth(truth));
+    }
     let (word, first, second) = two_or_three_texts(alloc, words, "string is class ?-strict? str")?;
     let class = class_of(alloc, word.as_str())?;
     let strict = is_strict(alloc, first.as_str(), &second)?;

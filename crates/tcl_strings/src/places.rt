@@ -10,7 +10,7 @@ ghost use Rattle.tcl_pages.specs.Strings as spec;
 use std::alloc::{AllocError, Global};
 use std::rc::RcStr;
 use tcl_arguments::{
-    behind, index_of, one_text, text_at, three_or_four_texts, three_texts, two_texts,
+    behind, index_of, index_of_word, one_text, text_at, three_or_four_texts, three_texts, two_texts,
 };
 use tcl_chars::{Dialect, Fault, clamp, push_text};
 use tcl_values::{Places, Value};
@@ -101,20 +101,7 @@ pub(crate) fn text_if(
 pub(crate) fn value_of(alloc: Global, text: &str) -> Result<Value, AllocError>
     ensures { IfOk result (λ v. v ≡ chars text.now) }
 {
-    Ok(Value::of_text(RcStr::from_str(alloc, text)?))
-}
-
-/// The least bytes of a text that is given marks.
-const LONG: usize = 256;
-
-/// The value that is a text. A character of a long one is found without a walk.
-pub(crate) fn marked_value_of(alloc: Global, text: &str) -> Result<Value, AllocError>
-    ensures { IfOk result (λ v. v ≡ chars text.now) }
-{
-    if text.len() < LONG {
-        return value_of(alloc, text);
-    }
-    Value::of_shared(alloc, RcStr::from_str(alloc, text)?)
+    Value::of_str(alloc, text)
 }
 
 /// `string length string`: how many characters the text has.
@@ -147,9 +134,8 @@ pub fn string_index(alloc: Global, words: &mut [Value], dialect: Dialect) -> Res
     ensures same { words.new ≡ words.old }
 {
     if words.len() == 2 {
-        let index = text_at(alloc, words, 1)?;
         if let Some(places) = words[0].places() {
-            let place = index_of(alloc, index.as_str(), places.len(), dialect)?;
+            let place = index_of_word(alloc, &words[1], places.len(), dialect)?;
             return Ok(value_of(alloc, at_place(&places, place))?);
         }
     }
@@ -170,14 +156,12 @@ pub fn string_range(alloc: Global, words: &mut [Value], dialect: Dialect) -> Res
     ensures same { words.new ≡ words.old }
 {
     if words.len() == 3 {
-        let first = text_at(alloc, words, 1)?;
-        let last = text_at(alloc, words, 2)?;
         if let Some(places) = words[0].places() {
             let count = places.len();
-            let first = index_of(alloc, first.as_str(), count, dialect)?;
-            let last = index_of(alloc, last.as_str(), count, dialect)?;
+            let first = index_of_word(alloc, &words[1], count, dialect)?;
+            let last = index_of_word(alloc, &words[2], count, dialect)?;
             let part = places.part(clamp(first, count), behind(last, count));
-            return Ok(marked_value_of(alloc, part)?);
+            return Ok(value_of(alloc, part)?);
         }
     }
     let (text, first, last) = three_texts(alloc, words, "string range string first last")?;
@@ -186,7 +170,7 @@ pub fn string_range(alloc: Global, words: &mut [Value], dialect: Dialect) -> Res
     let first = index_of(alloc, first.as_str(), count, dialect)?;
     let last = index_of(alloc, last.as_str(), count, dialect)?;
     let part = places.part(clamp(first, count), behind(last, count));
-    Ok(marked_value_of(alloc, part)?)
+    Ok(value_of(alloc, part)?)
 }
 
 /// The text, or an empty one where there is none.
@@ -212,13 +196,11 @@ pub fn string_replace(alloc: Global, words: &mut [Value], dialect: Dialect) -> R
     ensures same { words.new ≡ words.old }
 {
     if words.len() == 3 || words.len() == 4 {
-        let first = text_at(alloc, words, 1)?;
-        let last = text_at(alloc, words, 2)?;
         let new = text_if(alloc, words, 3)?;
         if let Some(places) = words[0].places() {
             let count = places.len();
-            let first = index_of(alloc, first.as_str(), count, dialect)?;
-            let last = index_of(alloc, last.as_str(), count, dialect)?;
+            let first = index_of_word(alloc, &words[1], count, dialect)?;
+            let last = index_of_word(alloc, &words[2], count, dialect)?;
             let changed = replaced(alloc, &places, first, last, or_empty(&new))?;
             return Ok(Value::of_string(alloc, changed)?);
         }

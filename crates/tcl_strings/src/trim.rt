@@ -6,7 +6,7 @@ ghost use Rattle.tcl_chars.specs.Answers.{Answers};
 ghost use Rattle.tcl_chars.specs.Texts.{literal, text_of};
 ghost use Rattle.tcl_pages.specs.Strings as spec;
 
-use crate::places::marked_value_of;
+use crate::places::value_of;
 use std::alloc::Global;
 use std::rc::RcStr;
 use tcl_arguments::one_or_two_texts;
@@ -77,7 +77,7 @@ pub fn string_trim(alloc: Global, words: &mut [Value]) -> Result<Value, Fault>
 {
     let (text, set) = one_or_two_texts(alloc, words, "string trim string ?chars?")?;
     let left = trimmed_left(text.as_str(), &set);
-    Ok(marked_value_of(alloc, trimmed_right(left, &set))?)
+    Ok(value_of(alloc, trimmed_right(left, &set))?)
 }
 
 /// `string trimleft string ?chars?`: the text without such characters in front.
@@ -91,7 +91,7 @@ pub fn string_trimleft(alloc: Global, words: &mut [Value]) -> Result<Value, Faul
     ensures same { words.new ≡ words.old }
 {
     let (text, set) = one_or_two_texts(alloc, words, "string trimleft string ?chars?")?;
-    Ok(marked_value_of(alloc, trimmed_left(text.as_str(), &set))?)
+    Ok(value_of(alloc, trimmed_left(text.as_str(), &set))?)
 }
 
 /// `string trimright string ?chars?`: the text without such characters at its end.
@@ -105,5 +105,5 @@ pub fn string_trimright(alloc: Global, words: &mut [Value]) -> Result<Value, Fau
     ensures same { words.new ≡ words.old }
 {
     let (text, set) = one_or_two_texts(alloc, words, "string trimright string ?chars?")?;
-    Ok(marked_value_of(alloc, trimmed_right(text.as_str(), &set))?)
+    Ok(value_of(alloc, trimmed_right(text.as_str(), &set))?)
 }

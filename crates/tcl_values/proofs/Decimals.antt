@@ -27,6 +27,10 @@ reads_decimal dialect z f = numerals.reads_decimal dialect z (fits_signed z f)
 pub chars_decimal : (z : ℤ) → FitsSigned w64 z → chars (signed_decimal z) ≡ signed_decimal z
 chars_decimal z f = chars-IsAscii _ (IsAscii-signed_decimal z f)
 
+-- what is printed of a number is its decimal text
+pub printed : (z : ℤ) (bytes : List ℕ) → FitsSigned w64 z → bytes ≡ signed_decimal (to_z w64 (of_z w64 z)) → chars bytes ≡ signed_decimal z
+printed z bytes f e = ap chars (e ∙ ap signed_decimal (to_z-of_z w64 z f)) ∙ chars_decimal z f
+
 -- what is printed of a number is the text
 pub same_printed : (z : ℤ) (bytes text : List ℕ) → FitsSigned w64 z → bytes ≡ signed_decimal (to_z w64 (of_z w64 z)) → bytes_eq bytes text ≡ true → chars text ≡ signed_decimal z
 same_printed z bytes text f e same =

@@ -14,6 +14,7 @@ pub mod PairTexts
 pub mod PairWriting
 pub mod Placed
 pub mod Replaced
+pub mod Shorts
 pub mod Singles
 pub mod Truths
 pub mod Unrepeated

@@ -6,7 +6,7 @@ use Rattle.std.specs.declared.rc.Rc.{Rc}
 use Rattle.tcl_values.specs.Kept.{Kept, depth_over}
 use Rattle.tcl_values.specs.Shape.{entry_depth, elements, items_text, ArePairsRead, IsEntry, IsElement}
 use Rattle.tcl_values.specs.declared.element.Entry.{Entry}
-use Rattle.tcl_values.specs.declared.element.Entry.TheVariants.{Text, Number, Row, Dict, Grown}
+use Rattle.tcl_values.specs.declared.element.Entry.TheVariants.{Text, Short, Number, Row, Dict, Grown}
 use Rattle.tcl_values.specs.declared.element.Element.TheInside.{Inside}
 use Rattle.tcl_values.specs.declared.element.Element.TheDeep.{deep-Entry, deep-Element, deep-Pairs}
 use Rattle.tcl_values.specs.declared.element.Element.TheShapes.{weighed-Items-pairs}
@@ -23,6 +23,7 @@ beside_le (Some p) t depth read lower = omega (arith, most_le p.value.values.ite
 
 pub deep_le : (e : Entry) → IsEntry e → deep-Entry e ≤ entry_depth e
 deep_le (Text s) h = omega arith
+deep_le (Short s) h = omega arith
 deep_le (Number n) h = omega arith
 deep_le (Row r) h = omega (arith, most_le (elements r.value), h.exact, beside_le r.value.pairs (items_text r.value) r.value.depth h.beside h.lower)
 deep_le (Dict r) h = omega (arith, most_le r.value.values.items, h.deeper)

@@ -8,4 +8,5 @@ pub mod Marks
 pub mod Numerals
 pub mod Paired
 pub mod Shape
+pub mod Short
 pub mod Singles

@@ -19,6 +19,7 @@ use Rattle.tcl_names.specs.Keys.{IsKeyOf}
 use Rattle.tcl_values.specs.Kept.{Kept, texts, depth_over}
 use Rattle.tcl_values.specs.Marks.{AreMarks}
 use Rattle.tcl_values.specs.Paired.{zipped}
+use Rattle.tcl_values.specs.Short.{short_text, IsShort}
 use Rattle.tcl_pages.specs.Dictionaries.{pairs_of}
 use Rattle.tcl_pages.specs.Dictionaries as dictionaries
 use Rattle.tcl_pages.specs.DictPages.{dictionary}
@@ -136,6 +137,7 @@ pub record IsNamed (n : Named) : Type 0 where
 
 abbrev pub entry_text : Entry → List ℕ
 entry_text (entry.Text s) = text_of s
+entry_text (entry.Short s) = short_text s
 entry_text (entry.Number n) = signed_decimal n
 entry_text (entry.Row r) = items_text r.value
 entry_text (entry.Dict r) = pairs_text r.value
@@ -143,6 +145,7 @@ entry_text (entry.Grown s) = chars (string_bytes s.value.text)
 
 abbrev pub entry_depth : Entry → ℕ
 entry_depth (entry.Text s) = 0
+entry_depth (entry.Short s) = 0
 entry_depth (entry.Number n) = 0
 entry_depth (entry.Row r) = r.value.depth
 entry_depth (entry.Dict r) = r.value.depth
@@ -150,6 +153,7 @@ entry_depth (entry.Grown s) = 0
 
 abbrev pub IsEntry : Entry → Type 0
 IsEntry (entry.Text s) = ⊤
+IsEntry (entry.Short s) = IsShort s
 IsEntry (entry.Number n) = FitsSigned w64 n
 IsEntry (entry.Row r) = AreKept r.value
 IsEntry (entry.Dict r) = ArePaired r.value
@@ -177,6 +181,7 @@ AreSameComposed c d = AreSameGrown c.growing d.growing
 -- the text that a value is
 abbrev pub held_text : Held → List ℕ
 held_text (held.Number n) = signed_decimal n
+held_text (held.Short s) = short_text s
 held_text (held.Text s) = text_of s
 held_text (held.Ascii s) = text_of s
 held_text (held.Name n) = text_of n.value.text
@@ -188,6 +193,7 @@ held_text (held.Dict r) = pairs_text r.value
 
 abbrev pub IsHeld : Held → Type 0
 IsHeld (held.Number n) = FitsSigned w64 n
+IsHeld (held.Short s) = IsShort s
 IsHeld (held.Text s) = ⊤
 IsHeld (held.Ascii s) = IsAscii (rc_str_bytes s)
 IsHeld (held.Name n) = IsNamed n.value
@@ -199,6 +205,7 @@ IsHeld (held.Dict r) = ArePaired r.value
 
 abbrev pub is_row : Held → Bool
 is_row (held.Number n) = false
+is_row (held.Short s) = false
 is_row (held.Text s) = false
 is_row (held.Ascii s) = false
 is_row (held.Name n) = false
@@ -210,6 +217,7 @@ is_row (held.Dict r) = false
 
 abbrev pub is_dict : Held → Bool
 is_dict (held.Number n) = false
+is_dict (held.Short s) = false
 is_dict (held.Text s) = false
 is_dict (held.Ascii s) = false
 is_dict (held.Name n) = false
@@ -222,6 +230,7 @@ is_dict (held.Dict r) = true
 -- the elements of a list that is kept, and none of another value
 abbrev pub elements_held : Held → List Kept
 elements_held (held.Number n) = []
+elements_held (held.Short s) = []
 elements_held (held.Text s) = []
 elements_held (held.Ascii s) = []
 elements_held (held.Name n) = []
@@ -234,6 +243,7 @@ elements_held (held.Dict r) = []
 -- the pairs of a dictionary that is kept, and none of another value
 abbrev pub pairs_held : Held → dictionaries.Pairs
 pairs_held (held.Number n) = []
+pairs_held (held.Short s) = []
 pairs_held (held.Text s) = []
 pairs_held (held.Ascii s) = []
 pairs_held (held.Name n) = []

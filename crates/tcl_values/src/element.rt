@@ -1,6 +1,6 @@
 //! Elements of lists that are kept.
 
-ghost use Rattle.std.specs.Prelude.{◌≡◌, ◌<◌, ◌++◌, IfOk, IfSome, OnErr, OnOk};
+ghost use Rattle.std.specs.Prelude.{◌≡◌, ◌<◌, ◌++◌, [], IfOk, IfSome, OnErr, OnOk};
 ghost use Rattle.std.specs.Fmt.{signed_decimal};
 ghost use Rattle.std.specs.Str.{chars};
 ghost use Rattle.std.specs.String.{string_bytes};
@@ -11,6 +11,7 @@ use crate::items::{row_shown, row_text};
 use crate::literal::with_room;
 use crate::marks::Marks;
 use crate::pairs::{dict_text, pairs_shown};
+use crate::short::Short;
 use crate::value::{Growing, Held, Value};
 use indexmap::IndexSet;
 use std::alloc::{AllocError, Global};
@@ -31,6 +32,8 @@ pub struct Element {
 pub(crate) enum Entry {
     /// Its text alone.
     Text(RcStr),
+    /// Its text alone, which is short.
+    Short(Short),
     /// A number, whose text is its decimal digits.
     Number(i64),
     /// The list that its text is read as.
@@ -96,6 +99,26 @@ impl Element {
         }
     }
 
+    /// The element that is this text.
+    pub(crate) fn of_text(text: RcStr) -> Element
+        ensures text { result.text ≡ text_of text }
+        ensures depth { result.depth ≡ 0 }
+    {
+        Element {
+            entry: Entry::Text(text),
+        }
+    }
+
+    /// The empty element.
+    pub(crate) fn empty() -> Element
+        ensures text { result.text ≡ [] }
+        ensures depth { result.depth ≡ 0 }
+    {
+        Element {
+            entry: Entry::Short(Short::new()),
+        }
+    }
+
     /// Is it kept as a list?
     pub(crate) fn is_list(&self) -> bool {
         matches!(&self.entry, Entry::Row(_))
@@ -112,6 +135,7 @@ impl Element {
     {
         match &self.entry {
             Entry::Text(text) => Ok(ElementText::lent(text.as_str())),
+            Entry::Short(short) => Ok(ElementText::lent(short.as_str())),
             Entry::Number(n) => ElementText::of_number(alloc, *n),
             Entry::Row(row) => row_shown(row, alloc),
             Entry::Dict(pairs) => pairs_shown(pairs, alloc),
@@ -141,6 +165,7 @@ impl Element {
     {
         match &self.entry {
             Entry::Text(text) => Some(text.as_str()),
+            Entry::Short(short) => Some(short.as_str()),
             Entry::Number(_) => None,
             Entry::Row(row) => match &row.text {
                 Some(text) => Some(text.as_str()),
@@ -170,6 +195,7 @@ impl Element {
     {
         let held = match &self.entry {
             Entry::Text(text) => Held::Text(text.clone()?),
+            Entry::Short(short) => Held::Short(*short),
             Entry::Number(n) => Held::Number(*n),
             Entry::Row(row) => Held::Row(row.clone()?),
             Entry::Dict(pairs) => Held::Dict(pairs.clone()?),
@@ -196,6 +222,7 @@ impl Element {
     {
         let entry = match &self.entry {
             Entry::Text(text) => Entry::Text(text.clone()?),
+            Entry::Short(short) => Entry::Short(*short),
             Entry::Number(n) => Entry::Number(*n),
             Entry::Row(row) => Entry::Row(row.clone()?),
             Entry::Dict(pairs) => Entry::Dict(pairs.clone()?),
@@ -210,6 +237,7 @@ impl Element {
     {
         match &self.entry {
             Entry::Text(_) => 0,
+            Entry::Short(_) => 0,
             Entry::Number(_) => 0,
             Entry::Row(row) => row.depth,
             Entry::Dict(pairs) => pairs.depth,
@@ -227,6 +255,7 @@ impl Element {
     {
         match &self.entry {
             Entry::Text(text) => text.clone(),
+            Entry::Short(short) => RcStr::from_str(alloc, short.as_str()),
             Entry::Number(n) => number_text(alloc, *n),
             Entry::Row(row) => row_text(row, alloc),
             Entry::Dict(pairs) => dict_text(pairs, alloc),

@@ -2,10 +2,10 @@
 //! isn't read and written again and again. Contracts see the text alone.
 //!
 //! What is kept is shared by copies of a value and copied where one of them is changed. A change of a value that has no copy is
-//! made in place.
+//! made in place. A text of at most seven ASCII characters that is composed, or cut out of another one, is kept in the value itself.
 //!
-//! - [`Value`]: made by `of_text`, `of_shared`, `of_literal`, `of_name`, `of_string`, `of_int`, `of_list`; copied by `copy`. Read by `text`,
-//!   `shown`, `ascii` and `places`, as a number by `whole`, and without any reading by `number` and `known_number`, as a name by `sought` and `sought_command`, as a list by
+//! - [`Value`]: made by `of_text`, `of_str`, `of_shared`, `of_literal`, `of_name`, `of_string`, `of_int`, `of_list`, `joined`; copied by `copy`. Read by `text`,
+//!   `spelled`, `shown`, `ascii` and `places`, as a number by `whole`, and without any reading by `number` and `known_number`, as a name by `sought` and `sought_command`, as a list by
 //!   `count`, `item`, `row`, `list`, `range`. Changed by
 //!   `append` at the end of the text, and as a list by `push`, `replace_item`, `put_item_under` and `splice`.
 //!   As a dictionary made by `of_dict`, which `prefer_dictionary` and `prefer_dictionary_under` keep beside a list, read by `dict_size`, `dict_get`, `dictionary`, changed by `dict_put`, `dict_put_under`, `dict_remove`, `dict_remove_under` and
@@ -21,6 +21,7 @@
 //! A call that only reads leaves the value as it was, and so does one that is refused.
 #![tactic(auto)]
 
+mod appending;
 mod beside;
 mod change;
 mod composed;
@@ -31,6 +32,7 @@ mod element;
 mod element_text;
 mod gathering;
 mod items;
+mod joining;
 mod list;
 mod literal;
 mod making;
@@ -42,6 +44,7 @@ mod places;
 mod placing;
 mod readings;
 mod row;
+mod short;
 mod single;
 mod taking;
 mod value;

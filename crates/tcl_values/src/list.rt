@@ -161,18 +161,12 @@ impl Value {
             Held::Number(n) => Ok(Element::of_number(n)),
             Held::Row(row) => row_element(row, alloc),
             Held::Dict(pairs) => dict_element(pairs, alloc),
-            Held::Text(text) => Ok(Element {
-                entry: Entry::Text(text),
+            Held::Short(short) => Ok(Element {
+                entry: Entry::Short(short),
             }),
-            Held::Ascii(text) => Ok(Element {
-                entry: Entry::Text(text),
-            }),
-            held => {
-                let text = held.text(alloc)?;
-                Ok(Element {
-                    entry: Entry::Text(text),
-                })
-            }
+            Held::Text(text) => Ok(Element::of_text(text)),
+            Held::Ascii(text) => Ok(Element::of_text(text)),
+            held => Ok(Element::of_text(held.text(alloc)?)),
         }
     }
 
@@ -185,15 +179,12 @@ impl Value {
             Held::Number(n) => Ok(Element::of_number(*n)),
             Held::Row(row) => row_element(row.clone()?, alloc),
             Held::Dict(pairs) => dict_element(pairs.clone()?, alloc),
-            Held::Text(text) => Ok(Element {
-                entry: Entry::Text(text.clone()?),
+            Held::Short(short) => Ok(Element {
+                entry: Entry::Short(*short),
             }),
-            Held::Ascii(text) => Ok(Element {
-                entry: Entry::Text(text.clone()?),
-            }),
-            held => Ok(Element {
-                entry: Entry::Text(held.text(alloc)?),
-            }),
+            Held::Text(text) => Ok(Element::of_text(text.clone()?)),
+            Held::Ascii(text) => Ok(Element::of_text(text.clone()?)),
+            held => Ok(Element::of_text(held.text(alloc)?)),
         }
     }
 

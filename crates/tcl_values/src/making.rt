@@ -172,9 +172,7 @@ fn made_empty(alloc: Global, making: Making) -> Result<Element, Fault>
     ensures text { Answers (λ e. e.text) result (made making []) }
     ensures depth { IfOk result (λ e. e.depth ≤ room making) }
 {
-    let mut element = Element {
-        entry: Entry::Text(RcStr::from_str(alloc, "")?),
-    };
+    let mut element = Element::empty();
     element.make(alloc, making)?;
     Ok(element)
 }

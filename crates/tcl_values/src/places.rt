@@ -156,6 +156,7 @@ impl Value {
     {
         match &self.held {
             Held::Number(_) => None,
+            Held::Short(short) => Some(Places::known(short.as_str(), true, &[])),
             Held::Text(text) => Some(Places::of(text.as_str())),
             Held::Ascii(text) => Some(Places::known(text.as_str(), true, &[])),
             Held::Name(name) => Some(name.places()),

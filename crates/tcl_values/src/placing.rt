@@ -70,9 +70,7 @@ fn begun(alloc: Global, places: Vec<usize>, new: Element) -> Result<Element, Fau
     ensures text { Answers (λ e. e.text) result (with_under [] (reverse places.items) new.text) }
     ensures depth { IfOk result (λ e. e.depth ≤ new.depth + length places.items) }
 {
-    let mut element = Element {
-        entry: Entry::Text(RcStr::from_str(alloc, "")?),
-    };
+    let mut element = Element::empty();
     element.place_under(alloc, places, new)?;
     Ok(element)
 }

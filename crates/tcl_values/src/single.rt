@@ -56,6 +56,7 @@ impl Held {
     {
         match self {
             Held::Number(_) => true,
+            Held::Short(short) => is_word(short.as_str()),
             Held::Text(text) => is_word(text.as_str()),
             Held::Ascii(text) => is_word(text.as_str()),
             Held::Name(name) => is_word(name.text.as_str()),

@@ -8,7 +8,7 @@ ghost use Rattle.tcl_chars.specs.Whole.{whole_of};
 ghost use Rattle.tcl_list.specs.Texts.{text_of};
 ghost use Rattle.tcl_values.specs.Shape.{held_text, is_dict, is_row, IsGrown, IsHeld};
 
-use crate::composed::{Composed, extend, joined};
+use crate::composed::Composed;
 use crate::digits::{decimal_number, is_decimal};
 use crate::element::{Items, Pairs};
 use crate::items::{row_text, show};
@@ -16,6 +16,7 @@ use crate::literal::Literal;
 use crate::marks::{Marks, stays_ascii};
 use crate::named::Named;
 use crate::pairs::{dict_text, show_pairs};
+use crate::short::Short;
 use std::alloc::{AllocError, Global};
 use std::marker::Model;
 use std::rc::{Rc, RcStr};
@@ -32,6 +33,8 @@ pub struct Value {
 pub(crate) enum Held {
     /// A number, whose text is its decimal digits.
     Number(i64),
+    /// A short text.
+    Short(Short),
     /// A text.
     Text(RcStr),
     /// A text that is known to be ASCII: its characters are its bytes.
@@ -180,6 +183,7 @@ impl Held {
     {
         match self {
             Held::Number(n) => number_text(alloc, *n),
+            Held::Short(short) => RcStr::from_str(alloc, short.as_str()),
             Held::Text(text) => text.clone(),
             Held::Ascii(text) => text.clone(),
             Held::Name(name) => name.text.clone(),
@@ -214,10 +218,27 @@ impl Value {
         })
     }
 
+    /// The value that is this text. A short one stands in the value itself; what a long one is read as all copies share.
+    pub fn of_str(alloc: Global, text: &str) -> Result<Value, AllocError>
+        ensures { IfOk result (λ v. v ≡ chars text.now) }
+    {
+        if let Some(short) = Short::of(text) {
+            return Ok(Value {
+                held: Held::Short(short),
+            });
+        }
+        Value::of_shared(alloc, RcStr::from_str(alloc, text)?)
+    }
+
     /// The value that is this text, which can grow in place.
     pub fn of_string(alloc: Global, text: String) -> Result<Value, AllocError>
         ensures { IfOk result (λ v. v ≡ chars (string_bytes text)) }
     {
+        if let Some(short) = Short::of(text.as_str()) {
+            return Ok(Value {
+                held: Held::Short(short),
+            });
+        }
         Ok(Value {
             held: Held::Composed(Rc::new(alloc, Composed::new(text))?),
         })
@@ -314,6 +335,7 @@ impl Value {
     {
         let held = match &self.held {
             Held::Number(n) => Held::Number(*n),
+            Held::Short(short) => Held::Short(*short),
             Held::Text(text) => Held::Text(text.clone()?),
             Held::Ascii(text) => Held::Ascii(text.clone()?),
             Held::Name(name) => Held::Name(name.clone()?),
@@ -332,6 +354,7 @@ impl Value {
     {
         match &self.held {
             Held::Number(_) => None,
+            Held::Short(short) => Some(short.as_str()),
             Held::Text(text) => Some(text.as_str()),
             Held::Ascii(text) => Some(text.as_str()),
             Held::Name(name) => Some(name.text.as_str()),
@@ -356,33 +379,13 @@ impl Value {
         ensures ascii { IfSome result (λ t. IsAscii t.now) }
     {
         match &self.held {
+            Held::Short(short) => Some(short.as_str()),
             Held::Ascii(text) => Some(text.as_str()),
             Held::Name(name) => name.known_ascii(),
             Held::Grown(grown) => grown.known_ascii(),
             Held::Composed(composed) => composed.growing.known_ascii(),
             Held::Literal(literal) => literal.known_ascii(),
             _ => None,
-        }
-    }
-
-    /// Writes a text at its end: append(n). A text that grows and has no copy grows in place.
-    ///
-    /// # Errors
-    ///
-    /// `AllocError` where a growth was refused; the value is then as it was.
-    pub fn append(&mut self, alloc: Global, more: &str) -> Result<(), AllocError>
-        ensures done { OnOk result (self.new ≡ self.old ++ chars more.now) }
-        ensures same { OnErr result (self.new ≡ self.old) }
-    {
-        match &mut self.held {
-            Held::Grown(grown) => grow(grown, more),
-            Held::Composed(composed) => extend(composed, more),
-            held => {
-                let text = held.text(alloc)?;
-                let composed = Composed::new(joined(alloc, text.as_str(), more)?);
-                *held = Held::Composed(Rc::new(alloc, composed)?);
-                Ok(())
-            }
         }
     }
 }

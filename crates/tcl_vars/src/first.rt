@@ -7,7 +7,6 @@ ghost use Rattle.tcl_steps.specs.Ends.{Gives};
 ghost use Rattle.tcl_vars.specs.Updating.{seen_first};
 
 use std::alloc::Global;
-use tcl_chars::message;
 use tcl_meaning::Refusal;
 use tcl_pages::UpdatePage;
 use tcl_steps::{Completion, Stop};
@@ -43,7 +42,7 @@ fn begun(alloc: Global, text: &str, name: &str, refusal: Refusal) -> Result<Valu
     ensures { Gives (old_text (begins (chars text.now)) (chars name.now) (Err refusal)) result }
 {
     match refusal {
-        Refusal::NoSuch | Refusal::NoElement => Ok(Value::of_text(message(alloc, text)?)),
+        Refusal::NoSuch | Refusal::NoElement => Ok(Value::of_str(alloc, text)?),
         _ => Err(Stop::Error(Completion::cant_set(alloc, name, refusal)?)),
     }
 }

@@ -7,19 +7,15 @@ ghost use Rattle.std.specs.String.{string_bytes};
 ghost use Rattle.tcl_pages.specs.Updates.{text_appended};
 
 use std::alloc::{AllocError, Global};
-use tcl_arguments::text_at;
-use tcl_chars::push_text;
 use tcl_values::Value;
 
 /// The texts of words, one behind the other.
-fn joined(alloc: Global, words: &mut [Value]) -> Result<String, AllocError>
-    ensures text { IfOk result (λ s. chars (string_bytes s) ≡ concat words.old) }
-    ensures same { words.new ≡ words.old }
+fn joined(alloc: Global, words: &[Value]) -> Result<String, AllocError>
+    ensures { IfOk result (λ s. chars (string_bytes s) ≡ concat words.now) }
 {
     let mut joined = String::new(alloc);
-    for place in 0..words.len() {
-        let text = text_at(alloc, words, place)?;
-        push_text(&mut joined, text.as_str())?;
+    for word in words {
+        word.write_to(alloc, &mut joined)?;
     }
     Ok(joined)
 }
@@ -39,9 +35,9 @@ pub(crate) fn append(
     ensures words { words.new ≡ words.old }
 {
     if words.len() == 1 {
-        let text = text_at(alloc, words, 0)?;
+        let text = words[0].spelled(alloc)?;
         return value.append(alloc, text.as_str());
     }
-    let more = joined(alloc, words)?;
+    let more = joined(alloc, &*words)?;
     value.append(alloc, more.as_str())
 }

@@ -1,8 +1,7 @@
 use Rattle.std.proofs.Common.{◌≡◌, ◌<◌, ◌+◌, ◌*◌, [], ◌∷◌, length, length-append, map, sym, ap, subst, ◌∙◌, refl, arith, rules}
 use Rattle.std.proofs.lemmas.Result.{err_from_is_err_and}
-use Rattle.std.proofs.lemmas.Str.{chars-nil, IsUtf8-string_bytes}
+use Rattle.std.proofs.lemmas.Str.{IsUtf8-string_bytes}
 use Rattle.std.specs.Rc.{rc_str_bytes}
-use Rattle.std.specs.Str.{chars}
 use Rattle.tcl_chars.specs.Texts.{text_of}
 use Rattle.tcl_values.specs.Changes.{made, made_under, room}
 use Rattle.tcl_values.specs.Kept.{texts}
@@ -18,11 +17,11 @@ use Rattle.tcl_values.proofs.+making.Goals as goal
 
 pub making::made_empty-returns-in_err-make-clause-text : goal.making::made_empty-returns-in_err-make-clause-text
 making::made_empty-returns-in_err-make-clause-text t c =
-    let p = err_from_is_err_and c.from_residual-in_err-make.result c.from_residual-in_err-make.ensures.1 in
-    rw (p.1, p.2) (begun_stops (made c.args.making) _ _ (ap chars c.in_ok-from_str.ensures.ok ∙ chars-nil) c.in_err-make.ensures.done)
+    let p = err_from_is_err_and c.from_residual.result c.from_residual.ensures.1 in
+    rw (p.1, p.2) (begun_stops (made c.args.making) _ _ c.empty-element.ensures.text c.in_err-make.ensures.done)
 
 pub making::made_empty-returns-clause-text : goal.making::made_empty-returns-clause-text
-making::made_empty-returns-clause-text t c = begun_is (made c.args.making) _ _ (ap chars c.in_ok-from_str.ensures.ok ∙ chars-nil) c.in_ok-make.ensures.done
+making::made_empty-returns-clause-text t c = begun_is (made c.args.making) _ _ c.empty-element.ensures.text c.in_ok-make.ensures.done
 
 pub making::change_at-make-requires : goal.making::change_at-make-requires
 making::change_at-make-requires t c =

@@ -1,8 +1,6 @@
 use Rattle.std.proofs.Common.{◌≡◌, ◌<◌, reverse, slice_set, ap, refl, ◌∙◌, arith, rules}
 use Rattle.std.proofs.lemmas.Option.{slice_get_read}
 use Rattle.std.proofs.lemmas.Result.{err_from_is_err_and}
-use Rattle.std.proofs.lemmas.Str.{chars-nil}
-use Rattle.std.specs.Str.{chars}
 use Rattle.tcl_values.specs.Changes.{with_under}
 use Rattle.tcl_values.specs.Kept.{texts, depth_over}
 use Rattle.tcl_values.proofs.Changed.{begun_is, begun_stops, depth_there, low_enough}
@@ -13,11 +11,11 @@ use Rattle.tcl_values.proofs.+placing.Goals as goal
 
 pub placing::begun-returns-in_err-place_under-clause-text : goal.placing::begun-returns-in_err-place_under-clause-text
 placing::begun-returns-in_err-place_under-clause-text t c =
-    let p = err_from_is_err_and c.from_residual-in_err-place_under.result c.from_residual-in_err-place_under.ensures.1 in
-    rw (p.1, p.2) (begun_stops (λ t. with_under t (reverse c.args.places.items) c.args.new.text) _ _ (ap chars c.in_ok-from_str.ensures.ok ∙ chars-nil) c.in_err-place_under.ensures.done)
+    let p = err_from_is_err_and c.from_residual.result c.from_residual.ensures.1 in
+    rw (p.1, p.2) (begun_stops (λ t. with_under t (reverse c.args.places.items) c.args.new.text) _ _ c.empty-element.ensures.text c.in_err-place_under.ensures.done)
 
 pub placing::begun-returns-clause-text : goal.placing::begun-returns-clause-text
-placing::begun-returns-clause-text t c = begun_is (λ t. with_under t (reverse c.args.places.items) c.args.new.text) _ _ (ap chars c.in_ok-from_str.ensures.ok ∙ chars-nil) c.in_ok-place_under.ensures.done
+placing::begun-returns-clause-text t c = begun_is (λ t. with_under t (reverse c.args.places.items) c.args.new.text) _ _ c.empty-element.ensures.text c.in_ok-place_under.ensures.done
 
 pub placing::place_own-returns-clause-depth : goal.placing::place_own-returns-clause-depth
 placing::place_own-returns-clause-depth t c =

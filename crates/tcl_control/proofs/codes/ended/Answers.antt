@@ -5,4 +5,4 @@ use Rattle.tcl_meaning.specs.Tasks.{Done}
 use Rattle.tcl_control.proofs.codes.ended.Goals as goal
 
 pub returns : goal.returns
-returns c = ap (λ x. Some (Done x)) (sym (c.ended.ensures ∙ ap (ended c.args.code) (c.of_text.ensures ∙ c.in_ok-text.ensures ∙ chars-nil)))
+returns c = ap (λ x. Some (Done x)) (sym (c.ended.ensures ∙ ap (ended c.args.code) (c.in_ok-text.ensures ∙ chars-nil)))

@@ -1,4 +1,4 @@
-use Rattle.std.proofs.Common.{◌∙◌, arith}
+use Rattle.std.proofs.Common.{arith}
 use Rattle.tcl_values.proofs.Gathered.{came_deeper, came_texts}
 use Rattle.tcl_values.proofs.gathering.add_values.Goals as goal
 

@@ -1,11 +1,9 @@
-use Rattle.std.proofs.Common.{◌≡◌, take}
+use Rattle.std.proofs.Common.{◌≡◌, ◌++◌}
 use Rattle.std.specs.List.{concat}
+use Rattle.std.specs.Prelude.{drop}
 use Rattle.std.specs.Str.{chars}
 use Rattle.std.specs.String.{string_bytes}
 use Rattle.tcl_vars.proofs.text.joined.Given as goal
 
-abbrev pub invariant-loop-place : goal.invariant-loop-place
-invariant-loop-place l = record {
-  same : l.words ≡ l.fn.words;
-  text : chars (string_bytes l.joined) ≡ concat (take l.place l.fn.words);
-}
+abbrev pub invariant-loop-word : goal.invariant-loop-word
+invariant-loop-word l = chars (string_bytes l.joined) ++ concat (drop l.word-index l.words) ≡ concat l.words

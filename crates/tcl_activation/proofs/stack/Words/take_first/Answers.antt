@@ -3,4 +3,4 @@ use Rattle.std.proofs.lemmas.Str.{chars-nil}
 use Rattle.tcl_activation.proofs.stack.Words.take_first.Goals as goal
 
 pub returns-then-taken-len-clause-none : goal.returns-then-taken-len-clause-none
-returns-then-taken-len-clause-none c = λ bare. (c.of_text.ensures ∙ c.in_ok-text.ensures ∙ chars-nil, bare)
+returns-then-taken-len-clause-none c = λ bare. (c.in_ok-text.ensures ∙ chars-nil, bare)

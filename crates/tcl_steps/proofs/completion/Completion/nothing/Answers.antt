@@ -4,4 +4,4 @@ use Rattle.tcl_meaning.specs.Completions.{normal}
 use Rattle.tcl_steps.proofs.completion.Completion.nothing.Goals as goal
 
 pub returns : goal.returns
-returns c = c.normal.ensures ∙ ap normal (c.of_text.ensures ∙ c.in_ok-text.ensures ∙ chars-nil)
+returns c = c.normal.ensures ∙ ap normal (c.in_ok-text.ensures ∙ chars-nil)

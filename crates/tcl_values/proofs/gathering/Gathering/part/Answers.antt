@@ -1,4 +1,3 @@
-use Rattle.std.proofs.Common.{◌≡◌, ◌∙◌, ap, take, drop, arith}
 use Rattle.tcl_values.proofs.Gathered.{part_fits, part_of_texts}
 use Rattle.tcl_values.proofs.gathering.Gathering.part.Goals as goal
 

@@ -1,4 +1,4 @@
-use Rattle.std.proofs.Common.{◌≡◌, ◌++◌, ◌∙◌, ap, arith}
+use Rattle.std.proofs.Common.{◌++◌, ◌∙◌, ap, arith}
 use Rattle.tcl_values.specs.Kept.{texts, depth_over}
 use Rattle.tcl_values.proofs.Gathered.{replaced_deeper, replaced_texts}
 use Rattle.tcl_values.proofs.gathering.Gathering.spliced.Goals as goal

@@ -1,0 +1,63 @@
+//! Texts of values joined as one.
+
+ghost use Rattle.std.specs.Prelude.{◌≡◌, ◌++◌, [], IfOk, IfSome};
+ghost use Rattle.std.specs.List.{concat};
+ghost use Rattle.std.specs.Str.{chars};
+ghost use Rattle.std.specs.String.{string_bytes};
+ghost use Rattle.tcl_values.specs.Short.{short_text, IsShort};
+
+use crate::short::Short;
+use crate::value::{Held, Value};
+use itoa::Buffer;
+use std::alloc::{AllocError, Global};
+
+impl Value {
+    /// A short text with that of this value behind it, where it is known and both together are short.
+    fn behind_short(&self, front: &Short) -> Option<Short>
+        requires { IsShort front.now }
+        ensures text { IfSome result (λ s. short_text s ≡ short_text front.now ++ self.now) }
+        ensures known { IfSome result (λ s. IsShort s) }
+    {
+        if let Held::Number(n) = &self.held {
+            return front.joined(Buffer::new().format(*n));
+        }
+        front.joined(self.shown()?)
+    }
+}
+
+/// The texts as one, where it is short.
+fn short_joined(values: &[Value]) -> Option<Short>
+    ensures text { IfSome result (λ s. short_text s ≡ concat values.now) }
+    ensures known { IfSome result (λ s. IsShort s) }
+{
+    let mut whole = Short::new();
+    for value in values {
+        whole = value.behind_short(&whole)?;
+    }
+    Some(whole)
+}
+
+/// The texts as one.
+fn all_joined(alloc: Global, values: &[Value]) -> Result<String, AllocError>
+    ensures { IfOk result (λ s. chars (string_bytes s) ≡ concat values.now) }
+{
+    let mut whole = String::new(alloc);
+    for value in values {
+        value.write_to(alloc, &mut whole)?;
+    }
+    Ok(whole)
+}
+
+impl Value {
+    /// The texts of values as one.
+    pub fn joined(alloc: Global, values: &[Value]) -> Result<Value, AllocError>
+        ensures { IfOk result (λ v. v ≡ concat values.now) }
+    {
+        match short_joined(values) {
+            Some(short) => Ok(Value {
+                held: Held::Short(short),
+            }),
+            None => Value::of_string(alloc, all_joined(alloc, values)?),
+        }
+    }
+}

@@ -1,0 +1,72 @@
+//! Short texts, which stand in the value itself: nothing is allocated for them.
+
+ghost use Rattle.std.specs.Prelude.{◌≡◌, ◌++◌, [], IfSome};
+ghost use Rattle.std.specs.Str.{chars, IsAscii};
+ghost use Rattle.tcl_values.specs.Short.{short_text, IsShort};
+
+use std::str;
+
+/// The most characters of a short text.
+const ROOM: usize = 7;
+
+/// A text of at most 7 characters, all of which are ASCII. It lies where a number would lie, so that a value moves as two numbers do.
+#[derive(Clone, Copy, Drop)]
+pub(crate) struct Short {
+    count: u8,
+    bytes: [u8; ROOM],
+    /// Nothing, as a number lies.
+    aligned: [u64; 0],
+}
+
+impl Short {
+    /// The empty text.
+    pub(crate) fn new() -> Short
+        ensures text { short_text result ≡ [] }
+        ensures known { IsShort result }
+    {
+        Short {
+            count: 0,
+            bytes: [0; ROOM],
+            aligned: [],
+        }
+    }
+
+    /// The text, where it is short and ASCII.
+    pub(crate) fn of(text: &str) -> Option<Short>
+        ensures text { IfSome result (λ s. short_text s ≡ chars text.now) }
+        ensures known { IfSome result (λ s. IsShort s) }
+    {
+        Short::new().joined(text)
+    }
+
+    /// The text with another one behind it, where both together are short and ASCII.
+    pub(crate) fn joined(&self, more: &str) -> Option<Short>
+        requires { IsShort self.now }
+        ensures text { IfSome result (λ s. short_text s ≡ short_text self.now ++ chars more.now) }
+        ensures known { IfSome result (λ s. IsShort s) }
+    {
+        let count = self.count as usize;
+        if ROOM - count < more.len() || !more.is_ascii() {
+            return None;
+        }
+        let mut bytes = self.bytes;
+        bytes[count..count + more.len()].copy_from_slice(more.as_bytes());
+        Some(Short {
+            count: (count + more.len()) as u8,
+            bytes,
+            aligned: [],
+        })
+    }
+
+    /// The text.
+    #[inline(always)]
+    pub(crate) fn as_str(&self) -> &str
+        requires { IsShort self.now }
+        ensures text { chars result.now ≡ short_text self.now }
+        ensures bytes { result.now ≡ short_text self.now }
+        ensures ascii { IsAscii result.now }
+    {
+        // ASCII is UTF-8.
+        unsafe { str::from_utf8_unchecked(&self.bytes[..self.count as usize]) }
+    }
+}
