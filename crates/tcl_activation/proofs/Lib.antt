@@ -1,5 +1,6 @@
 mod Acting
 mod Calling
+mod Counting
 mod Ending
 mod Finding
 mod Joining
