@@ -201,15 +201,14 @@ impl<V: Devices> Host<'_, '_, '_, '_, '_, V> {
         ensures answered { Answered (invoked dialect words.old) (shown V.channels self.old) result (shown V.channels self.new) }
         ensures leaves { HostLeaves V.leaves (is_io result) self.old self.new }
     {
-        if words.len() == 0 {
+        let Some((first, behind)) = words.split_first_mut() else {
             return asked(no_words(self.alloc));
-        }
-        let first = words[0].copy()?;
+        };
         if let Some(word) = first.shown() {
-            return self.command(dialect, word, &first, &mut words[1..]);
+            return self.command(dialect, word, &*first, behind);
         }
-        let word = text_at(self.alloc, words, 0)?;
-        self.command(dialect, word.as_str(), &first, &mut words[1..])
+        let word = first.text(self.alloc)?;
+        self.command(dialect, word.as_str(), &*first, behind)
     }
 
     /// Calls the command whose words lie on top of a code's texts, where they stay until it is done. It stands apart, as `instruct` does.

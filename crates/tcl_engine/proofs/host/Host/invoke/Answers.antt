@@ -5,10 +5,7 @@ use Rattle.tcl_engine.proofs.Calling.{empty_answers}
 use Rattle.tcl_engine.proofs.host.Host.invoke.Goals as goal
 
 pub returns-in_err-word-clause-answered : goal.returns-in_err-word-clause-answered
-returns-in_err-word-clause-answered g c = let p = err_from_is_err_and c.from_residual-in_err-word.result c.from_residual-in_err-word.ensures.1 in broken_as c.from_residual-in_err-word.result _ _ _ (p.1 ∙ ap Err p.2) refl refl
+returns-in_err-word-clause-answered g c = let p = err_from_is_err_and c.from_residual.result c.from_residual.ensures.1 in broken_as c.from_residual.result _ _ _ (p.1 ∙ ap Err p.2) refl refl
 
-pub returns-then-words-eq0-clause-answered : goal.returns-then-words-eq0-clause-answered
-returns-then-words-eq0-clause-answered g c = empty_answers c.args.dialect _ _ _ c.args.words.now c.if-words-eq0.true (c.asked.ensures.answered _ _ c.no_words.ensures)
-
-pub returns-in_err-first-clause-answered : goal.returns-in_err-first-clause-answered
-returns-in_err-first-clause-answered g c = let p = err_from_is_err_and c.from_residual.result c.from_residual.ensures.1 in broken_as c.from_residual.result _ _ _ (p.1 ∙ ap Err p.2) refl refl
+pub returns-in_default-clause-answered : goal.returns-in_default-clause-answered
+returns-in_default-clause-answered g c = empty_answers c.args.dialect _ _ _ c.args.words.now c.in_default.ensures.cases (c.asked.ensures.answered _ _ c.no_words.ensures)
