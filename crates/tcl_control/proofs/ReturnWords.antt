@@ -63,11 +63,10 @@ pair_by [] i k v l ke ve = absurd (omega arith)
 pair_by (p ∷ ps) zero k v l ke ve = λ n. (ke n, ve n)
 pair_by (p ∷ ps) (suc i) k v l ke ve = pair_by ps i k v (omega (arith, l)) ke ve
 
-pub pair_is : {A B : Type 0} (f : A → Text) (g : B → Text) (ps : Pairs) (xs : List A) (ys : List B) (i : ℕ) (x : A) (y : B) → i < length ps → map f xs ≡ keys_of ps → map g ys ≡ values_of ps
-    → x ≡ get_or xs i x → y ≡ get_or ys i y → (f x, g y) ≡ pair_at ps i
-pair_is f g ps xs ys i x y l ks vs xe ye =
-    pair_by ps i (f x) (g y) l
-    (text_at f xs (keys_of ps) i x (omega (arith, l, length-map ps (λ (p : Text × Text). p.0))) ks xe)
+pub pair_is : {B : Type 0} (g : B → Text) (ps : Pairs) (xs : List Text) (ys : List B) (i : ℕ) (x : Text) (y : B) → i < length ps → xs ≡ keys_of ps → map g ys ≡ values_of ps
+    → x ≡ get_or xs i x → y ≡ get_or ys i y → (x, g y) ≡ pair_at ps i
+pair_is g ps xs ys i x y l ks vs xe ye =
+    pair_by ps i x (g y) l (xe ∙ ap (λ ts. get_or ts i x) ks)
     (text_at g ys (values_of ps) i y (omega (arith, l, length-map ps (λ (p : Text × Text). p.1))) vs ye)
 
 drop_from : (ps : Pairs) (i : ℕ) → i < length ps → drop i ps ≡ pair_at ps i ∷ drop (suc i) ps

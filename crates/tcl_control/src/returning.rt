@@ -59,9 +59,7 @@ fn pair_at(pairs: &Dictionary, place: usize) -> Result<(Value, Value), AllocErro
 {
     let keys = pairs.keys();
     let values = pairs.values();
-    let key = keys[place].clone()?;
-    let value = values[place].copy()?;
-    Ok((Value::of_text(key), value))
+    Ok((keys[place].value()?, values[place].copy()?))
 }
 
 // Pairs come in front of options.
@@ -103,13 +101,13 @@ fn with_option(
     alloc: Global,
     found: Dictionary,
     options: &mut VecDeque<(Value, Value)>,
-    mut key: Value,
+    key: Value,
     value: Value,
 ) -> Result<Dictionary, Fault>
     ensures joined { Joins result options.new.items (joined found ((key, value) ∷ options.old.items)) }
     ensures less { OnOk result (codes.size_of options.new.items < codes.size_of ((key, value) ∷ options.old.items)) }
 {
-    let name = key.text(alloc)?;
+    let name = key.key(alloc)?;
     if !is_text(name.as_str(), "-options") {
         return Ok(found.with(alloc, name, value)?);
     }

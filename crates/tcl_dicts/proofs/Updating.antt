@@ -1,17 +1,20 @@
 -- A value under a key, changed and put back.
-use Rattle.std.proofs.Common.{◌≡◌, Bool, true, false, ◌==◌, ℕ, zero, suc, ◌+◌, ◌-◌, ◌<◌, ◌≤◌, List, [], ◌∷◌, ◌++◌, length, map, drop, take, Ok, Err, refl, sym, ap, ◌∙◌, arith}
-use Rattle.std.proofs.lemmas.List.{length-map, length-take}
+use Rattle.std.proofs.Common.{◌≡◌, Bool, true, false, ◌==◌, ℕ, zero, suc, ◌+◌, ◌<◌, ◌≤◌, List, [], ◌∷◌, ◌++◌, length, drop, take, Ok, Err, refl, sym, ap, ◌∙◌, arith}
+use Rattle.std.proofs.lemmas.List.{length-take}
 use Rattle.std.specs.declared.rc.RcStr.{RcStr}
 use Rattle.std.specs.declared.alloc.Global.{Global}
 use Rattle.tcl_arguments.specs.WordAt.{word}
+use Rattle.tcl_chars.specs.Answers.{Stops}
 use Rattle.tcl_chars.specs.Texts.{text_of}
+use Rattle.tcl_chars.specs.declared.fault.Fault.{Fault}
+use Rattle.tcl_chars.specs.declared.fault.Fault.TheVariants as fault
 use Rattle.tcl_list.specs.Elements.{elements_of}
 use Rattle.tcl_pages.specs.Answers.{Answer, ◌>>=◌}
 use Rattle.tcl_pages.specs.Dictionaries.{Pairs, put_key, pairs_of}
 use Rattle.tcl_pages.specs.DictPages.{dictionary, value_at, or_text, value_or, known, inner_of, under_key, dict_lappend, dict_set, dict_unset}
 use Rattle.tcl_pages.specs.Lists.{lappend, with_more}
 use Rattle.tcl_pages.specs.Texts.{Text}
-use Rattle.tcl_pages.specs.Updates.{by_key, dict_append, dict_set_words, text_appended}
+use Rattle.tcl_pages.specs.Updates.{by_key, dict_append, text_appended}
 use Rattle.tcl_values.proofs.ChangedPairs.{in_turn}
 use Rattle.tcl_values.specs.Changes.{after, after_under}
 use Rattle.tcl_values.specs.Dictionaries.{less_key}
@@ -104,6 +107,12 @@ pub unset_stops : (t key m last : Text) (ks : List Text) (ls : List (Text × Tex
 unset_stops t key m last [] ls e = ap (λ r. r >>= rebuilt ls) (unset_no (pairs_of t) key m (λ i. dict_unset i (last ∷ [])) e)
 unset_stops t key m last (k ∷ ks) ls e = ap (λ r. r >>= rebuilt ls) (unset_no (pairs_of t) key m (λ i. dict_unset i (k ∷ (ks ++ last ∷ []))) e)
 
+-- a key that isn't there is the fault of the whole change
+pub unset_faults : (e : Fault) (t key last : Text) (all ks : List Text) (ls : List (Text × Text)) (meant : Answer Text) → all ≡ key ∷ ks → (dict_unset t (all ++ last ∷ []) >>= rebuilt ls) ≡ meant → Stops e (inner_of t key) → Stops e meant
+unset_faults (fault.Error m) t key last all ks ls meant first is stops =
+    sym is ∙ ap (λ us. dict_unset t (us ++ last ∷ []) >>= rebuilt ls) first ∙ unset_stops t key (text_of m) last ks ls stops
+unset_faults fault.Memory t key last all ks ls meant first is stops = tt
+
 -- ---- the words of set and unset
 
 last_word : (ws : List Text) (n : ℕ) → suc n ≡ length ws → ws ≡ take n ws ++ word ws n ∷ []
@@ -118,8 +127,8 @@ first_word [] (suc n) l m = absurd (omega (arith, m))
 first_word (w ∷ ws) (suc n) l m = refl
 
 -- the keys before the last word
-pub as_many : (keys : List (RcStr Global)) (ws : List Text) (n : ℕ) → map text_of keys ≡ drop 0 (take n ws) → n ≤ 64 → length keys ≤ 64
-as_many keys ws n e l = omega (arith, sym (length-map keys text_of), ap length e, length-take n ws, l)
+pub as_many : (keys ws : List Text) (n : ℕ) → keys ≡ drop 0 (take n ws) → n ≤ 64 → length keys ≤ 64
+as_many keys ws n e l = omega (arith, ap length e, length-take n ws, l)
 
 pub unset_by_words : (t : Text) (ws : List Text) (n : ℕ) → 1 ≤ n → n + 1 ≡ length ws → dict_unset t ws ≡ dict_unset t (word ws 0 ∷ (drop 1 (take n ws) ++ word ws n ∷ []))
 unset_by_words t ws n l e =

@@ -1,18 +1,11 @@
 -- Dictionaries inside one another, on the way to a key.
 use Rattle.std.specs.Prelude.{List, [], ◌∷◌, Ok}
-use Rattle.std.specs.declared.rc.RcStr.{RcStr}
-use Rattle.std.specs.declared.alloc.Global.{Global}
-use Rattle.tcl_chars.specs.Texts.{text_of}
 use Rattle.tcl_pages.specs.Answers.{Answer, ◌>>=◌}
 use Rattle.tcl_pages.specs.DictPages.{inner_of, value_or}
 use Rattle.tcl_pages.specs.Texts.{Text}
 use Rattle.tcl_values.specs.Dictionaries.{with_key}
 
--- a dictionary, and the key of the next one in it
-abbrev pub level_text : Text × RcStr Global → Text × Text
-level_text l = (l.0, text_of l.1)
-
--- a value put back into the innermost dictionary, that into the one around it, and so on
+-- a value put back into the innermost dictionary, that into the one around it, and so on; beside each the key of the next one in it
 abbrev pub rebuilt : List (Text × Text) → Text → Answer Text
 rebuilt [] v = Ok v
 rebuilt (l ∷ ls) v = with_key l.0 l.1 v >>= rebuilt ls

@@ -1,25 +1,23 @@
 //! Commands that make dictionaries: dict(n), create, merge, remove, replace.
 
-ghost use Rattle.std.specs.Prelude.{◌≡◌, ◌≤◌, [], drop, length, map, IfOk};
+ghost use Rattle.std.specs.Prelude.{◌≡◌, ◌≤◌, [], drop, length, IfOk};
 ghost use Rattle.tcl_chars.specs.Answers.{Answers};
 ghost use Rattle.tcl_pages.specs.Dictionaries.{put_keys};
 ghost use Rattle.tcl_pages.specs.DictPages as spec;
-ghost use Rattle.tcl_values.specs.Dictionaries.{pair_text};
 
 use crate::words::{dictionary_at, pairs_behind};
 use std::alloc::{AllocError, Global};
-use std::rc::RcStr;
 use tcl_arguments::{text_at, usage};
 use tcl_chars::Fault;
-use tcl_values::{Dictionary, Value};
+use tcl_values::{Dictionary, Key, Value};
 
 /// The dictionary with these values at their keys.
 fn with_values(
     alloc: Global,
     found: Dictionary,
-    pairs: Vec<(RcStr, Value)>,
+    pairs: Vec<(Key, Value)>,
 ) -> Result<Dictionary, AllocError>
-    ensures { IfOk result (λ d. d ≡ put_keys found (map pair_text pairs.items)) }
+    ensures { IfOk result (λ d. d ≡ put_keys found pairs.items) }
 {
     let mut found = found;
     for (key, value) in pairs {

@@ -16,7 +16,7 @@ use std::rc::RcStr;
 use tcl_arguments::{text_at, usage};
 use tcl_chars::Fault;
 use tcl_glob::glob_match;
-use tcl_values::{Dictionary, Element, Value};
+use tcl_values::{Dictionary, Element, Key, Value};
 
 /// Does the text match the pattern, if there is one?
 fn passes(pattern: &Option<RcStr>, text: &str) -> bool
@@ -29,17 +29,13 @@ fn passes(pattern: &Option<RcStr>, text: &str) -> bool
 }
 
 /// The list of the keys that match the pattern.
-fn matching_keys(
-    alloc: Global,
-    keys: &[RcStr],
-    pattern: &Option<RcStr>,
-) -> Result<Value, AllocError>
-    ensures { IfOk result (λ v. v ≡ written (filter (spec.passes (option_map text_of pattern.now)) (map text_of keys.now))) }
+fn matching_keys(alloc: Global, keys: &[Key], pattern: &Option<RcStr>) -> Result<Value, AllocError>
+    ensures { IfOk result (λ v. v ≡ written (filter (spec.passes (option_map text_of pattern.now)) keys.now)) }
 {
     let mut found = Vec::new(alloc);
     for key in keys {
         if passes(pattern, key.as_str()) {
-            found.push(Value::of_text(key.clone()?))?;
+            found.push(key.value()?)?;
         }
     }
     Value::of_list(alloc, found)

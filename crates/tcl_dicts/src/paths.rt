@@ -2,11 +2,10 @@
 //! its name, and leave in the value what its definition in `tcl_pages` makes of it; the words are left as they were, and so is the
 //! value where a call is refused.
 
-ghost use Rattle.std.specs.Prelude.{◌≡◌, ◌≤◌, ◌∷◌, [], ◌++◌, drop, length, map, take, IfOk, OnErr};
+ghost use Rattle.std.specs.Prelude.{◌≡◌, ◌≤◌, ◌∷◌, [], ◌++◌, drop, length, take, IfOk, OnErr};
 ghost use Rattle.std.specs.Str.{chars};
 ghost use Rattle.tcl_chars.specs.Answers.{Answers};
-ghost use Rattle.tcl_chars.specs.Texts.{text_of};
-ghost use Rattle.tcl_dicts.specs.Levels.{changed_known, level_text, rebuilt};
+ghost use Rattle.tcl_dicts.specs.Levels.{changed_known, rebuilt};
 ghost use Rattle.tcl_pages.specs.DictPages as spec;
 ghost use Rattle.tcl_pages.specs.Updates.{dict_set_words};
 ghost use Rattle.tcl_values.specs.Lists.{Leaves};
@@ -15,26 +14,23 @@ use crate::look::unknown_key;
 use crate::update::value_or_empty;
 use crate::words::word_at;
 use std::alloc::{AllocError, Global};
-use std::rc::RcStr;
-use tcl_arguments::text_at;
 use tcl_chars::Fault;
-use tcl_values::Value;
+use tcl_values::{Key, Value};
 
-/// The texts of the words from a place on, in front of another one.
+/// The words from a place on, in front of another one, as keys.
 fn keys_between(
     alloc: Global,
-    words: &mut [Value],
+    words: &[Value],
     first: usize,
     last: usize,
-) -> Result<Vec<RcStr>, AllocError>
+) -> Result<Vec<Key>, AllocError>
     requires order { first ≤ last }
-    requires within { last ≤ length words.old }
-    ensures keys { IfOk result (λ v. map text_of v.items ≡ drop first (take last words.old)) }
-    ensures same { words.new ≡ words.old }
+    requires within { last ≤ length words.now }
+    ensures { IfOk result (λ v. v.items ≡ drop first (take last words.now)) }
 {
     let mut keys = Vec::new(alloc);
     for place in first..last {
-        keys.push(text_at(alloc, words, place)?)?;
+        keys.push(words[place].key(alloc)?)?;
     }
     Ok(keys)
 }
@@ -51,8 +47,8 @@ fn taken(alloc: Global, value: &mut Value, key: &str) -> Result<Value, Fault>
 }
 
 /// A value put back under the key of the innermost dictionary, that under the key of the one before, and so on.
-fn put_back(alloc: Global, levels: Vec<(Value, RcStr)>, value: Value) -> Result<Value, Fault>
-    ensures { Answers (λ v. v) result (rebuilt (map level_text levels.items) value) }
+fn put_back(alloc: Global, levels: Vec<(Value, Key)>, value: Value) -> Result<Value, Fault>
+    ensures { Answers (λ v. v) result (rebuilt levels.items value) }
 {
     let mut value = value;
     for (level, key) in levels {
@@ -65,8 +61,8 @@ fn put_back(alloc: Global, levels: Vec<(Value, RcStr)>, value: Value) -> Result<
 
 /// The dictionary with a value under the last of some keys. Levels that are missing are made.
 #[tactic(auto, using(crate::proofs::Updating::set_level, crate::proofs::Updating::set_stops))]
-fn with_value(alloc: Global, start: Value, keys: Vec<RcStr>, value: Value) -> Result<Value, Fault>
-    ensures { Answers (λ v. v) result (spec.dict_set start value (map text_of keys.items)) }
+fn with_value(alloc: Global, start: Value, keys: Vec<Key>, value: Value) -> Result<Value, Fault>
+    ensures { Answers (λ v. v) result (spec.dict_set start value keys.items) }
 {
     let mut levels = Vec::with_capacity(alloc, keys.len())?;
     let mut level = start;
@@ -80,8 +76,8 @@ fn with_value(alloc: Global, start: Value, keys: Vec<RcStr>, value: Value) -> Re
 }
 
 /// Puts a value under the last of some keys, of which there are many.
-fn set_under(alloc: Global, value: &mut Value, keys: Vec<RcStr>, new: Value) -> Result<(), Fault>
-    ensures done { Leaves value.new (spec.dict_set value.old new (map text_of keys.items)) result }
+fn set_under(alloc: Global, value: &mut Value, keys: Vec<Key>, new: Value) -> Result<(), Fault>
+    ensures done { Leaves value.new (spec.dict_set value.old new keys.items) result }
     ensures same { OnErr result (value.new ≡ value.old) }
 {
     let start = value.copy()?;
@@ -111,8 +107,8 @@ pub fn dict_set(alloc: Global, value: &mut Value, words: &mut [Value]) -> Result
 
 /// The dictionary without the last of some keys, of which it has those before.
 #[tactic(auto, using(crate::proofs::Updating::unset_level, crate::proofs::Updating::unset_stops))]
-fn without_key(alloc: Global, start: Value, keys: Vec<RcStr>, last: RcStr) -> Result<Value, Fault>
-    ensures { Answers (λ v. v) result (spec.dict_unset start (map text_of keys.items ++ text_of last ∷ [])) }
+fn without_key(alloc: Global, start: Value, keys: Vec<Key>, last: Key) -> Result<Value, Fault>
+    ensures { Answers (λ v. v) result (spec.dict_unset start (keys.items ++ last ∷ [])) }
 {
     let mut levels = Vec::with_capacity(alloc, keys.len())?;
     let mut level = start;
@@ -130,11 +126,11 @@ fn without_key(alloc: Global, start: Value, keys: Vec<RcStr>, last: RcStr) -> Re
 fn unset_under(
     alloc: Global,
     value: &mut Value,
-    key: RcStr,
-    keys: Vec<RcStr>,
-    last: RcStr,
+    key: Key,
+    keys: Vec<Key>,
+    last: Key,
 ) -> Result<(), Fault>
-    ensures done { Leaves value.new (changed_known value.old (text_of key) (λ old. spec.dict_unset old (map text_of keys.items ++ text_of last ∷ []))) result }
+    ensures done { Leaves value.new (changed_known value.old key (λ old. spec.dict_unset old (keys.items ++ last ∷ []))) result }
     ensures same { OnErr result (value.new ≡ value.old) }
 {
     let inner = taken(alloc, value, key.as_str())?;
@@ -150,11 +146,11 @@ fn unset_by_words(alloc: Global, value: &mut Value, words: &mut [Value]) -> Resu
     ensures words { words.new ≡ words.old }
 {
     let last = words.len() - 1;
-    let key = text_at(alloc, words, last)?;
+    let key = words[last].key(alloc)?;
     if last == 0 {
         return value.dict_remove(alloc, key.as_str());
     }
-    let first = text_at(alloc, words, 0)?;
+    let first = words[0].key(alloc)?;
     let keys = keys_between(alloc, words, 1, last)?;
     unset_under(alloc, value, first, keys, key)
 }

@@ -17,7 +17,7 @@ use std::alloc::{AllocError, Global};
 use std::rc::RcStr;
 use tcl_arguments::{number_of, text_at};
 use tcl_chars::{Dialect, Fault, Op, binary};
-use tcl_values::{Change, Value};
+use tcl_values::{Change, Key, Value};
 
 /// The value of a key of a dictionary, or a text where the key isn't there.
 fn value_or(alloc: Global, first: &str, value: &mut Value, key: &str) -> Result<Value, Fault>
@@ -113,11 +113,11 @@ fn joined_words(alloc: Global, words: &mut [Value], first: usize) -> Result<RcSt
 fn append_under(
     alloc: Global,
     value: &mut Value,
-    key: RcStr,
+    key: Key,
     words: &mut [Value],
 ) -> Result<(), Fault>
     requires { 1 ≤ length words.old }
-    ensures done { Leaves value.new (changed value.old (text_of key) [] (λ old. Ok (updates.text_appended old (drop 1 words.old)))) result }
+    ensures done { Leaves value.new (changed value.old key [] (λ old. Ok (updates.text_appended old (drop 1 words.old)))) result }
     ensures same { OnErr result (value.new ≡ value.old) }
     ensures words { words.new ≡ words.old }
 {
@@ -126,8 +126,8 @@ fn append_under(
 }
 
 /// The value of a key as it is, where it is a list.
-fn lappend_none(alloc: Global, value: &mut Value, key: RcStr) -> Result<(), Fault>
-    ensures done { Leaves value.new (changed value.old (text_of key) [] (λ old. lists.lappend old [])) result }
+fn lappend_none(alloc: Global, value: &mut Value, key: Key) -> Result<(), Fault>
+    ensures done { Leaves value.new (changed value.old key [] (λ old. lists.lappend old [])) result }
     ensures same { OnErr result (value.new ≡ value.old) }
 {
     let old = value_or_empty(alloc, value, key.as_str())?;
@@ -140,11 +140,11 @@ fn lappend_none(alloc: Global, value: &mut Value, key: RcStr) -> Result<(), Faul
 fn lappend_under(
     alloc: Global,
     value: &mut Value,
-    key: RcStr,
+    key: Key,
     words: &mut [Value],
 ) -> Result<(), Fault>
     requires { 1 ≤ length words.old }
-    ensures done { Leaves value.new (changed value.old (text_of key) [] (λ old. lists.lappend old (drop 1 words.old))) result }
+    ensures done { Leaves value.new (changed value.old key [] (λ old. lists.lappend old (drop 1 words.old))) result }
     ensures same { OnErr result (value.new ≡ value.old) }
     ensures words { words.new ≡ words.old }
 {
@@ -168,7 +168,7 @@ pub fn dict_append(alloc: Global, value: &mut Value, words: &mut [Value]) -> Res
     if words.is_empty() {
         return Ok(());
     }
-    let key = text_at(alloc, words, 0)?;
+    let key = words[0].key(alloc)?;
     append_under(alloc, value, key, words)
 }
 
@@ -185,7 +185,7 @@ pub fn dict_lappend(alloc: Global, value: &mut Value, words: &mut [Value]) -> Re
     if words.is_empty() {
         return Ok(());
     }
-    let key = text_at(alloc, words, 0)?;
+    let key = words[0].key(alloc)?;
     lappend_under(alloc, value, key, words)
 }
 
@@ -206,7 +206,7 @@ pub fn dict_incr(
     ensures same { OnErr result (value.new ≡ value.old) }
     ensures words { words.new ≡ words.old }
 {
-    let key = text_at(alloc, words, 0)?;
+    let key = words[0].key(alloc)?;
     let old = value_or(alloc, "0", value, key.as_str())?;
     let new = with_number(alloc, old, &mut words[1], dialect)?;
     value.dict_put(alloc, key, new)

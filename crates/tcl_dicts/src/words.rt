@@ -1,18 +1,16 @@
 //! The words behind a command's name, read as dictionaries and as pairs. A reading leaves them as they were.
 
-ghost use Rattle.std.specs.Prelude.{◌≡◌, ◌<◌, ◌≤◌, ◌+◌, drop, length, map, IfOk};
+ghost use Rattle.std.specs.Prelude.{◌≡◌, ◌<◌, ◌≤◌, ◌+◌, drop, length, IfOk};
 ghost use Rattle.std.specs.Str.{chars};
 ghost use Rattle.tcl_arguments.specs.WordAt.{word};
 ghost use Rattle.tcl_chars.specs.Answers.{Answers};
 ghost use Rattle.tcl_pages.specs.Dictionaries.{in_pairs, pairs_of};
 ghost use Rattle.tcl_pages.specs.DictPages.{pairs_or};
-ghost use Rattle.tcl_values.specs.Dictionaries.{pair_text};
 
 use std::alloc::{AllocError, Global};
-use std::rc::RcStr;
-use tcl_arguments::{text_at, usage};
+use tcl_arguments::usage;
 use tcl_chars::Fault;
-use tcl_values::{Dictionary, Value};
+use tcl_values::{Dictionary, Key, Value};
 
 /// The dictionary that the word at a place is.
 pub(crate) fn dictionary_at(
@@ -36,12 +34,11 @@ pub(crate) fn word_at(words: &[Value], place: usize) -> Result<Value, AllocError
 }
 
 /// A word as a key, and the one behind it as its value.
-fn pair_at(alloc: Global, words: &mut [Value], place: usize) -> Result<(RcStr, Value), AllocError>
-    requires { place + 1 < length words.old }
-    ensures pair { IfOk result (λ p. pair_text p ≡ (word words.old place, word words.old (place + 1))) }
-    ensures same { words.new ≡ words.old }
+fn pair_at(alloc: Global, words: &[Value], place: usize) -> Result<(Key, Value), AllocError>
+    requires { place + 1 < length words.now }
+    ensures { IfOk result (λ p. p ≡ (word words.now place, word words.now (place + 1))) }
 {
-    let key = text_at(alloc, words, place)?;
+    let key = words[place].key(alloc)?;
     let value = word_at(words, place + 1)?;
     Ok((key, value))
 }
@@ -53,13 +50,12 @@ fn pair_at(alloc: Global, words: &mut [Value], place: usize) -> Result<(RcStr, V
 /// `Fault::Error` with the usage of this form where a key has no value, `Fault::Memory`.
 pub(crate) fn pairs_behind(
     alloc: Global,
-    words: &mut [Value],
+    words: &[Value],
     first: usize,
     form: &str,
-) -> Result<Vec<(RcStr, Value)>, Fault>
-    requires { first ≤ length words.old }
-    ensures pairs { Answers (λ v. map pair_text v.items) result (pairs_or (chars form.now) (in_pairs (drop first words.old))) }
-    ensures same { words.new ≡ words.old }
+) -> Result<Vec<(Key, Value)>, Fault>
+    requires { first ≤ length words.now }
+    ensures { Answers (λ v. v.items) result (pairs_or (chars form.now) (in_pairs (drop first words.now))) }
 {
     let mut pairs = Vec::new(alloc);
     let mut place = first;

@@ -111,10 +111,8 @@ fn flat_values(alloc: Global, pairs: &Dictionary) -> Result<Vec<Value>, AllocErr
     let values = pairs.values();
     let mut flat = Vec::new(alloc);
     for place in 0..keys.len() {
-        let key = keys[place].clone()?;
-        let value = values[place].copy()?;
-        flat.push(Value::of_text(key))?;
-        flat.push(value)?;
+        flat.push(keys[place].value()?)?;
+        flat.push(values[place].copy()?)?;
     }
     Ok(flat)
 }

@@ -3,7 +3,7 @@ use std::alloc::{AllocError, Global};
 use std::rc::RcStr;
 use std::test::Fail;
 use tcl_chars::Fault;
-use tcl_values::Value;
+use tcl_values::{Key, Value};
 
 fn shared(alloc: Global, text: &str) -> Result<RcStr, AllocError> {
     RcStr::from_str(alloc, text)
@@ -66,7 +66,7 @@ fn replaced(alloc: Global, count: i64, place: usize, item: i64) -> Result<Value,
 
 /// A dictionary with a list under one key, which is to be read as a dictionary.
 fn outer(alloc: Global, key: &str, count: i64) -> Result<Value, Fault> {
-    let pairs = vec![in alloc; (shared(alloc, key)?, numbers(alloc, count)?)]?;
+    let pairs = vec![in alloc; (Key::of(shared(alloc, key)?), numbers(alloc, count)?)]?;
     let mut dict = Value::of_dict(alloc, pairs)?;
     dict.prefer_dictionary_under(alloc, key)?;
     Ok(dict)

@@ -4,7 +4,7 @@ use std::alloc::{AllocError, Global};
 use std::rc::RcStr;
 use std::test::Fail;
 use tcl_chars::Fault;
-use tcl_values::{Change, Gathering, Value};
+use tcl_values::{Change, Gathering, Key, Value};
 
 /// The most keys or places of a path.
 const MOST: usize = 64;
@@ -33,7 +33,7 @@ fn text(alloc: Global, mut value: Value) -> Result<RcStr, Fault> {
 fn dictionary(alloc: Global, texts: &[(&str, &str)]) -> Result<Value, AllocError> {
     let mut pairs = Vec::new(alloc);
     for (key, text) in texts {
-        pairs.push((shared(alloc, key)?, value(alloc, text)?))?;
+        pairs.push((Key::of(shared(alloc, key)?), value(alloc, text)?))?;
     }
     Value::of_dict(alloc, pairs)
 }
@@ -53,7 +53,7 @@ fn left(alloc: Global, mut value: Value, done: Result<(), Fault>) -> Result<Stri
 /// What a change under a key leaves of a text.
 fn changed(alloc: Global, start: &str, key: &str, change: Change) -> Result<String, Fault> {
     let mut value = value(alloc, start)?;
-    let done = value.dict_change(alloc, shared(alloc, key)?, change);
+    let done = value.dict_change(alloc, Key::of(shared(alloc, key)?), change);
     left(alloc, value, done)
 }
 
@@ -65,7 +65,10 @@ fn under(
     new: &str,
 ) -> Result<String, Fault> {
     let mut dict = value(alloc, start)?;
-    let keys = vec![in alloc; shared(alloc, key)?, shared(alloc, inner)?]?;
+    let keys = vec![in alloc;
+        Key::of(shared(alloc, key)?),
+        Key::of(shared(alloc, inner)?),
+    ]?;
     let done = dict.dict_put_under(alloc, keys, value(alloc, new)?);
     left(alloc, dict, done)
 }
@@ -75,7 +78,7 @@ fn without(alloc: Global, start: &str, path: &[&str]) -> Result<String, Fault> {
     let mut dict = value(alloc, start)?;
     let mut keys = Vec::new(alloc);
     for key in path {
-        keys.push(shared(alloc, key)?)?;
+        keys.push(Key::of(shared(alloc, key)?))?;
     }
     if keys.len() > MOST {
         return Err(Fault::Memory);
@@ -124,7 +127,7 @@ fn put_back(alloc: Global, start: &str, key: &str, more: &str) -> Result<RcStr, 
     let mut dict = value(alloc, start)?;
     if let Some(mut list) = dict.dict_take(alloc, key)? {
         list.push(alloc, value(alloc, more)?)?;
-        dict.dict_put(alloc, shared(alloc, key)?, list)?;
+        dict.dict_put(alloc, Key::of(shared(alloc, key)?), list)?;
     }
     text(alloc, dict)
 }

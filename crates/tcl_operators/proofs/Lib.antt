@@ -1,3 +1,4 @@
 pub mod Emptiness
 pub mod NumbersLemmas
 pub mod OfNumbers
+pub mod SameLists

@@ -12,6 +12,7 @@ ghost use Rattle.tcl_operators.specs.Members as spec;
 ghost use Rattle.tcl_values.specs.Kept.{texts};
 ghost use Rattle.std.specs.Str.{chars};
 
+use crate::lists::are_same;
 use crate::numbers::too_large;
 use std::alloc::{AllocError, Global};
 use std::cmp::Ordering;
@@ -124,6 +125,9 @@ pub(crate) fn same_texts(
     }
     if is_shown_empty(&*right) {
         return is_empty(alloc, left);
+    }
+    if let (Some(first), Some(second)) = (left.unwritten()?, right.unwritten()?) {
+        return are_same(alloc, first.items(), second.items());
     }
     let first = left.text(alloc)?;
     let second = right.text(alloc)?;

@@ -4,6 +4,7 @@
 mod comparisons;
 mod functions;
 mod known;
+mod lists;
 mod numbers;
 mod operators;
 

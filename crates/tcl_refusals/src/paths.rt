@@ -6,7 +6,7 @@ use crate::twice::{Changed, twice};
 use crate::values::{show_value, value_of};
 use std::alloc::{AllocError, Global};
 use std::rc::RcStr;
-use tcl_values::Value;
+use tcl_values::{Key, Value};
 
 /// What is done at the path's end.
 #[derive(Clone, Copy)]
@@ -27,11 +27,11 @@ struct Under {
 }
 
 /// A path of two keys.
-fn keys(alloc: Global, last: &str) -> Result<Vec<RcStr>, AllocError>
+fn keys(alloc: Global, last: &str) -> Result<Vec<Key>, AllocError>
     ensures { IfOk result (λ v. length v.items ≡ 2) }
 {
-    let first = RcStr::from_str(alloc, "a")?;
-    let last = RcStr::from_str(alloc, last)?;
+    let first = Key::of(RcStr::from_str(alloc, "a")?);
+    let last = Key::of(RcStr::from_str(alloc, last)?);
     Ok(vec![in alloc; first, last]?)
 }
 

@@ -3,7 +3,7 @@
 use crate::twice::{Changed, twice};
 use std::alloc::{AllocError, Global};
 use std::rc::RcStr;
-use tcl_values::Value;
+use tcl_values::{Key, Value};
 
 /// The value of a text.
 pub(crate) fn value_of(alloc: Global, text: &str) -> Result<Value, AllocError> {
@@ -61,7 +61,7 @@ impl Changed for Dictionary {
     }
 
     fn change(&mut self, alloc: Global) -> Result<(), AllocError> {
-        let key = RcStr::from_str(alloc, "k")?;
+        let key = Key::of(RcStr::from_str(alloc, "k")?);
         let value = value_of(alloc, "c d")?;
         self.value
             .dict_put(alloc, key, value)

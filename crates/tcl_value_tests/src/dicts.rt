@@ -155,7 +155,7 @@ fn many(alloc: Global, count: u32) -> Result<usize, Fault> {
     let mut value = Value::of_text(RcStr::from_str(alloc, "")?);
     for _ in 0..2u32 {
         for number in 0..count {
-            let key = Value::of_int(i64::from(number)).text(alloc)?;
+            let key = Value::of_int(i64::from(number)).key(alloc)?;
             value.dict_put(alloc, key, Value::of_int(1))?;
         }
     }

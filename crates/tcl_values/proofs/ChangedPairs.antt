@@ -1,13 +1,9 @@
 -- Pairs of which the value under a key becomes another one.
-use Rattle.std.proofs.Common.{◌≡◌, ℕ, zero, suc, ◌<◌, ◌≤◌, false, List, [], ◌∷◌, ◌++◌, length, map, get_or, slice_set, position, reverse, Option, None, Some, Result, Ok, Err, OnOk, OnErr, refl, sym, subst, ap, ◌∙◌, arith}
-use Rattle.std.proofs.lemmas.List.{length-map, length-reverse, map-set, reverse-append, reverse-reverse}
+use Rattle.std.proofs.Common.{◌≡◌, ℕ, zero, suc, ◌<◌, ◌≤◌, false, List, [], ◌∷◌, ◌++◌, length, get_or, slice_set, position, reverse, Option, None, Some, Result, Ok, Err, OnOk, OnErr, refl, sym, subst, ap, ◌∙◌, arith}
+use Rattle.std.proofs.lemmas.List.{length-reverse, map-set, reverse-append, reverse-reverse}
 use Rattle.std.specs.List.{list_any}
-use Rattle.std.specs.Rc.{rc_str_bytes}
-use Rattle.std.specs.Str.{chars, IsUtf8, bytes_eq}
-use Rattle.std.specs.declared.rc.RcStr.{RcStr}
-use Rattle.std.specs.declared.alloc.Global.{Global}
+use Rattle.std.specs.Str.{bytes_eq}
 use Rattle.tcl_chars.specs.Answers.{Answers, Stops}
-use Rattle.tcl_chars.specs.Texts.{text_of}
 use Rattle.tcl_chars.specs.declared.fault.Fault.{Fault}
 use Rattle.tcl_pages.specs.Answers.{Answer, ◌>>=◌}
 use Rattle.tcl_pages.specs.Dictionaries as dictionaries
@@ -51,42 +47,42 @@ both (Err m) f g = refl
 abbrev put_in : dictionaries.Pairs → Text → Answer Text → Answer dictionaries.Pairs
 put_in ps key r = r >>= λ new. Ok (put_key ps key new)
 
-module _ (bs : List ℕ) (u : IsUtf8 bs) (js : List (RcStr Global)) (vs : List Kept) (even : length js ≡ length vs) (change : Option Text → Answer Text) where
+module _ (k : Text) (js : List Text) (vs : List Kept) (even : length js ≡ length vs) (change : Option Text → Answer Text) where
   abbrev before : dictionaries.Pairs
-  before = zipped (map text_of js) (texts vs)
+  before = zipped js (texts vs)
 
-  placed : (i : ℕ) (new : Text) → Some i ≡ position (λ j. bytes_eq bs (rc_str_bytes j)) js → put_key before (chars bs) new ≡ zipped (map text_of js) (slice_set (texts vs) i new)
+  placed : (i : ℕ) (new : Text) → Some i ≡ position (bytes_eq k) js → put_key before k new ≡ zipped js (slice_set (texts vs) i new)
   placed i new at =
       let v : Kept = record { text = new; depth = 0 } in
-      sym (put_there bs u js vs even v i at) ∙ ap (zipped (map text_of js)) (map-set (λ (q : Kept). q.text) vs i v)
+      sym (put_there k js vs even v i at) ∙ ap (zipped js) (map-set (λ (q : Kept). q.text) vs i v)
 
-  in_place : (i : ℕ) → Some i ≡ position (λ j. bytes_eq bs (rc_str_bytes j)) js → i < length vs → after_in change before (chars bs) ≡ (after_at (λ t. change (Some t)) (texts vs) i >>= λ ts. Ok (zipped (map text_of js) ts))
+  in_place : (i : ℕ) → Some i ≡ position (bytes_eq k) js → i < length vs → after_in change before k ≡ (after_at (λ t. change (Some t)) (texts vs) i >>= λ ts. Ok (zipped js ts))
   in_place i at l =
-      let found : value_at (chars bs) before ≡ Some (get_or (texts vs) i []) = sym (found_there bs u js vs even (get_or vs i nothing) i at (get_again vs i nothing l)) ∙ ap Some (text_got vs i) in
-      ap (λ o. put_in before (chars bs) (change o)) found
+      let found : value_at k before ≡ Some (get_or (texts vs) i []) = sym (found_there k js vs even (get_or vs i nothing) i at (get_again vs i nothing l)) ∙ ap Some (text_got vs i) in
+      ap (λ o. put_in before k (change o)) found
       ∙ (λ n. change (Some (get_or (texts vs) i [])) >>= λ new. Ok (placed i new at n))
-      ∙ both (change (Some (get_or (texts vs) i []))) (λ new. slice_set (texts vs) i new) (zipped (map text_of js))
+      ∙ both (change (Some (get_or (texts vs) i []))) (λ new. slice_set (texts vs) i new) (zipped js)
 
   -- the key is there
-  pub some_done : {X : Type 0} (r : Result X Fault) (ks : List (RcStr Global)) (ws : List Kept) (i : ℕ) → Some i ≡ position (λ j. bytes_eq bs (rc_str_bytes j)) js → i < length vs → ks ≡ js
-      → Answers (λ (_ : X). texts ws) r (after_at (λ t. change (Some t)) (texts vs) i) → Answers (λ (_ : X). zipped (map text_of ks) (texts ws)) r (after_in change before (chars bs))
+  pub some_done : {X : Type 0} (r : Result X Fault) (ks : List Text) (ws : List Kept) (i : ℕ) → Some i ≡ position (bytes_eq k) js → i < length vs → ks ≡ js
+      → Answers (λ (_ : X). texts ws) r (after_at (λ t. change (Some t)) (texts vs) i) → Answers (λ (_ : X). zipped ks (texts ws)) r (after_in change before k)
   some_done {X} r ks ws i at l same done =
-      subst (λ m. Answers (λ (_ : X). zipped (map text_of ks) (texts ws)) r m) (sym (in_place i at l))
-      (subst (λ (qs : List (RcStr Global)). Answers (λ (_ : X). zipped (map text_of qs) (texts ws)) r (after_at (λ t. change (Some t)) (texts vs) i >>= λ ts. Ok (zipped (map text_of js) ts))) (sym same)
-      (answers_then r (after_at (λ t. change (Some t)) (texts vs) i) (texts ws) (zipped (map text_of js)) done))
+      subst (λ m. Answers (λ (_ : X). zipped ks (texts ws)) r m) (sym (in_place i at l))
+      (subst (λ (qs : List Text). Answers (λ (_ : X). zipped qs (texts ws)) r (after_at (λ t. change (Some t)) (texts vs) i >>= λ ts. Ok (zipped js ts))) (sym same)
+      (answers_then r (after_at (λ t. change (Some t)) (texts vs) i) (texts ws) (zipped js) done))
 
   -- the key isn't there
-  not_in : list_any (λ j. bytes_eq bs (rc_str_bytes j)) js ≡ false → after_in change before (chars bs) ≡ put_in before (chars bs) (change None)
-  not_in none = ap (λ o. put_in before (chars bs) (change o)) (sym (found_nowhere bs u js vs even none))
+  not_in : list_any (bytes_eq k) js ≡ false → after_in change before k ≡ put_in before k (change None)
+  not_in none = ap (λ o. put_in before k (change o)) (sym (found_nowhere k js vs even none))
 
-  pub none_stops : (f : Fault) → list_any (λ j. bytes_eq bs (rc_str_bytes j)) js ≡ false → Stops f (change None) → Stops f (after_in change before (chars bs))
-  none_stops f none e = subst (λ m. Stops f m) (sym (not_in none)) (stops_then f (change None) (λ new. Ok (put_key before (chars bs) new)) e)
+  pub none_stops : (f : Fault) → list_any (bytes_eq k) js ≡ false → Stops f (change None) → Stops f (after_in change before k)
+  none_stops f none e = subst (λ m. Stops f m) (sym (not_in none)) (stops_then f (change None) (λ new. Ok (put_key before k new)) e)
 
-  pub none_done : (key : RcStr Global) (v : Kept) (ks : List (RcStr Global)) (ws : List Kept) → list_any (λ j. bytes_eq bs (rc_str_bytes j)) js ≡ false → text_of key ≡ chars bs → change None ≡ Ok v.text → ks ≡ js ++ key ∷ [] → ws ≡ vs ++ v ∷ []
-      → after_in change before (chars bs) ≡ Ok (zipped (map text_of ks) (texts ws))
+  pub none_done : (key : Text) (v : Kept) (ks : List Text) (ws : List Kept) → list_any (bytes_eq k) js ≡ false → key ≡ k → change None ≡ Ok v.text → ks ≡ js ++ key ∷ [] → ws ≡ vs ++ v ∷ []
+      → after_in change before k ≡ Ok (zipped ks (texts ws))
   none_done key v ks ws none is new keys values =
-      not_in none ∙ ap (put_in before (chars bs)) new
-      ∙ ap Ok (sym ((λ n. zipped (map text_of (keys n)) (texts (values n))) ∙ put_behind bs u js vs even key v none is))
+      not_in none ∙ ap (put_in before k) new
+      ∙ ap Ok (sym ((λ n. zipped (keys n) (texts (values n))) ∙ put_behind k js vs even key v none is))
 
 err_is_ok : (r : Answer dictionaries.Pairs) (m : Text) (ps : dictionaries.Pairs) → r ≡ Err m → r ≡ Ok ps → ⊥
 err_is_ok r m ps e f = cc
@@ -147,46 +143,46 @@ unset_step t key (k ∷ ks) g l h = by (pairs_of t)
 
 -- ---- keys in the reverse order
 
-turned : (keys rest : List (RcStr Global)) (key : RcStr Global) → keys ≡ rest ++ key ∷ [] → reverse keys ≡ key ∷ reverse rest
+turned : (keys rest : List Text) (key : Text) → keys ≡ rest ++ key ∷ [] → reverse keys ≡ key ∷ reverse rest
 turned keys rest key e = ap reverse e ∙ reverse-append rest (key ∷ [])
 
-back_turned : (keys back rest : List (RcStr Global)) (key : RcStr Global) → back ≡ reverse keys → back ≡ rest ++ key ∷ [] → keys ≡ key ∷ reverse rest
+back_turned : (keys back rest : List Text) (key : Text) → back ≡ reverse keys → back ≡ rest ++ key ∷ [] → keys ≡ key ∷ reverse rest
 back_turned keys back rest key is e = sym (reverse-reverse keys) ∙ ap reverse (sym is) ∙ turned back rest key e
 
 -- the first on the way: dict set
-pub set_first : (t v : Text) (ks : List (RcStr Global)) (rest : List (RcStr Global)) (key : RcStr Global) (g : Option Text → Answer Text) → ks ≡ key ∷ reverse rest → ((o : Option Text) → dict_set (or_text [] o) v (map text_of (reverse rest)) ≡ g o)
-    → dict_set t v (map text_of ks) ≡ after_key g t (text_of key)
-set_first t v ks rest key g e h = ap (λ js. dict_set t v (map text_of js)) e ∙ key_alike (λ old. dict_set old v (map text_of (reverse rest))) g t (text_of key) h
+pub set_first : (t v : Text) (ks : List Text) (rest : List Text) (key : Text) (g : Option Text → Answer Text) → ks ≡ key ∷ reverse rest → ((o : Option Text) → dict_set (or_text [] o) v (reverse rest) ≡ g o)
+    → dict_set t v ks ≡ after_key g t key
+set_first t v ks rest key g e h = ap (λ js. dict_set t v js) e ∙ key_alike (λ old. dict_set old v (reverse rest)) g t key h
 
-pub set_last : (t v : Text) (keys rest : List (RcStr Global)) (key : RcStr Global) (g : Option Text → Answer Text) → keys ≡ rest ++ key ∷ [] → ((o : Option Text) → dict_set (or_text [] o) v (map text_of (reverse rest)) ≡ g o)
-    → dict_set t v (map text_of (reverse keys)) ≡ after_key g t (text_of key)
+pub set_last : (t v : Text) (keys rest : List Text) (key : Text) (g : Option Text → Answer Text) → keys ≡ rest ++ key ∷ [] → ((o : Option Text) → dict_set (or_text [] o) v (reverse rest) ≡ g o)
+    → dict_set t v (reverse keys) ≡ after_key g t key
 set_last t v keys rest key g e h = set_first t v (reverse keys) rest key g (turned keys rest key e) h
 
-pub set_turned : (t v : Text) (keys back rest : List (RcStr Global)) (key : RcStr Global) (g : Option Text → Answer Text) → back ≡ reverse keys → back ≡ rest ++ key ∷ [] → ((o : Option Text) → dict_set (or_text [] o) v (map text_of (reverse rest)) ≡ g o)
-    → dict_set t v (map text_of keys) ≡ after_key g t (text_of key)
+pub set_turned : (t v : Text) (keys back rest : List Text) (key : Text) (g : Option Text → Answer Text) → back ≡ reverse keys → back ≡ rest ++ key ∷ [] → ((o : Option Text) → dict_set (or_text [] o) v (reverse rest) ≡ g o)
+    → dict_set t v keys ≡ after_key g t key
 set_turned t v keys back rest key g is e h = set_first t v keys rest key g (back_turned keys back rest key is e) h
 
 -- dict unset
-unset_first : (t : Text) (ks rest : List (RcStr Global)) (key : RcStr Global) (g : Option Text → Answer Text) → ks ≡ key ∷ reverse rest → 0 < length rest → ((o : Option Text) → (known (text_of key) o >>= λ i. dict_unset i (map text_of (reverse rest))) ≡ g o)
-    → dict_unset t (map text_of ks) ≡ after_key g t (text_of key)
+unset_first : (t : Text) (ks rest : List Text) (key : Text) (g : Option Text → Answer Text) → ks ≡ key ∷ reverse rest → 0 < length rest → ((o : Option Text) → (known key o >>= λ i. dict_unset i (reverse rest)) ≡ g o)
+    → dict_unset t ks ≡ after_key g t key
 unset_first t ks rest key g e l h =
-    ap (λ js. dict_unset t (map text_of js)) e
-    ∙ unset_step t (text_of key) (map text_of (reverse rest)) g (omega (arith, l, length-map (reverse rest) text_of, length-reverse rest)) h
+    ap (λ js. dict_unset t js) e
+    ∙ unset_step t key (reverse rest) g (omega (arith, l, length-reverse rest)) h
 
-unset_only : (t : Text) (ks rest : List (RcStr Global)) (key : RcStr Global) → ks ≡ key ∷ reverse rest → length rest ≡ 0 → dict_unset t (map text_of ks) ≡ less_key t (text_of key)
-unset_only t ks [] key e l = ap (λ js. dict_unset t (map text_of js)) e
+unset_only : (t : Text) (ks rest : List Text) (key : Text) → ks ≡ key ∷ reverse rest → length rest ≡ 0 → dict_unset t ks ≡ less_key t key
+unset_only t ks [] key e l = ap (λ js. dict_unset t js) e
 unset_only t ks (r ∷ rest) key e l = absurd (omega (arith, l))
 
-pub unset_last : (t : Text) (keys rest : List (RcStr Global)) (key : RcStr Global) (g : Option Text → Answer Text) → keys ≡ rest ++ key ∷ [] → 0 < length rest → ((o : Option Text) → (known (text_of key) o >>= λ i. dict_unset i (map text_of (reverse rest))) ≡ g o)
-    → dict_unset t (map text_of (reverse keys)) ≡ after_key g t (text_of key)
+pub unset_last : (t : Text) (keys rest : List Text) (key : Text) (g : Option Text → Answer Text) → keys ≡ rest ++ key ∷ [] → 0 < length rest → ((o : Option Text) → (known key o >>= λ i. dict_unset i (reverse rest)) ≡ g o)
+    → dict_unset t (reverse keys) ≡ after_key g t key
 unset_last t keys rest key g e l h = unset_first t (reverse keys) rest key g (turned keys rest key e) l h
 
-pub unset_alone : (t : Text) (keys rest : List (RcStr Global)) (key : RcStr Global) → keys ≡ rest ++ key ∷ [] → length rest ≡ 0 → dict_unset t (map text_of (reverse keys)) ≡ less_key t (text_of key)
+pub unset_alone : (t : Text) (keys rest : List Text) (key : Text) → keys ≡ rest ++ key ∷ [] → length rest ≡ 0 → dict_unset t (reverse keys) ≡ less_key t key
 unset_alone t keys rest key e l = unset_only t (reverse keys) rest key (turned keys rest key e) l
 
-pub unset_turned : (t : Text) (keys back rest : List (RcStr Global)) (key : RcStr Global) (g : Option Text → Answer Text) → back ≡ reverse keys → back ≡ rest ++ key ∷ [] → 0 < length rest
-    → ((o : Option Text) → (known (text_of key) o >>= λ i. dict_unset i (map text_of (reverse rest))) ≡ g o) → dict_unset t (map text_of keys) ≡ after_key g t (text_of key)
+pub unset_turned : (t : Text) (keys back rest : List Text) (key : Text) (g : Option Text → Answer Text) → back ≡ reverse keys → back ≡ rest ++ key ∷ [] → 0 < length rest
+    → ((o : Option Text) → (known key o >>= λ i. dict_unset i (reverse rest)) ≡ g o) → dict_unset t keys ≡ after_key g t key
 unset_turned t keys back rest key g is e l h = unset_first t keys rest key g (back_turned keys back rest key is e) l h
 
-pub unset_turned_one : (t : Text) (keys back rest : List (RcStr Global)) (key : RcStr Global) → back ≡ reverse keys → back ≡ rest ++ key ∷ [] → length rest ≡ 0 → dict_unset t (map text_of keys) ≡ less_key t (text_of key)
+pub unset_turned_one : (t : Text) (keys back rest : List Text) (key : Text) → back ≡ reverse keys → back ≡ rest ++ key ∷ [] → length rest ≡ 0 → dict_unset t keys ≡ less_key t key
 unset_turned_one t keys back rest key is e l = unset_only t keys rest key (back_turned keys back rest key is e) l

@@ -1,4 +1,5 @@
 pub mod Beginnings
+pub mod Behind
 pub mod Changed
 pub mod ChangedPairs
 pub mod Decimals
@@ -7,6 +8,7 @@ pub mod ElementPlaces
 pub mod Gathered
 pub mod Grown
 pub mod Growth
+pub mod InBraces
 pub mod Joined
 pub mod PairKept
 pub mod PairPlaces

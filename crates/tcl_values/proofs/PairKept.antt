@@ -1,5 +1,5 @@
 -- Pairs that are kept stand for their text, also where one is put or taken out.
-use Rattle.std.proofs.Common.{◌≡◌, ℕ, zero, suc, ◌+◌, ◌<◌, ◌≤◌, List, [], ◌∷◌, ◌++◌, length, map, max, None, Some, Ok, sym, ap, ◌∙◌, arith, slice_set, remove, length-append}
+use Rattle.std.proofs.Common.{◌≡◌, ℕ, zero, suc, ◌+◌, ◌<◌, ◌≤◌, List, [], ◌∷◌, ◌++◌, length, max, None, Some, Ok, sym, ap, ◌∙◌, arith, slice_set, remove, length-append}
 use Rattle.std.proofs.lemmas.List.{length-set}
 use Rattle.std.specs.declared.rc.RcStr.{RcStr}
 use Rattle.std.specs.declared.alloc.Global.{Global}
@@ -44,7 +44,7 @@ less_kept own new k kept limit deeper even none less = record {
 }
 
 pub same_pairs : (own new : Pairs) → new.keys.keys ≡ own.keys.keys → texts new.values.items ≡ texts own.values.items → pairs_in new ≡ pairs_in own
-same_pairs own new keys values = λ n. zipped (map text_of (keys n)) (values n)
+same_pairs own new keys values = λ n. zipped (keys n) (values n)
 
 pub same_kept : (own new : Pairs) → ArePaired own → new.depth ≤ 64 → depth_over new.values.items ≤ new.depth → new.keys.keys ≡ own.keys.keys → texts new.values.items ≡ texts own.values.items → new.text ≡ own.text
     → (pairs_text new ≡ pairs_text own) × ArePaired new
@@ -59,10 +59,10 @@ same_kept own new kept limit deeper keys values text =
       },
     )
 
-pub even_set : (js ks : List (RcStr Global)) (vs ws : List Kept) (i : ℕ) (v : Kept) → length js ≡ length vs → ks ≡ js → ws ≡ slice_set vs i v → length ks ≡ length ws
+pub even_set : (js ks : List Text) (vs ws : List Kept) (i : ℕ) (v : Kept) → length js ≡ length vs → ks ≡ js → ws ≡ slice_set vs i v → length ks ≡ length ws
 even_set js ks vs ws i v e keys values = ap length keys ∙ e ∙ sym (ap length values ∙ length-set vs i v)
 
-pub even_more : (js ks : List (RcStr Global)) (vs ws : List Kept) (key : RcStr Global) (v : Kept) → length js ≡ length vs → ks ≡ js ++ key ∷ [] → ws ≡ vs ++ v ∷ [] → length ks ≡ length ws
+pub even_more : (js ks : List Text) (vs ws : List Kept) (key : Text) (v : Kept) → length js ≡ length vs → ks ≡ js ++ key ∷ [] → ws ≡ vs ++ v ∷ [] → length ks ≡ length ws
 even_more js ks vs ws key v e keys values = omega (arith, ap length keys, ap length values, length-append js (key ∷ []), length-append vs (v ∷ []), e)
 
 pub deeper_set : (vs ws : List Kept) (i : ℕ) (v : Kept) (d e n : ℕ) → depth_over vs ≤ d → ws ≡ slice_set vs i v → e ≡ v.depth → n ≡ max d (e + 1) → depth_over ws ≤ n
@@ -73,7 +73,7 @@ deeper_more vs ws v d e n below values same new = omega (arith, below, ap depth_
 
 pub none_kept : (p : Pairs) → p.depth ≡ 1 → p.text ≡ None → p.keys.keys ≡ [] → p.values.items ≡ [] → ArePaired p
 none_kept p one none keys values =
-    let nothing : pairs_in p ≡ [] = λ n. zipped (map text_of (keys n)) (texts (values n)) in
+    let nothing : pairs_in p ≡ [] = λ n. zipped (keys n) (texts (values n)) in
     record {
       limit = omega (arith, one);
       deeper = omega (arith, one, ap depth_over values);
@@ -104,7 +104,7 @@ depth_less (v ∷ vs) (suc i) = omega (arith, depth_less vs i)
 pub deeper_less : (vs ws : List Kept) (i d : ℕ) → depth_over vs ≤ d → ws ≡ remove vs i → depth_over ws ≤ d
 deeper_less vs ws i d below values = omega (arith, below, ap depth_over values, depth_less vs i)
 
-pub even_less : (js ks : List (RcStr Global)) (vs ws : List Kept) (i : ℕ) → length js ≡ length vs → i < length js → ks ≡ remove js i → ws ≡ remove vs i → length ks ≡ length ws
+pub even_less : (js ks : List Text) (vs ws : List Kept) (i : ℕ) → length js ≡ length vs → i < length js → ks ≡ remove js i → ws ≡ remove vs i → length ks ≡ length ws
 even_less js ks vs ws i e l keys values =
     let lv : i < length vs = omega (arith, l, e) in
     omega (arith, ap length keys, ap length values, length-remove js i l, length-remove vs i lv, e)

@@ -1,10 +1,7 @@
 -- Pairs written one behind another.
-use Rattle.std.proofs.Common.{◌≡◌, ℕ, zero, suc, ◌+◌, ◌<◌, ◌==◌, Bool, false, List, [], ◌∷◌, ◌++◌, length, take, map, get_or, sym, ap, ◌∙◌, refl, arith}
+use Rattle.std.proofs.Common.{◌≡◌, ℕ, zero, suc, ◌+◌, ◌<◌, ◌==◌, Bool, false, List, [], ◌∷◌, ◌++◌, length, take, get_or, sym, ap, ◌∙◌, refl, arith}
 use Rattle.std.proofs.lemmas.Bool.{ne_eqb}
 use Rattle.std.proofs.lemmas.List.{map_push, take_more, length-take, length-map}
-use Rattle.std.specs.declared.rc.RcStr.{RcStr}
-use Rattle.std.specs.declared.alloc.Global.{Global}
-use Rattle.tcl_chars.specs.Texts.{text_of}
 use Rattle.tcl_list.specs.Laws.{has_none}
 use Rattle.tcl_list.specs.Written.{appended, written}
 use Rattle.tcl_list.proofs.Joining.{appended_is_longer}
@@ -27,22 +24,22 @@ written_two : (es : List Text) (k v : Text) → written ((es ++ k ∷ []) ++ v �
 written_two es k v =
     sym (ap (λ t. t ++ appended false v) (appended_is_longer es k) ∙ ap (λ b. written (es ++ k ∷ []) ++ appended b v) (sym (one_at_least es k)) ∙ appended_is_longer (es ++ k ∷ []) v)
 
-none_before : (js : List (RcStr Global)) (vs : List Kept) (i : ℕ) → i < length js → length js ≡ length vs → has_none (flat (zipped (map text_of (take i js)) (texts (take i vs)))) ≡ (i == 0)
+none_before : (js : List Text) (vs : List Kept) (i : ℕ) → i < length js → length js ≡ length vs → has_none (flat (zipped (take i js) (texts (take i vs)))) ≡ (i == 0)
 none_before js vs zero l e = refl
 none_before [] vs (suc i) l e = absurd (omega arith)
 none_before (j ∷ js) [] (suc i) l e = absurd (omega (arith, e))
 none_before (j ∷ js) (v ∷ vs) (suc i) l e = sym (ne_eqb (suc i) 0 (λ z. omega arith))
 
 -- the text of the first i pairs, and one pair more
-pub written_pair : (js : List (RcStr Global)) (vs : List Kept) (i : ℕ) (j : RcStr Global) (v : Kept) (old mid new : Text) → i < length js → length js ≡ length vs → j ≡ get_or js i j → v ≡ get_or vs i v
-    → old ≡ dictionary (zipped (map text_of (take i js)) (texts (take i vs))) → mid ≡ old ++ appended (i == 0) (text_of j) → new ≡ mid ++ appended false v.text
-    → new ≡ dictionary (zipped (map text_of (take (i + 1) js)) (texts (take (i + 1) vs)))
+pub written_pair : (js : List Text) (vs : List Kept) (i : ℕ) (j : Text) (v : Kept) (old mid new : Text) → i < length js → length js ≡ length vs → j ≡ get_or js i j → v ≡ get_or vs i v
+    → old ≡ dictionary (zipped (take i js) (texts (take i vs))) → mid ≡ old ++ appended (i == 0) j → new ≡ mid ++ appended false v.text
+    → new ≡ dictionary (zipped (take (i + 1) js) (texts (take (i + 1) vs)))
 written_pair js vs i j v old mid new l e is_key is_value so_far key value =
     let lv : i < length vs = omega (arith, l, e) in
-    let es : List Text = flat (zipped (map text_of (take i js)) (texts (take i vs))) in
-    let keys : map text_of (take (i + 1) js) ≡ map text_of (take i js) ++ text_of j ∷ [] = ap (map text_of) (take_more js i j l ∙ ap (λ x. take i js ++ x ∷ []) (sym is_key)) ∙ map_push text_of (take i js) j in
+    let es : List Text = flat (zipped (take i js) (texts (take i vs))) in
+    let keys : take (i + 1) js ≡ take i js ++ j ∷ [] = take_more js i j l ∙ ap (λ x. take i js ++ x ∷ []) (sym is_key) in
     let values : texts (take (i + 1) vs) ≡ texts (take i vs) ++ v.text ∷ [] = ap texts (take_more vs i v lv ∙ ap (λ x. take i vs ++ x ∷ []) (sym is_value)) ∙ map_push (λ (q : Kept). q.text) (take i vs) v in
-    let even : length (map text_of (take i js)) ≡ length (texts (take i vs)) =
-    omega (arith, length-map (take i js) text_of, length-map (take i vs) (λ (q : Kept). q.text), length-take i js, length-take i vs, l, lv) in
-    value ∙ ap (λ t. t ++ appended false v.text) (key ∙ ap (λ t. t ++ appended (i == 0) (text_of j)) so_far ∙ ap (λ (b : Bool). written es ++ appended b (text_of j)) (sym (none_before js vs i l e)))
-    ∙ sym (ap written ((λ n. flat (zipped (keys n) (values n))) ∙ flat_push (map text_of (take i js)) (texts (take i vs)) (text_of j) v.text even) ∙ written_two es (text_of j) v.text)
+    let even : length (take i js) ≡ length (texts (take i vs)) =
+    omega (arith, length-map (take i vs) (λ (q : Kept). q.text), length-take i js, length-take i vs, l, lv) in
+    value ∙ ap (λ t. t ++ appended false v.text) (key ∙ ap (λ t. t ++ appended (i == 0) j) so_far ∙ ap (λ (b : Bool). written es ++ appended b j) (sym (none_before js vs i l e)))
+    ∙ sym (ap written ((λ n. flat (zipped (keys n) (values n))) ∙ flat_push (take i js) (texts (take i vs)) j v.text even) ∙ written_two es j v.text)

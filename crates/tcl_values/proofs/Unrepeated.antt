@@ -73,7 +73,7 @@ by_pairs es (Ok ps) qs known e half =
 pub unrepeated : (es : List Text) (qs : Pairs) → read_pairs [] es ≡ Ok qs → length es / 2 ≡ length qs → dictionary qs ≡ written es
 unrepeated es qs e half = ap written (by_pairs es (in_pairs es) qs (pairs_of_elements es) e half)
 
-none_of : {X : Type 0} (o : Option X) → is_some o ≡ false → o ≡ None
+pub none_of : {X : Type 0} (o : Option X) → is_some o ≡ false → o ≡ None
 none_of None h = refl
 none_of (Some x) h = absurd cc
 

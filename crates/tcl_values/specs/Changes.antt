@@ -1,5 +1,5 @@
 -- What comes to the value under a key of a dictionary (dict(n), append, lappend, set, unset), or to an element of a list in a list (lset(n)).
-use Rattle.std.specs.Prelude.{ℕ, ◌+◌, [], ◌∷◌, ◌++◌, List, Option, None, Some, get_or, length, map, reverse, slice_set, Ok, Err}
+use Rattle.std.specs.Prelude.{ℕ, ◌+◌, [], ◌∷◌, ◌++◌, List, Option, None, Some, get_or, length, reverse, slice_set, Ok, Err}
 use Rattle.tcl_chars.specs.Texts.{text_of}
 use Rattle.tcl_list.specs.Elements.{elements_of}
 use Rattle.tcl_list.specs.Written.{written}
@@ -22,13 +22,13 @@ after (change.Text s) t = Ok (t ++ text_of s)
 -- what is made of a text
 abbrev pub made : Making → Text → Answer Text
 made (making.Changed c) t = after c t
-made (making.Under keys value) t = dict_set t value.text (map text_of (reverse keys.items))
-made (making.Without keys) t = dict_unset t (map text_of (reverse keys.items))
+made (making.Under keys value) t = dict_set t value.text (reverse keys.items)
+made (making.Without keys) t = dict_unset t (reverse keys.items)
 
 -- what is made where the key isn't there: the value begins as the empty text, of which nothing can be taken out
 abbrev pub made_new : Making → Text → Answer Text
 made_new (making.Changed c) key = after c []
-made_new (making.Under keys value) key = dict_set [] value.text (map text_of (reverse keys.items))
+made_new (making.Under keys value) key = dict_set [] value.text (reverse keys.items)
 made_new (making.Without keys) key = Err (unknown_key key)
 
 -- what is made of the value under a key

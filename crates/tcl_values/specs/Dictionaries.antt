@@ -1,16 +1,9 @@
 -- A text that is read as a dictionary, and what changes of the dictionary leave of it (dict(n)).
 use Rattle.std.specs.Prelude.{ℕ, length, Option, Ok}
-use Rattle.std.specs.declared.rc.RcStr.{RcStr}
-use Rattle.std.specs.declared.alloc.Global.{Global}
-use Rattle.tcl_chars.specs.Texts.{text_of}
 use Rattle.tcl_pages.specs.Answers.{Answer, ◌>>=◌}
 use Rattle.tcl_pages.specs.Dictionaries.{put_key, pairs_of}
 use Rattle.tcl_pages.specs.DictPages.{dictionary, value_at, without_key}
 use Rattle.tcl_pages.specs.Texts.{Text}
-
--- a pair by its texts
-abbrev pub pair_text : RcStr Global × Text → Text × Text
-pair_text p = (text_of p.0, p.1)
 
 -- how many keys there are: dict size
 abbrev pub size_of : Text → Answer ℕ

@@ -3,8 +3,10 @@ pub mod Dictionaries
 pub mod Falls
 pub mod Gathered
 pub mod Kept
+pub mod Keys
 pub mod Lists
 pub mod Marks
+pub mod Nested
 pub mod Numerals
 pub mod Paired
 pub mod Shape

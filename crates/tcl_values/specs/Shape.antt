@@ -1,5 +1,5 @@
 -- What is kept of a value, and the text that it stands for.
-use Rattle.std.specs.Prelude.{ℕ, ℤ, IfSome, ◌≤◌, ◌≡◌, Bool, true, false, List, [], length, map, Option, None, Some, ⊤, Ok, FitsSigned, option_map}
+use Rattle.std.specs.Prelude.{ℕ, ℤ, IfSome, ◌≤◌, ◌≡◌, Bool, true, false, List, [], length, Option, None, Some, ⊤, Ok, FitsSigned, option_map}
 use Rattle.std.specs.Int.{w64}
 use Rattle.std.specs.Fmt.{signed_decimal}
 use Rattle.std.specs.Bool.{OnTrue}
@@ -57,7 +57,7 @@ items_text r = shown (shared_text r.text) (elements r)
 -- ---- dictionaries
 
 abbrev pub pairs_in : Pairs → dictionaries.Pairs
-pairs_in p = zipped (map text_of p.keys.keys) (texts p.values.items)
+pairs_in p = zipped p.keys.keys (texts p.values.items)
 
 -- the text, or else how the pairs are written
 abbrev pub shown_pairs : Option (List ℕ) → dictionaries.Pairs → List ℕ
@@ -84,7 +84,7 @@ pub record ArePairsRead (p : Pairs) (t : List ℕ) : Type 0 where
 pub record AreSamePairs (p q : Pairs) : Type 0 where
   pub text : shared_text p.text ≡ shared_text q.text
   pub depth : p.depth ≡ q.depth
-  pub keys : map text_of p.keys.keys ≡ map text_of q.keys.keys
+  pub keys : p.keys.keys ≡ q.keys.keys
   pub values : p.values.items ≡ q.values.items
 
 -- ---- lists

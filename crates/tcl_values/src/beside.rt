@@ -4,6 +4,7 @@ ghost use Rattle.std.specs.Prelude.{◌≡◌, ◌<◌, ◌≤◌, length};
 ghost use Rattle.tcl_values.specs.Shape.{elements, items_text, pairs_text, AreKept, ArePaired, ArePairsRead};
 
 use crate::element::{Element, Entry, Items, Pairs};
+use crate::key::Sought;
 use crate::pairs::paired;
 use crate::value::{Held, Value};
 use std::alloc::{AllocError, Global};
@@ -81,7 +82,7 @@ fn prefer_under(pairs: &mut Rc<Pairs>, key: &str, alloc: Global) -> Result<(), A
     ensures depth { pairs.new.value.depth ≡ pairs.old.value.depth }
     ensures kept { ArePaired pairs.new.value }
 {
-    let Some(place) = pairs.keys.get_index_of(key) else {
+    let Some(place) = pairs.keys.get_index_of(Sought { text: key }) else {
         return Ok(());
     };
     match Rc::get_mut(pairs) {

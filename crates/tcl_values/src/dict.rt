@@ -1,22 +1,22 @@
 //! Values read as dictionaries, and changed as dictionaries.
 
-ghost use Rattle.std.specs.Prelude.{◌≡◌, [], None, true, map, IfOk, OnOk, OnErr};
+ghost use Rattle.std.specs.Prelude.{◌≡◌, [], None, true, IfOk, OnOk, OnErr};
 ghost use Rattle.std.specs.Str.{chars};
 ghost use Rattle.tcl_chars.specs.Answers.{Answers};
-ghost use Rattle.tcl_chars.specs.Texts.{text_of};
 ghost use Rattle.tcl_pages.specs.Dictionaries.{pairs_of, put_keys};
 ghost use Rattle.tcl_pages.specs.DictPages.{dictionary};
-ghost use Rattle.tcl_values.specs.Dictionaries.{pair_text, size_of, value_of, with_key, less_key};
+ghost use Rattle.tcl_values.specs.Dictionaries.{size_of, value_of, with_key, less_key};
 ghost use Rattle.tcl_values.specs.Lists.{Leaves};
 ghost use Rattle.tcl_values.specs.Shape.{held_text, is_dict, pairs_held, pairs_in, pairs_text, ArePaired, IsHeld};
 
 use crate::dictionary::Dictionary;
 use crate::element::Pairs;
+use crate::key::Key;
 use crate::list::read_held;
 use crate::pairs::{count_pairs, find_pair, no_pairs, paired, put_own, put_pair, remove_pair};
 use crate::value::{Held, Value};
 use std::alloc::{AllocError, Global};
-use std::rc::{Rc, RcStr};
+use std::rc::Rc;
 use tcl_chars::Fault;
 
 /// The dictionary that the text of what is kept is read as, and was read as by whoever shares the text: that one reads it who is the
@@ -54,8 +54,8 @@ pub(crate) fn read_dict(held: &mut Held, alloc: Global) -> Result<(), Fault>
 }
 
 /// Values at their keys: of a key that comes again, the last value, in its first place.
-fn put_values(alloc: Global, pairs: Vec<(RcStr, Value)>) -> Result<Pairs, AllocError>
-    ensures pairs { IfOk result (λ p. pairs_in p ≡ put_keys [] (map pair_text pairs.items)) }
+fn put_values(alloc: Global, pairs: Vec<(Key, Value)>) -> Result<Pairs, AllocError>
+    ensures pairs { IfOk result (λ p. pairs_in p ≡ put_keys [] pairs.items) }
     ensures text { IfOk result (λ p. p.text ≡ None) }
     ensures kept { IfOk result (λ p. ArePaired p) }
 {
@@ -70,8 +70,8 @@ fn put_values(alloc: Global, pairs: Vec<(RcStr, Value)>) -> Result<Pairs, AllocE
 impl Value {
     /// The value that is a dictionary of these values at their keys: dict(n), `dict create`. Of a key that comes again, the last
     /// value stands, in the key's first place.
-    pub fn of_dict(alloc: Global, pairs: Vec<(RcStr, Value)>) -> Result<Value, AllocError>
-        ensures { IfOk result (λ v. v ≡ dictionary (put_keys [] (map pair_text pairs.items))) }
+    pub fn of_dict(alloc: Global, pairs: Vec<(Key, Value)>) -> Result<Value, AllocError>
+        ensures { IfOk result (λ v. v ≡ dictionary (put_keys [] pairs.items)) }
     {
         let pairs = put_values(alloc, pairs)?;
         Ok(Value {
@@ -120,8 +120,8 @@ impl Value {
     /// # Errors
     ///
     /// `Fault::Error` with the dictionary's fault, `Fault::Memory`; the value is then as it was.
-    pub fn dict_put(&mut self, alloc: Global, key: RcStr, value: Value) -> Result<(), Fault>
-        ensures done { Leaves self.new (with_key self.old (text_of key) value) result }
+    pub fn dict_put(&mut self, alloc: Global, key: Key, value: Value) -> Result<(), Fault>
+        ensures done { Leaves self.new (with_key self.old key value) result }
         ensures same { OnErr result (self.new ≡ self.old) }
     {
         let element = value.into_element(alloc)?;

@@ -2,18 +2,18 @@
 
 ghost use Rattle.std.specs.Prelude.{◌≡◌, [], length, map, option_map, IfOk, IfSome};
 ghost use Rattle.std.specs.Str.{chars};
-ghost use Rattle.tcl_chars.specs.Texts.{text_of};
 ghost use Rattle.tcl_pages.specs.Dictionaries.{keys_of, put_key, values_of};
 ghost use Rattle.tcl_pages.specs.DictPages.{dictionary, value_at, without_key};
 ghost use Rattle.tcl_values.specs.Kept.{texts};
 
 use crate::element::{Element, Pairs};
+use crate::key::Key;
 use crate::pairs::{count_pairs, find_pair, forget_pairs_text, no_pairs, put_pair, remove_pair};
 use crate::readings::is_text;
 use crate::value::{Held, Value};
 use std::alloc::{AllocError, Global};
 use std::marker::Model;
-use std::rc::{Rc, RcStr};
+use std::rc::Rc;
 
 /// The pairs of a value, as they were when they were read.
 #[derive(Drop)]
@@ -58,8 +58,8 @@ impl Dictionary {
 
     /// The dictionary with a value at a key: dict(n), `dict replace`. A key that is there keeps its place, another one comes last. Where
     /// nobody else holds the dictionary, nothing is copied.
-    pub fn with(self, alloc: Global, key: RcStr, value: Value) -> Result<Dictionary, AllocError>
-        ensures { IfOk result (λ d. d ≡ put_key self (text_of key) value) }
+    pub fn with(self, alloc: Global, key: Key, value: Value) -> Result<Dictionary, AllocError>
+        ensures { IfOk result (λ d. d ≡ put_key self key value) }
     {
         let element = value.into_element(alloc)?;
         let mut pairs = self.pairs;
@@ -84,8 +84,8 @@ impl Dictionary {
     }
 
     /// The keys, in their order.
-    pub fn keys(&self) -> &[RcStr]
-        ensures { map text_of result.now ≡ keys_of self.now }
+    pub fn keys(&self) -> &[Key]
+        ensures { result.now ≡ keys_of self.now }
     {
         self.pairs.keys.as_slice()
     }

@@ -5,9 +5,11 @@ ghost use Rattle.std.specs.Fmt.{signed_decimal};
 ghost use Rattle.std.specs.Str.{chars};
 ghost use Rattle.std.specs.String.{string_bytes};
 ghost use Rattle.tcl_list.specs.Texts.{text_of};
+ghost use Rattle.tcl_values.specs.Short.{short_text, IsShort};
 
 use crate::element_text::ElementText;
 use crate::items::{row_shown, row_text};
+use crate::key::Key;
 use crate::literal::with_room;
 use crate::marks::Marks;
 use crate::pairs::{dict_text, pairs_shown};
@@ -63,7 +65,7 @@ pub(crate) struct Pairs {
     pub(crate) text: Option<RcStr>,
     /// How deep it is: more than each of its values.
     pub(crate) depth: u8,
-    pub(crate) keys: IndexSet<RcStr>,
+    pub(crate) keys: IndexSet<Key>,
     /// The keys' values, in the places of the keys.
     pub(crate) values: Vec<Element>,
     /// May there be a list among the values? A hint that no contract needs.
@@ -109,14 +111,23 @@ impl Element {
         }
     }
 
+    /// The element that is a short text.
+    pub(crate) fn of_short(short: Short) -> Element
+        requires { IsShort short }
+        ensures text { result.text ≡ short_text short }
+        ensures depth { result.depth ≡ 0 }
+    {
+        Element {
+            entry: Entry::Short(short),
+        }
+    }
+
     /// The empty element.
     pub(crate) fn empty() -> Element
         ensures text { result.text ≡ [] }
         ensures depth { result.depth ≡ 0 }
     {
-        Element {
-            entry: Entry::Short(Short::new()),
-        }
+        Element::of_short(Short::new())
     }
 
     /// Is it kept as a list?

@@ -10,10 +10,10 @@ ghost use Rattle.tcl_values.specs.Shape.{elements, items_text, shared_text, AreK
 
 use crate::element::{Element, Items};
 use crate::element_text::ElementText;
+use crate::nested::push_items;
 use std::alloc::{AllocError, Global};
 use std::mem::replace;
 use std::rc::{Rc, RcStr};
-use tcl_list::append_element;
 
 /// The elements of a list, written as a list.
 #[cycle(writing)]
@@ -21,12 +21,7 @@ fn write_text(alloc: Global, row: &Items) -> Result<String, AllocError>
     ensures { IfOk result (λ t. chars (string_bytes t) ≡ written (texts (elements row.now))) }
 {
     let mut text = String::new(alloc);
-    let mut first = true;
-    for item in &row.items {
-        let shown = item.text(alloc)?;
-        append_element(&mut text, shown.as_str(), first)?;
-        first = false;
-    }
+    push_items(&mut text, alloc, row)?;
     Ok(text)
 }
 

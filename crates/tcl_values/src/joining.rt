@@ -37,18 +37,22 @@ fn short_joined(values: &[Value]) -> Option<Short>
     Some(whole)
 }
 
-/// The texts as one.
-fn all_joined(alloc: Global, values: &[Value]) -> Result<String, AllocError>
-    ensures { IfOk result (λ s. chars (string_bytes s) ≡ concat values.now) }
-{
-    let mut whole = String::new(alloc);
-    for value in values {
-        value.write_to(alloc, &mut whole)?;
-    }
-    Ok(whole)
-}
-
 impl Value {
+    /// The texts of values as one text of its own.
+    ///
+    /// # Errors
+    ///
+    /// `AllocError` where a growth was refused.
+    pub fn joined_text(alloc: Global, values: &[Value]) -> Result<String, AllocError>
+        ensures { IfOk result (λ s. chars (string_bytes s) ≡ concat values.now) }
+    {
+        let mut whole = String::new(alloc);
+        for value in values {
+            value.write_to(alloc, &mut whole)?;
+        }
+        Ok(whole)
+    }
+
     /// The texts of values as one.
     pub fn joined(alloc: Global, values: &[Value]) -> Result<Value, AllocError>
         ensures { IfOk result (λ v. v ≡ concat values.now) }
@@ -57,7 +61,7 @@ impl Value {
             Some(short) => Ok(Value {
                 held: Held::Short(short),
             }),
-            None => Value::of_string(alloc, all_joined(alloc, values)?),
+            None => Value::of_string(alloc, Value::joined_text(alloc, values)?),
         }
     }
 }

@@ -13,6 +13,7 @@
 //! - [`Places`]: the characters of a text, found by their places.
 //! - [`Change`]: what `dict_change` makes of the value under a key. A list or a text that has grown there once grows in place from then on.
 //! - [`Dictionary`]: the pairs of a value, to be looked at and to be changed into another dictionary; a share as a row is.
+//! - [`Key`]: a key of a dictionary, made of a text by `of` or of a value by `Value::key`. A short one is kept in place.
 //! - [`Row`]: the elements of a value, to be looked at as a slice of [`Element`]s. It is a share of the value's list: drop it
 //!   before the value is changed, or the change copies the list.
 //! - [`Element`]: an element of a list. Its text is always there.
@@ -33,11 +34,13 @@ mod element_text;
 mod gathering;
 mod items;
 mod joining;
+mod key;
 mod list;
 mod literal;
 mod making;
 mod marks;
 mod named;
+mod nested;
 mod numerals;
 mod pairs;
 mod places;
@@ -56,6 +59,7 @@ pub use dictionary::Dictionary;
 pub use element::Element;
 pub use element_text::ElementText;
 pub use gathering::Gathering;
+pub use key::Key;
 pub use places::Places;
 pub use row::Row;
 pub use value::Value;

@@ -27,9 +27,7 @@ pub(crate) fn plain_elements(alloc: Global, words: Vec<RcStr>) -> Result<Vec<Ele
 {
     let mut elements = Vec::with_capacity(alloc, words.len())?;
     for text in words {
-        elements.push(Element {
-            entry: Entry::Text(text),
-        })?;
+        elements.push(Element::of_text(text))?;
     }
     Ok(elements)
 }
@@ -161,9 +159,7 @@ impl Value {
             Held::Number(n) => Ok(Element::of_number(n)),
             Held::Row(row) => row_element(row, alloc),
             Held::Dict(pairs) => dict_element(pairs, alloc),
-            Held::Short(short) => Ok(Element {
-                entry: Entry::Short(short),
-            }),
+            Held::Short(short) => Ok(Element::of_short(short)),
             Held::Text(text) => Ok(Element::of_text(text)),
             Held::Ascii(text) => Ok(Element::of_text(text)),
             held => Ok(Element::of_text(held.text(alloc)?)),
@@ -177,11 +173,9 @@ impl Value {
     {
         match &self.held {
             Held::Number(n) => Ok(Element::of_number(*n)),
+            Held::Short(short) => Ok(Element::of_short(*short)),
             Held::Row(row) => row_element(row.clone()?, alloc),
             Held::Dict(pairs) => dict_element(pairs.clone()?, alloc),
-            Held::Short(short) => Ok(Element {
-                entry: Entry::Short(*short),
-            }),
             Held::Text(text) => Ok(Element::of_text(text.clone()?)),
             Held::Ascii(text) => Ok(Element::of_text(text.clone()?)),
             held => Ok(Element::of_text(held.text(alloc)?)),

@@ -1,6 +1,6 @@
 //! A value under a path of keys of a dictionary, changed, put or taken out in place.
 
-ghost use Rattle.std.specs.Prelude.{◌≡◌, ◌<◌, ◌≤◌, ◌+◌, [], None, length, map, max, reverse, IfOk, OnOk, OnErr};
+ghost use Rattle.std.specs.Prelude.{◌≡◌, ◌<◌, ◌≤◌, ◌+◌, [], None, length, max, reverse, IfOk, OnOk, OnErr};
 ghost use Rattle.std.specs.Str.{chars};
 ghost use Rattle.tcl_chars.specs.Answers.{Answers};
 ghost use Rattle.tcl_chars.specs.Texts.{text_of};
@@ -15,6 +15,7 @@ ghost use Rattle.tcl_values.specs.Shape.{pairs_in, pairs_text, ArePaired};
 use crate::change::Change;
 use crate::dict::read_dict;
 use crate::element::{Element, Entry, Pairs};
+use crate::key::{Key, Sought};
 use crate::pairs::{add_pair, paired, remove_pair};
 use crate::value::{Held, Value};
 use std::alloc::{AllocError, Global};
@@ -28,10 +29,10 @@ pub(crate) enum Making {
     Changed(Change),
     /// A dictionary with a value under the last of some keys, each of which is one of the dictionary under the key before: dict(n), `dict set`.
     /// They stand in the reverse order.
-    Under(Vec<RcStr>, Element),
+    Under(Vec<Key>, Element),
     /// A dictionary without the last of some keys, each of which but the last is one of the dictionary under the key before: dict(n), `dict unset`.
     /// They stand in the reverse order.
-    Without(Vec<RcStr>),
+    Without(Vec<Key>),
 }
 
 /// The error of a key that isn't there.
@@ -61,10 +62,10 @@ impl Element {
 
     /// Changes the value under a key of the dictionary that its text is read as, in place where it is kept as one that nobody else holds.
     #[cycle(making)]
-    fn change_key(&mut self, alloc: Global, key: RcStr, making: Making) -> Result<(), Fault>
+    fn change_key(&mut self, alloc: Global, key: Key, making: Making) -> Result<(), Fault>
         requires limit { self.old.depth < 64 }
         requires room { room making < 63 }
-        ensures done { Leaves self.new.text (after_key (made_under making (text_of key)) self.old.text (text_of key)) result }
+        ensures done { Leaves self.new.text (after_key (made_under making key) self.old.text key) result }
         ensures same { OnErr result (self.new ≡ self.old) }
         ensures depth { self.new.depth ≤ max self.old.depth (room making + 1) }
     {
@@ -81,10 +82,10 @@ impl Element {
 
     /// Puts a value under the last of some keys, which stand in the reverse order. Levels that are missing are made.
     #[cycle(making)]
-    fn put_under(&mut self, alloc: Global, keys: Vec<RcStr>, value: Element) -> Result<(), Fault>
+    fn put_under(&mut self, alloc: Global, keys: Vec<Key>, value: Element) -> Result<(), Fault>
         requires limit { self.old.depth < 64 }
         requires room { value.depth + length keys.items < 64 }
-        ensures done { Leaves self.new.text (dict_set self.old.text value.text (map text_of (reverse keys.items))) result }
+        ensures done { Leaves self.new.text (dict_set self.old.text value.text (reverse keys.items)) result }
         ensures same { OnErr result (self.new ≡ self.old) }
         ensures depth { self.new.depth ≤ max self.old.depth (value.depth + length keys.items) }
     {
@@ -119,10 +120,10 @@ impl Element {
 
     /// Takes the last of some keys out, which stand in the reverse order. Of those before each must be there.
     #[cycle(making)]
-    fn take_under(&mut self, alloc: Global, keys: Vec<RcStr>) -> Result<(), Fault>
+    fn take_under(&mut self, alloc: Global, keys: Vec<Key>) -> Result<(), Fault>
         requires limit { self.old.depth < 64 }
         requires room { length keys.items < 64 }
-        ensures done { Leaves self.new.text (dict_unset self.old.text (map text_of (reverse keys.items))) result }
+        ensures done { Leaves self.new.text (dict_unset self.old.text (reverse keys.items)) result }
         ensures same { OnErr result (self.new ≡ self.old) }
         ensures depth { self.new.depth ≤ max self.old.depth (length keys.items) }
     {
@@ -179,9 +180,9 @@ fn made_empty(alloc: Global, making: Making) -> Result<Element, Fault>
 
 /// What is made where a key isn't there.
 #[cycle(making)]
-fn begun(alloc: Global, key: &RcStr, making: Making) -> Result<Element, Fault>
+fn begun(alloc: Global, key: &Key, making: Making) -> Result<Element, Fault>
     requires { room making < 64 }
-    ensures text { Answers (λ e. e.text) result (made_new making (text_of key.now)) }
+    ensures text { Answers (λ e. e.text) result (made_new making key.now) }
     ensures depth { IfOk result (λ e. e.depth ≤ room making) }
 {
     match making {
@@ -218,17 +219,17 @@ fn change_at(own: &mut Pairs, place: usize, alloc: Global, making: Making) -> Re
 
 /// Changes the value under a key.
 #[cycle(making)]
-fn change_own(own: &mut Pairs, key: RcStr, alloc: Global, making: Making) -> Result<(), Fault>
+fn change_own(own: &mut Pairs, key: Key, alloc: Global, making: Making) -> Result<(), Fault>
     requires kept { ArePaired own.old }
     requires room { room making < 64 }
-    ensures done { Answers (λ _. pairs_in own.new) result (after_in (made_under making (text_of key)) (pairs_in own.old) (text_of key)) }
+    ensures done { Answers (λ _. pairs_in own.new) result (after_in (made_under making key) (pairs_in own.old) key) }
     ensures text { OnOk result (own.new.text ≡ None) }
     ensures same { OnErr result (pairs_text own.new ≡ pairs_text own.old) }
     ensures depth { own.new.depth ≤ max own.old.depth (room making + 1) }
     ensures same_depth { OnErr result (own.new.depth ≡ own.old.depth) }
     ensures kept { ArePaired own.new }
 {
-    match own.keys.get_index_of(&key) {
+    match own.keys.get_index_of(Sought { text: key.as_str() }) {
         Some(place) => change_at(own, place, alloc, making),
         None => {
             let value = begun(alloc, &key, making)?;
@@ -240,15 +241,10 @@ fn change_own(own: &mut Pairs, key: RcStr, alloc: Global, making: Making) -> Res
 
 /// Changes the value under a key of a dictionary, in place where nobody else holds the dictionary.
 #[cycle(making)]
-fn change_pair(
-    pairs: &mut Rc<Pairs>,
-    key: RcStr,
-    alloc: Global,
-    making: Making,
-) -> Result<(), Fault>
+fn change_pair(pairs: &mut Rc<Pairs>, key: Key, alloc: Global, making: Making) -> Result<(), Fault>
     requires kept { ArePaired pairs.old.value }
     requires room { room making < 64 }
-    ensures done { Answers (λ _. pairs_in pairs.new.value) result (after_in (made_under making (text_of key)) (pairs_in pairs.old.value) (text_of key)) }
+    ensures done { Answers (λ _. pairs_in pairs.new.value) result (after_in (made_under making key) (pairs_in pairs.old.value) key) }
     ensures text { OnOk result (pairs_text pairs.new.value ≡ dictionary (pairs_in pairs.new.value)) }
     ensures same { OnErr result (pairs_text pairs.new.value ≡ pairs_text pairs.old.value) }
     ensures depth { pairs.new.value.depth ≤ max pairs.old.value.depth (room making + 1) }
@@ -262,9 +258,9 @@ fn change_pair(
 impl Value {
     /// Changes the value under a key of the dictionary that the text is read as. Where the key isn't there, its value begins as the empty text,
     /// and the key comes last.
-    fn change_key(&mut self, alloc: Global, key: RcStr, making: Making) -> Result<(), Fault>
+    fn change_key(&mut self, alloc: Global, key: Key, making: Making) -> Result<(), Fault>
         requires { room making < 64 }
-        ensures done { Leaves self.new (after_key (made_under making (text_of key)) self.old (text_of key)) result }
+        ensures done { Leaves self.new (after_key (made_under making key) self.old key) result }
         ensures same { OnErr result (self.new ≡ self.old) }
     {
         read_dict(&mut self.held, alloc)?;
@@ -281,8 +277,8 @@ impl Value {
     /// # Errors
     ///
     /// `Fault::Error` with the dictionary's fault or that of the list under the key, `Fault::Memory`; the value is then as it was.
-    pub fn dict_change(&mut self, alloc: Global, key: RcStr, change: Change) -> Result<(), Fault>
-        ensures done { Leaves self.new (after_under change self.old (text_of key)) result }
+    pub fn dict_change(&mut self, alloc: Global, key: Key, change: Change) -> Result<(), Fault>
+        ensures done { Leaves self.new (after_under change self.old key) result }
         ensures same { OnErr result (self.new ≡ self.old) }
     {
         self.change_key(alloc, key, Making::Changed(change))
@@ -298,11 +294,11 @@ impl Value {
     pub fn dict_put_under(
         &mut self,
         alloc: Global,
-        keys: Vec<RcStr>,
+        keys: Vec<Key>,
         value: Value,
     ) -> Result<(), Fault>
         requires { length keys.items ≤ 64 }
-        ensures done { Leaves self.new (dict_set self.old value (map text_of keys.items)) result }
+        ensures done { Leaves self.new (dict_set self.old value keys.items) result }
         ensures same { OnErr result (self.new ≡ self.old) }
     {
         let mut keys = keys;
@@ -322,9 +318,9 @@ impl Value {
     ///
     /// `Fault::Error` with the fault of a dictionary on the way, or the first key in front of the last that isn't there, `Fault::Memory`; the value is
     /// then as it was.
-    pub fn dict_remove_under(&mut self, alloc: Global, keys: Vec<RcStr>) -> Result<(), Fault>
+    pub fn dict_remove_under(&mut self, alloc: Global, keys: Vec<Key>) -> Result<(), Fault>
         requires { length keys.items ≤ 64 }
-        ensures done { Leaves self.new (dict_unset self.old (map text_of keys.items)) result }
+        ensures done { Leaves self.new (dict_unset self.old keys.items) result }
         ensures same { OnErr result (self.new ≡ self.old) }
     {
         let mut keys = keys;

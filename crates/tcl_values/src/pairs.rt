@@ -2,7 +2,6 @@
 
 ghost use Rattle.std.specs.Prelude.{◌≡◌, ◌<◌, ◌≤◌, ◌+◌, ◌∷◌, [], ◌++◌, None, Some, false, length, max, option_map, remove, slice_set, IfOk, OnOk, OnErr};
 ghost use Rattle.std.specs.List.{list_any};
-ghost use Rattle.std.specs.Rc.{rc_str_bytes};
 ghost use Rattle.std.specs.Str.{bytes_eq, chars};
 ghost use Rattle.std.specs.String.{string_bytes};
 ghost use Rattle.tcl_chars.specs.Answers.{Answers};
@@ -16,11 +15,12 @@ ghost use Rattle.tcl_values.specs.Shape.{elements, items_text, pairs_in, pairs_t
 use crate::element::{Element, Entry, Items, Pairs};
 use crate::element_text::ElementText;
 use crate::items::{copy_elements, copy_text, row_text};
+use crate::key::{Key, Sought};
+use crate::nested::push_pairs;
 use indexmap::IndexSet;
 use std::alloc::{AllocError, Global};
 use std::rc::{Rc, RcStr};
 use tcl_chars::Fault;
-use tcl_list::append_element;
 
 impl Clone for Pairs {
     ghost use Rattle.tcl_values.specs.Shape.{AreSamePairs};
@@ -45,14 +45,8 @@ fn write_pairs(alloc: Global, pairs: &Pairs) -> Result<String, AllocError>
     requires { length pairs.now.keys.keys ≡ length pairs.now.values.items }
     ensures { IfOk result (λ t. chars (string_bytes t) ≡ dictionary (pairs_in pairs.now)) }
 {
-    let keys = pairs.keys.as_slice();
-    let values = pairs.values.as_slice();
     let mut text = String::new(alloc);
-    for place in 0..keys.len() {
-        append_element(&mut text, keys[place].as_str(), place == 0)?;
-        let shown = values[place].text(alloc)?;
-        append_element(&mut text, shown.as_str(), false)?;
-    }
+    push_pairs(&mut text, alloc, pairs)?;
     Ok(text)
 }
 
@@ -126,7 +120,7 @@ pub(crate) fn find_pair<'a>(pairs: &'a Pairs, key: &str) -> Option<&'a Element>
     requires { length pairs.now.keys.keys ≡ length pairs.now.values.items }
     ensures { option_map (λ e. e.now.text) result ≡ value_at (chars key.now) (pairs_in pairs.now) }
 {
-    match pairs.keys.get_index_of(key) {
+    match pairs.keys.get_index_of(Sought { text: key }) {
         Some(place) => Some(&pairs.values[place]),
         None => None,
     }
@@ -166,8 +160,8 @@ fn set_value(own: &mut Pairs, place: usize, value: Element)
 }
 
 /// Adds a key that isn't there, with its value.
-pub(crate) fn add_pair(own: &mut Pairs, key: RcStr, value: Element) -> Result<(), AllocError>
-    requires absent { list_any (λ k. bytes_eq (rc_str_bytes key) (rc_str_bytes k)) own.old.keys.keys ≡ false }
+pub(crate) fn add_pair(own: &mut Pairs, key: Key, value: Element) -> Result<(), AllocError>
+    requires absent { list_any (bytes_eq key) own.old.keys.keys ≡ false }
     requires value { value.depth < 64 }
     requires deeper { depth_over own.old.values.items ≤ own.old.depth }
     ensures keys { OnOk result (own.new.keys.keys ≡ own.old.keys.keys ++ key ∷ []) }
@@ -194,16 +188,16 @@ pub(crate) fn add_pair(own: &mut Pairs, key: RcStr, value: Element) -> Result<()
 }
 
 /// Puts a value at a key.
-pub(crate) fn put_own(own: &mut Pairs, key: RcStr, value: Element) -> Result<(), AllocError>
+pub(crate) fn put_own(own: &mut Pairs, key: Key, value: Element) -> Result<(), AllocError>
     requires value { value.depth < 64 }
     requires kept { ArePaired own.old }
-    ensures put { OnOk result (pairs_in own.new ≡ put_key (pairs_in own.old) (text_of key) value.text) }
+    ensures put { OnOk result (pairs_in own.new ≡ put_key (pairs_in own.old) key value.text) }
     ensures text { OnOk result (own.new.text ≡ None) }
     ensures same { OnErr result (pairs_text own.new ≡ pairs_text own.old) }
     ensures depth { OnOk result (own.new.depth ≡ max own.old.depth (value.depth + 1)) }
     ensures kept { ArePaired own.new }
 {
-    match own.keys.get_index_of(&key) {
+    match own.keys.get_index_of(Sought { text: key.as_str() }) {
         Some(place) => {
             set_value(own, place, value);
             Ok(())
@@ -216,10 +210,10 @@ pub(crate) fn put_own(own: &mut Pairs, key: RcStr, value: Element) -> Result<(),
 }
 
 /// Puts a value at a key of a dictionary, in place where nobody else holds the dictionary.
-pub(crate) fn put_pair(pairs: &mut Rc<Pairs>, key: RcStr, value: Element) -> Result<(), AllocError>
+pub(crate) fn put_pair(pairs: &mut Rc<Pairs>, key: Key, value: Element) -> Result<(), AllocError>
     requires value { value.depth < 64 }
     requires kept { ArePaired pairs.old.value }
-    ensures put { OnOk result (pairs_in pairs.new.value ≡ put_key (pairs_in pairs.old.value) (text_of key) value.text) }
+    ensures put { OnOk result (pairs_in pairs.new.value ≡ put_key (pairs_in pairs.old.value) key value.text) }
     ensures text { OnOk result (pairs_text pairs.new.value ≡ dictionary (pairs_in pairs.new.value)) }
     ensures same { OnErr result (pairs_text pairs.new.value ≡ pairs_text pairs.old.value) }
     ensures kept { ArePaired pairs.new.value }
@@ -249,7 +243,7 @@ fn build_pairs(alloc: Global, elements: &[Element]) -> Result<Pairs, Fault>
         let Some((value, after)) = behind.split_first() else {
             return Err(Fault::Error(missing_value(alloc)?));
         };
-        put_own(&mut pairs, key.shared_text(alloc)?, value.duplicate()?)?;
+        put_own(&mut pairs, key.key(alloc)?, value.duplicate()?)?;
         rest = after;
     }
     Ok(pairs)
@@ -309,7 +303,7 @@ fn remove_own(own: &mut Pairs, key: &str)
     ensures kept { ArePaired own.new }
 {
     own.text = None;
-    match own.keys.get_index_of(key) {
+    match own.keys.get_index_of(Sought { text: key }) {
         Some(place) => remove_at(own, place),
         None => {}
     }

@@ -11,6 +11,7 @@ ghost use Rattle.tcl_values.specs.Shape.{pairs_in, pairs_text, ArePaired};
 use crate::dict::read_dict;
 use crate::element::{Element, Pairs};
 use crate::items::put;
+use crate::key::Sought;
 use crate::pairs::find_pair;
 use crate::value::{Held, Value};
 use std::alloc::{AllocError, Global};
@@ -39,7 +40,7 @@ fn take_own(own: &mut Pairs, key: &str) -> Result<Option<Element>, AllocError>
     ensures same { pairs_text own.new ≡ pairs_text own.old }
     ensures kept { ArePaired own.new }
 {
-    match own.keys.get_index_of(key) {
+    match own.keys.get_index_of(Sought { text: key }) {
         Some(place) => Ok(Some(detach_value(own, place)?)),
         None => Ok(None),
     }

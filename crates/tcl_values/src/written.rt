@@ -36,9 +36,7 @@ fn word_element(text: RcStr) -> Element
 {
     match decimal_number(text.as_str()) {
         Some(n) => Element::of_number(n),
-        None => Element {
-            entry: Entry::Text(text),
-        },
+        None => Element::of_text(text),
     }
 }
 

@@ -1,4 +1,4 @@
-use Rattle.std.proofs.Common.{◌≡◌, map, option_map, take}
+use Rattle.std.proofs.Common.{◌≡◌, option_map, take}
 use Rattle.std.specs.List.{filter}
 use Rattle.tcl_chars.specs.Texts.{text_of}
 use Rattle.tcl_pages.specs.DictPages.{passes}

@@ -1,4 +1,4 @@
-use Rattle.std.proofs.Common.{arith, refl}
+use Rattle.std.proofs.Common.{arith}
 use Rattle.std.proofs.lemmas.Grind.{common_steps}
 use Rattle.tcl_values.proofs.Depths.{depth_plain}
 use Rattle.tcl_values.proofs.list.plain_elements.Goals as goal
@@ -7,5 +7,5 @@ pub loop-text-preserved : goal.loop-text-preserved
 loop-text-preserved c =
     record {
       same = grind (arith, common_steps);
-      depth = depth_plain c.loop-text.elements.items c.push.new.self.items _ c.loop-text.invariant.depth c.in_ok-push.ensures.items refl;
+      depth = depth_plain c.loop-text.elements.items c.push.new.self.items _ c.loop-text.invariant.depth c.in_ok-push.ensures.items c.of_text.ensures.depth;
     }

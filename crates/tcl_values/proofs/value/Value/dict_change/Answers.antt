@@ -1,5 +1,4 @@
 use Rattle.std.proofs.Common.{sym, subst, refl}
-use Rattle.tcl_chars.specs.Texts.{text_of}
 use Rattle.tcl_values.specs.Changes.{after, made_under}
 use Rattle.tcl_values.specs.Lists.{Leaves}
 use Rattle.tcl_values.specs.declared.making.Making.TheVariants as making
@@ -9,5 +8,5 @@ use Rattle.tcl_values.proofs.value.Value.dict_change.Goals as goal
 pub returns-clause-done : goal.returns-clause-done
 returns-clause-done c =
     let m = making.Changed c.args.change in
-    let key = text_of c.args.key in
+    let key = c.args.key in
     subst (λ r. Leaves c.change_key.new.self r c.change_key.result) (sym (key_alike (after c.args.change) (made_under m key) c.args.self.now key (made_or m key refl))) c.change_key.ensures.done

@@ -1,0 +1,42 @@
+//! Lists whose texts nobody has written, compared by their elements.
+ghost use Rattle.std.specs.Prelude.{◌≡◌, IfOk};
+ghost use Rattle.tcl_chars.specs.Texts.{same_text};
+ghost use Rattle.tcl_list.specs.Written.{written};
+ghost use Rattle.tcl_values.specs.Kept.{texts};
+
+use std::alloc::{AllocError, Global};
+use tcl_chars::is_text;
+use tcl_values::Element;
+
+/// Are the texts of two elements the same? Those of one number are.
+fn is_same(alloc: Global, first: &Element, second: &Element) -> Result<bool, AllocError>
+    ensures { IfOk result (λ b. b ≡ same_text first.now.text second.now.text) }
+{
+    if let (Some(one), Some(other)) = (first.number(), second.number()) {
+        if one == other {
+            return Ok(true);
+        }
+    }
+    let one = first.text(alloc)?;
+    let other = second.text(alloc)?;
+    Ok(is_text(one.as_str(), other.as_str()))
+}
+
+/// Are two lists of elements the same, when they are written?
+pub(crate) fn are_same(
+    alloc: Global,
+    first: &[Element],
+    second: &[Element],
+) -> Result<bool, AllocError>
+    ensures { IfOk result (λ b. b ≡ same_text (written (texts first.now)) (written (texts second.now))) }
+{
+    if first.len() != second.len() {
+        return Ok(false);
+    }
+    for place in 0..first.len() {
+        if !is_same(alloc, &first[place], &second[place])? {
+            return Ok(false);
+        }
+    }
+    Ok(true)
+}
