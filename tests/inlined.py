@@ -9,22 +9,16 @@
 A command whose words are literal is inlined: its code stands in place, as long as its name stands for its page. The same
 command under a name that begins with :: is called. So each script is run as it is, and once more with :: before each of
 these names, and one of the two in slices: status, output and message must be the same, whatever the budget and the slice.
-
-Scripts come in batches. One shell starts the program for each run of a batch, since that is most of what a run takes. One tclsh
-runs each script of a batch in a new interpreter.
 """
 import itertools
-import os
 import random
 import re
 import sys
-import tempfile
-import time
-from concurrent.futures import ThreadPoolExecutor
 
 sys.dont_write_bytecode = True
 
-from program import TOP, Program, Wrong, check, write
+from batches import TOGETHER, Run, judge_all, number_behind, run_all, run_by_tclsh
+from program import Wrong, check
 
 NAMES = ("set", "incr", "expr", "if", "while", "for", "foreach", "break", "continue")
 OTHERS = [name for name in NAMES if name != "foreach"]  # words of a foreach that change its own name: PLACES_IN_WORDS
@@ -37,10 +31,6 @@ EMPTY_OPERAND, NO_NUMBER = b"can't use empty string as operand", b"can't use non
 NOTHING = (b"caught 3:", b"caught 4:")
 BUDGET = 400
 FAULTS = 0.02  # how often a number or a condition is none: the script mostly ends there
-TOGETHER = 200  # scripts of one batch
-SECONDS = 20  # of a processor, for one run
-PROCESSORS = len(os.sched_getaffinity(0))
-TOLD_EACH = 1000  # scripts
 
 
 class Script:
@@ -210,28 +200,6 @@ def called(text):
     return COMMAND.sub(r"::\1", text).replace("@", "")
 
 
-class Run:
-    """One run of a script. How it ended is a status, what was put out, and the message."""
-
-    def __init__(self, name, text, options):
-        self.name, self.text, self.options, self.end = name, text, options, None
-
-
-def run_all(tested, room, runs):
-    """Notes how each run ended. One shell starts them, and puts its status behind what each has put out."""
-    lines = [f"ulimit -t {SECONDS}\n"]
-    for at, run in enumerate(runs):
-        write(room, run.text, f"{at}.tcl")
-        lines.append(f"\"$1\" {' '.join(run.options)} {at}.tcl; printf '\\0%d\\0' $?; printf '\\0' >&2\n")
-    write(room, "".join(lines), "runs.sh")
-    got = tested.run([], room, by=["sh", "runs.sh"])
-    outs, errors = got.stdout.split(b"\0"), got.stderr.split(b"\0")
-    if (got.status, len(outs), len(errors)) != (0, 2 * len(runs) + 1, len(runs) + 1):
-        raise Wrong(f"the shell ended with status {got.status} after {len(errors) - 1} of {len(runs)} runs")
-    for run, out, status, error in zip(runs, outs[::2], outs[1::2], errors):
-        run.end = int(status), out, error
-
-
 def forms(name, text, short):
     """A script as it is and with calls, and one of the two in slices, each with the same budget, which may be a short one."""
     rand = random.Random(f"runs of {name}")
@@ -258,23 +226,6 @@ def compare(tested, room, scripts, short=True):
             yield f"{runs[0].name}, inlined, called, in slices:\n{runs[0].text}{told}"
 
 
-# Each script in an interpreter of its own, from which nothing reaches the next one. A break or continue that leaves a script is
-# the error there that it is where tclsh is given the script as its file.
-EACH_BY_TCLSH = f"""
-foreach file $argv {{
-    set one [interp create]
-    interp limit $one time -seconds [expr {{[clock seconds] + {SECONDS}}}]
-    set code [catch {{interp eval $one [list source $file]}} message]
-    interp delete $one
-    if {{$code in {{3 4}}}} {{
-        set message "invoked \\"[lindex {{break continue}} $code-3]\\" outside of a loop"
-        set code 1
-    }}
-    puts -nonewline "\\0$code\\0$message\\0"
-}}
-"""
-
-
 def as_ours(text):
     return FAULT_OF_TCLSH.sub(b"", text).replace(EMPTY_OPERAND, NO_NUMBER)
 
@@ -285,25 +236,13 @@ def without_what_came_before(theirs, ours):
     return b"\n".join(our if our in NOTHING and line.startswith(our) else line for line, our in lines)
 
 
-def run_by_tclsh(room, runs):
-    """How each run ends by tclsh: a status, what was put out, and the message."""
-    names = [write(room, run.text, f"{at}.tcl") for at, run in enumerate(runs)]
-    write(room, EACH_BY_TCLSH, "each.tcl")
-    got = Program("tclsh").run(["each.tcl", *names], room)
-    parts = got.stdout.split(b"\0")
-    if got.status != 0 or len(parts) != 3 * len(runs) + 1:
-        raise Wrong(f"tclsh ended with status {got.status} after {len(parts) // 3} of {len(runs)} scripts: {got.stderr}")
-    ends = zip(parts[::3], parts[1::3], parts[2::3])
-    return [(int(code), as_ours(out), as_ours(message) + b"\n" if code != b"0" else b"") for out, code, message in ends]
-
-
 def compare_with_tclsh(tested, room, scripts):
     """The same for scripts that tclsh runs otherwise. One that spends its budget may have no end, and isn't compared."""
     runs = [Run(name, inlined(text), ["-budget", str(BUDGET)]) for name, text in scripts]
     run_all(tested, room, runs)
     yield from (f"{run.name}:\n{run.text}\n    tclint: {run.end}" for run in runs if run.end[0] not in (0, 1, 2))
     runs = [run for run in runs if run.end[0] in (0, 1)]
-    for run, (status, out, message) in zip(runs, run_by_tclsh(room, runs)):
+    for run, (status, out, message) in zip(runs, run_by_tclsh(room, runs, as_ours)):
         if run.end != (status, without_what_came_before(out, run.end[1]), message):
             yield f"{run.name}:\n{run.text}\n    tclint: {run.end}\n    tclsh: {status, out, message}"
 
@@ -334,28 +273,15 @@ list_checks()
 
 
 def main(words):
-    value = lambda name, otherwise: int(words[words.index(name) + 1]) if name in words else otherwise
-    seed, by_tclsh = value("--seed", 0), "--tclsh" in words
-    judge = compare_with_tclsh if by_tclsh else compare
+    seed, by_tclsh = number_behind(words, "--seed", 0), "--tclsh" in words
     all_scripts = all_changed(PLACES if by_tclsh else PLACES + PLACES_IN_WORDS) if "--names" in words else None
-    count = len(all_scripts) if all_scripts else value("--count", 2 * TOGETHER)
-    tested = Program(os.environ.get("TCLINT") or f"{TOP}/crates/tclint/out/tclint")
-    begun, done, failed = time.monotonic(), 0, 0
+    count = len(all_scripts) if all_scripts else number_behind(words, "--count", 2 * TOGETHER)
 
-    def batch(first):
-        end = min(first + TOGETHER, count)
-        scripts = all_scripts[first:end] if all_scripts else random_scripts(seed + first, end - first)
-        with tempfile.TemporaryDirectory(prefix="tclint-inlined-") as room:
-            return end - first, list(judge(tested, room, scripts))
+    def scripts_from(first, size):
+        return all_scripts[first : first + size] if all_scripts else random_scripts(seed + first, size)
 
-    with ThreadPoolExecutor(PROCESSORS) as pool:
-        for size, wrong in pool.map(batch, range(0, count, TOGETHER)):
-            done, failed = done + size, failed + len(wrong)
-            for text in wrong:
-                print(f"FAIL {text}", flush=True)
-            if done % TOLD_EACH == 0:
-                print(f"{done} of {count} scripts, {failed} failed, {time.monotonic() - begun:.0f} s", flush=True)
-    print(f"{count - failed} passed, {failed} failed")
+    passed, failed = judge_all(count, scripts_from, compare_with_tclsh if by_tclsh else compare)
+    print(f"{passed} passed, {failed} failed")
     return 1 if failed else 0
 
 
