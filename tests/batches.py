@@ -81,7 +81,10 @@ def judge_all(count, scripts_from, judge):
     def batch(first):
         size = min(TOGETHER, count - first)
         with tempfile.TemporaryDirectory(prefix="tclint-batch-") as room:
-            return size, list(judge(tested, room, scripts_from(first, size)))
+            try:
+                return size, list(judge(tested, room, scripts_from(first, size)))
+            except Wrong as wrong:  # tclsh ends by itself at a text of two gigabytes, say
+                return size, [f"the batch from {first} on: {wrong}"]
 
     with ThreadPoolExecutor(PROCESSORS) as pool:
         for size, wrong in pool.map(batch, range(0, count, TOGETHER)):
