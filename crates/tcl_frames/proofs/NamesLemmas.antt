@@ -1,16 +1,18 @@
 -- What the parts of a name are.
 use Rattle.std.proofs.Common.{◌≡◌, ℕ, ◌+◌, ◌-◌, ◌<◌, true, false, cond, ◌==◌, ◌&&◌, List, [], ◌∷◌, ◌++◌, length, take, drop, get_or, Some, None, Bor, refl, sym, ap, subst, ◌∙◌, arith, append_assoc}
 use Rattle.std.proofs.lemmas.Bool.{cond-true, cond-false, eqb-true}
+use Rattle.std.proofs.lemmas.Grind.{common_steps}
 use Rattle.std.proofs.lemmas.List.{take_at, drop_at, get_or_at, length-append}
 use Rattle.std.proofs.lemmas.Str.{chars-append, chars_past_char, chars_from_encodes, encodes-append, encodes-chars, encode_ascii, byte_from_char, IsUtf8-take, IsUtf8-drop, IsCharBoundary-before_ascii, IsCharBoundary-from_take}
 use Rattle.std.specs.Str.{chars, IsUtf8, IsCharBoundary, encode_utf8_all}
 use Rattle.std.specs.Char.{encode_utf8}
 use Rattle.tcl_chars.specs.Characters.{colon, open_paren, close_paren}
 use Rattle.tcl_chars.specs.Place.{begins, before, tail}
-use Rattle.tcl_meaning.specs.Frames.{whole}
+use Rattle.tcl_meaning.specs.Frames.{whole, element}
 use Rattle.tcl_names.specs.Keys.{IsPlain}
 use Rattle.tcl_frames.specs.Parts.{plain_name}
-use Rattle.tcl_meaning.specs.Names.{after_colons, from_paren, last_part, whole_name, element_name, by_paren, divided_name}
+use Rattle.tcl_meaning.specs.Substitution.{spelled_element}
+use Rattle.tcl_meaning.specs.Names.{Name, after_colons, from_paren, last_part, whole_name, element_name, by_paren, divided_name}
 
 no_nil : (c : ℕ) (cs : List ℕ) → c ∷ cs ≡ [] → ⊥
 no_nil c cs e = omega (arith, ap length e)
@@ -89,6 +91,16 @@ parted_name name inside base index e f h =
     let rest = open_paren ∷ (index ++ close_paren ∷ []) in
     let w : name ≡ base ++ rest = e ∙ ap (λ t. t ++ close_paren ∷ []) f ∙ append_assoc base (open_paren ∷ index) (close_paren ∷ []) in
     sym (ap (by_paren name) (ap from_paren w ∙ paren_behind base (index ++ close_paren ∷ []) h) ∙ by_index name index ∙ ap (λ t. element_name t index) (ap (λ n. before n rest) w ∙ before_rest base rest))
+
+spelled_is : (base index : List ℕ) → spelled_element base index ≡ (base ++ open_paren ∷ index) ++ close_paren ∷ []
+spelled_is base index = grind (arith, common_steps)
+
+-- the name of an element of a variable whose name has no `(`, where neither a colon leads that one nor `)` ends it
+pub element_plain : (base index : List ℕ) → from_paren base ≡ [] → divided_name base ≡ plain_name base → divided_name (spelled_element base index) ≡ record (plain_name base) { part = element index }
+unfolding divided_name
+element_plain base index none plain =
+    sym (parted_name (spelled_element base index) (base ++ open_paren ∷ index) base index (spelled_is base index) refl none)
+    ∙ ap (λ (n : Name). record n { part = element index }) (sym (ap (by_paren base) none) ∙ plain)
 
 -- ---- by bytes
 

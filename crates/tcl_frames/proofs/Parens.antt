@@ -70,6 +70,10 @@ no_paren_in (c ∷ cs) h =
 without_paren : (bs : List ℕ) → IsUtf8 bs → HasNone bs → from_paren (chars bs) ≡ []
 without_paren bs u h = no_paren_in (chars bs) (subst HasNone (sym (encodes-chars bs u)) h)
 
+-- a name that has none
+pub no_paren : (bs : List ℕ) → IsUtf8 bs → paren_in bs ≡ length bs → from_paren (chars bs) ≡ []
+no_paren bs u none = without_paren bs u (subst HasNone (take_all (paren_in bs) bs (omega (arith, none))) (none_before bs))
+
 -- ---- what a name is
 
 cut_at : (bs : List ℕ) (k : ℕ) → k < length bs → bs ≡ take k bs ++ get_or bs k 0 ∷ drop (suc k) bs

@@ -172,9 +172,9 @@ impl Frames {
     }
 }
 
-// Is a name a variable's as a whole, and written without its frame? Its key tells, or else its bytes.
+/// Is a name a variable's as a whole, and written without its frame? Its key tells, or else its bytes.
 #[inline(always)]
-fn is_whole(name: &Sought<'_>) -> bool
+pub(crate) fn is_whole(name: &Sought<'_>) -> bool
     ensures { result ≡ true → divided_name name.now ≡ plain_name name.now }
 {
     if name.is_keyed() {

@@ -7,6 +7,7 @@ mod counting;
 mod earlier;
 mod edit;
 mod editing;
+mod elements;
 mod fault;
 mod frames;
 mod globals;

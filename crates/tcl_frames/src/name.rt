@@ -1,5 +1,5 @@
 //! The names of variables.
-ghost use Rattle.std.specs.Prelude.{◌≡◌, true, ◌||◌};
+ghost use Rattle.std.specs.Prelude.{◌≡◌, [], true, ◌||◌};
 ghost use Rattle.std.specs.Str.{chars};
 ghost use Rattle.tcl_meaning.specs.Names as spec;
 ghost use Rattle.tcl_meaning.specs.Variables.{missing};
@@ -141,6 +141,15 @@ fn paren_in(bytes: &[u8]) -> usize
         at += 1;
     }
     size
+}
+
+/// Has a name no `(`?
+#[inline(always)]
+pub(crate) fn has_no_paren(name: &str) -> bool
+    ensures { result ≡ true → spec.from_paren (chars name.now) ≡ [] }
+{
+    let bytes = name.as_bytes();
+    paren_in(bytes) == bytes.len()
 }
 
 // The same of any name.

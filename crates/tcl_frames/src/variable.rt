@@ -51,6 +51,7 @@ impl Model for Variable {
 
 impl Held {
     // Lends the text of a part.
+    #[inline(always)]
     fn place(&mut self, part: Part<'_>, missing: Refusal) -> Result<&mut Value, Refusal>
         ensures* writes_back { sem 𝓛 (LendsHeld self.entry (part_of part.entry) result) }
         ensures found { IfOk result (λ value. get_part missing (Some (variable_of self.old)) (part_of part.entry) ≡ Ok value.now) }

@@ -1,7 +1,9 @@
 pub mod AssignLemmas
 pub mod ElementLemmas
+pub mod GivenTexts
 pub mod JoinLemmas
 pub mod PlaceLemmas
+pub mod PutAgain
 pub mod PutLemmas
 mod QuickLemmas
 mod QuickUpdateLemmas

@@ -2,3 +2,4 @@ pub mod Unsetting
 pub mod Updating
 pub mod Way
 pub mod Quick
+pub mod Given

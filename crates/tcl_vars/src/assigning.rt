@@ -5,23 +5,15 @@ ghost use Rattle.tcl_meaning.specs.VariablePages.{lassign_page};
 ghost use Rattle.tcl_pages.specs.Lists.{rest_behind};
 ghost use Rattle.tcl_pages.specs.Texts.{Text};
 ghost use Rattle.tcl_steps.specs.Ends.{Does, Ends, EndsDone};
+ghost use Rattle.tcl_vars.specs.Given.{given_texts};
 
-use crate::words::{empty, list_at};
+use crate::given::Given;
+use crate::words::{empty, row_at};
 use std::alloc::{AllocError, Global};
 use tcl_arguments::text_at;
 use tcl_frames::Frames;
 use tcl_steps::{Completion, Stop, assign, assign_near, closed, stop_by};
-use tcl_values::Value;
-
-// The value at a place, or the empty text.
-fn value_at(alloc: Global, values: &[Value], place: usize) -> Result<Value, AllocError>
-    ensures { IfOk result (λ value. value ≡ get_or values.now place []) }
-{
-    if place < values.len() {
-        return values[place].copy();
-    }
-    empty(alloc)
-}
+use tcl_values::{Gathering, Row, Value};
 
 // Gives the variable that a word names a text.
 fn assign_at(
@@ -47,12 +39,12 @@ pub(crate) fn assign_all(
     alloc: Global,
     frames: &mut Frames,
     names: &mut [Value],
-    values: &[Value],
+    given: Given<'_>,
 ) -> Result<(), Stop>
-    ensures { (texts : List Text) → ((i : ℕ) → i < length names.old → get_or values.now i [] ≡ get_or texts i []) → Ends (set_all names.old texts) frames.old result frames.new }
+    ensures { (texts : List Text) → ((i : ℕ) → i < length names.old → get_or (given_texts given.entry) i [] ≡ get_or texts i []) → Ends (set_all names.old texts) frames.old result frames.new }
 {
     for place in 0..names.len() {
-        let value = value_at(alloc, values, place)?;
+        let value = given.value_at(alloc, place)?;
         assign_at(alloc, frames, names, place, value)?;
     }
     Ok(())
@@ -67,15 +59,15 @@ fn names_behind(words: &[Value]) -> usize
 }
 
 // The elements that no name takes, as a list.
-fn rest_of(alloc: Global, elements: Vec<Value>, count: usize) -> Result<Value, AllocError>
-    ensures { IfOk result (λ rest. rest ≡ rest_behind count elements.items) }
+fn rest_of(alloc: Global, row: &Row, count: usize) -> Result<Value, AllocError>
+    ensures { IfOk result (λ rest. rest ≡ rest_behind count row.now) }
 {
-    let mut elements = elements;
-    if elements.len() <= count {
+    let size = row.len();
+    if size <= count {
         return empty(alloc);
     }
-    let rest = elements.split_off(count)?;
-    Value::of_list(alloc, rest)
+    let rest = Gathering::with_capacity(alloc, size - count)?.with_part(row, count, size)?;
+    rest.into_value(alloc)
 }
 
 // The same as `lassign`, where an error stops it.
@@ -89,13 +81,14 @@ fn lassign_words(
     if words.len() == 0 {
         return Err(Stop::Error(Completion::wrong_words(alloc, "lassign list ?varName ...?")?));
     }
-    let elements = match list_at(alloc, words, 0) {
-        Ok(elements) => elements,
+    let row = match row_at(alloc, words, 0) {
+        Ok(row) => row,
         Err(fault) => return Err(stop_by(alloc, fault)),
     };
     let count = names_behind(&*words);
-    assign_all(alloc, frames, &mut words[1..], &elements)?;
-    let rest = rest_of(alloc, elements, count)?;
+    let given = Given::Elements(row.items());
+    assign_all(alloc, frames, &mut words[1..], given)?;
+    let rest = rest_of(alloc, &row, count)?;
     Ok(Completion::normal(alloc, rest))
 }
 

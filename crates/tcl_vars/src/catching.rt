@@ -5,6 +5,7 @@ ghost use Rattle.tcl_meaning.specs.Completions.{options_text};
 ghost use Rattle.tcl_steps.specs.Ends.{Does, EndsDone};
 
 use crate::assigning::assign_all;
+use crate::given::Given;
 use std::alloc::{AllocError, Global};
 use tcl_frames::Frames;
 use tcl_steps::{Completion, Stop, closed, code_value};
@@ -36,7 +37,7 @@ fn caught(
     ensures { EndsDone (after_catch names.old completion.now) frames.old result frames.new }
 {
     let values = caught_values(alloc, completion, names.len())?;
-    assign_all(alloc, frames, names, &values)?;
+    assign_all(alloc, frames, names, Given::Values(&values))?;
     let code = code_value(completion.code_now());
     Ok(Completion::normal(alloc, code))
 }

@@ -4,6 +4,7 @@ ghost use Rattle.std.specs.Str.{chars};
 ghost use Rattle.tcl_chars.specs.Texts.{literal};
 ghost use Rattle.tcl_vars.specs.Updating.{usage_of, AddsOne, Fits};
 
+use crate::elements::push_copies;
 use std::alloc::{AllocError, Global};
 use tcl_pages::UpdatePage;
 use tcl_values::Value;
@@ -51,16 +52,20 @@ pub(crate) fn usage_of(page: UpdatePage) -> &'static str
     }
 }
 
+/// The words, and the increment 1 behind them.
+pub(crate) fn and_one(alloc: Global, words: &[Value]) -> Result<Vec<Value>, AllocError>
+    ensures { IfOk result (λ given. given.items ≡ words.now ++ literal "1" ∷ []) }
+{
+    let mut given = Vec::new(alloc);
+    push_copies(&mut given, words)?;
+    given.push(Value::of_int(1))?;
+    Ok(given)
+}
+
 /// The words behind the first one, and the increment 1.
 pub(crate) fn with_one(alloc: Global, words: &[Value]) -> Result<Vec<Value>, AllocError>
     requires { 1 ≤ length words.now }
     ensures { IfOk result (λ given. given.items ≡ drop 1 words.now ++ literal "1" ∷ []) }
 {
-    let mut given = Vec::with_capacity(alloc, words.len())?;
-    let behind = &words[1..];
-    for word in behind {
-        given.push(word.copy()?)?;
-    }
-    given.push(Value::of_int(1))?;
-    Ok(given)
+    and_one(alloc, &words[1..])
 }

@@ -9,6 +9,7 @@ mod changing;
 mod counts;
 mod elements;
 mod first;
+mod given;
 mod number;
 mod path;
 mod quick;

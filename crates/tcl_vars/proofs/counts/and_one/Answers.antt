@@ -2,7 +2,7 @@ use Rattle.std.proofs.Common.{◌≡◌, ◌∙◌, arith}
 use Rattle.std.proofs.lemmas.Grind.{common_steps}
 use Rattle.tcl_chars.specs.Texts.{literal}
 use Rattle.tcl_vars.proofs.One.{one_is}
-use Rattle.tcl_vars.proofs.counts.with_one.Goals as goal
+use Rattle.tcl_vars.proofs.counts.and_one.Goals as goal
 
 pub returns : goal.returns
 returns c =
