@@ -11,6 +11,7 @@ mod following;
 mod frames;
 mod host;
 mod kept;
+mod last;
 mod lifts;
 mod looking;
 mod owed;

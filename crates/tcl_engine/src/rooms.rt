@@ -3,6 +3,7 @@ ghost use Rattle.std.specs.Prelude.{◌≡◌, IfOk};
 ghost use Rattle.tcl_code.specs.Running.{begun};
 ghost use Rattle.tcl_code.specs.Shown.{shown_by};
 
+use crate::last::LastElements;
 use std::alloc::{AllocError, Global};
 use std::marker::Model;
 use std::rc::Rc;
@@ -42,12 +43,13 @@ impl Room {
 // So many are kept at most.
 const MOST: usize = 32;
 
-/// Rooms of codes that have ended. A code that begins takes one of them, and needs no memory then.
+/// Rooms of codes that have ended, of which a code that begins takes one, and needs no memory then; and the elements that were taken last.
 #[derive(Drop)]
 pub struct Rooms {
     left: Vec<Room>,
     // The code that began first, whose script is run as long as there are rooms: one that is left holds on to no other code.
     first: Option<Rc<Code>>,
+    pub(crate) elements: LastElements,
 }
 
 impl Rooms {
@@ -56,6 +58,7 @@ impl Rooms {
         Rooms {
             left: Vec::new(alloc),
             first: None,
+            elements: LastElements::new(alloc),
         }
     }
 
