@@ -4,4 +4,5 @@ pub mod Clauses
 pub mod Codes
 pub mod Conditions
 pub mod Returning
+pub mod Subjects
 pub mod Switching

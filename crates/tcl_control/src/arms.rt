@@ -1,12 +1,15 @@
 //! Patterns and bodies of switch(n), wherever they stand.
 ghost use Rattle.std.specs.Prelude.{◌≡◌, ◌<◌, ◌≤◌, drop, length, IfOk, IfSome};
+ghost use Rattle.std.specs.Fmt.{signed_decimal};
 ghost use Rattle.std.specs.Str.{chars};
+ghost use Rattle.tcl_chars.specs.Texts.{same_text};
 ghost use Rattle.tcl_arguments.specs.WordAt.{word};
 ghost use Rattle.tcl_control.specs.Arms.{arm_texts};
 ghost use Rattle.tcl_meaning.specs.Shapes as shapes;
 ghost use Rattle.tcl_values.specs.Kept.{texts};
 
 use crate::answers::words_behind;
+use crate::subject::Subject;
 use std::alloc::{AllocError, Global};
 use tcl_chars::is_text;
 use tcl_glob::glob_match;
@@ -42,7 +45,7 @@ fn elements_behind(elements: &[Element], count: usize) -> &[Element]
 
 impl<'a> Arms<'a> {
     /// How many patterns and bodies these are.
-    #[tactic(auto, using(crate::proofs::ArmTexts::texts_length, crate::proofs::ArmTexts::text_at, crate::proofs::ArmTexts::texts_behind))]
+    #[tactic(auto, using(crate::proofs::ArmTexts::texts_length, tcl_values::proofs::ElementTexts::text_at, crate::proofs::ArmTexts::texts_behind))]
     pub(crate) fn len(self) -> usize
         ensures { result ≡ length (arm_texts self.entry) }
     {
@@ -53,7 +56,7 @@ impl<'a> Arms<'a> {
     }
 
     /// Those behind so many.
-    #[tactic(auto, using(crate::proofs::ArmTexts::texts_length, crate::proofs::ArmTexts::text_at, crate::proofs::ArmTexts::texts_behind))]
+    #[tactic(auto, using(crate::proofs::ArmTexts::texts_length, tcl_values::proofs::ElementTexts::text_at, crate::proofs::ArmTexts::texts_behind))]
     pub(crate) fn behind(self, count: usize) -> Arms<'a>
         requires { count ≤ length (arm_texts self) }
         ensures { arm_texts result ≡ drop count (arm_texts self.entry) }
@@ -65,7 +68,7 @@ impl<'a> Arms<'a> {
     }
 
     /// The text at a place, where it stands ready.
-    #[tactic(auto, using(crate::proofs::ArmTexts::texts_length, crate::proofs::ArmTexts::text_at, crate::proofs::ArmTexts::texts_behind))]
+    #[tactic(auto, using(crate::proofs::ArmTexts::texts_length, tcl_values::proofs::ElementTexts::text_at, crate::proofs::ArmTexts::texts_behind))]
     fn shown(self, place: usize) -> Option<&'a str>
         requires { place < length (arm_texts self) }
         ensures { IfSome result (λ t. chars t.now ≡ word (arm_texts self.entry) place) }
@@ -77,7 +80,7 @@ impl<'a> Arms<'a> {
     }
 
     /// The text at a place: lent where it stands ready, else written.
-    #[tactic(auto, using(crate::proofs::ArmTexts::texts_length, crate::proofs::ArmTexts::text_at, crate::proofs::ArmTexts::texts_behind))]
+    #[tactic(auto, using(crate::proofs::ArmTexts::texts_length, tcl_values::proofs::ElementTexts::text_at, crate::proofs::ArmTexts::texts_behind))]
     fn text(self, alloc: Global, place: usize) -> Result<ElementText<'a>, AllocError>
         requires { place < length (arm_texts self) }
         ensures { IfOk result (λ t. t ≡ word (arm_texts self.entry) place) }
@@ -89,7 +92,7 @@ impl<'a> Arms<'a> {
     }
 
     /// The value of the text at a place. What is kept of it is shared.
-    #[tactic(auto, using(crate::proofs::ArmTexts::texts_length, crate::proofs::ArmTexts::text_at, crate::proofs::ArmTexts::texts_behind))]
+    #[tactic(auto, using(crate::proofs::ArmTexts::texts_length, tcl_values::proofs::ElementTexts::text_at, crate::proofs::ArmTexts::texts_behind))]
     pub(crate) fn value(self, place: usize) -> Result<Value, AllocError>
         requires { place < length (arm_texts self) }
         ensures { IfOk result (λ value. value ≡ word (arm_texts self.entry) place) }
@@ -112,21 +115,49 @@ impl<'a> Arms<'a> {
         Ok(is_text(own.as_str(), known))
     }
 
-    /// Does the pattern at a place match a text?
+    /// The number at a place, if one is kept there: the text is its decimal text.
+    #[tactic(auto, using(crate::proofs::ArmTexts::texts_length, tcl_values::proofs::ElementTexts::text_at))]
+    fn number(self, place: usize) -> Option<i64>
+        requires { place < length (arm_texts self) }
+        ensures { IfSome result (λ n. word (arm_texts self.entry) place ≡ signed_decimal n) }
+    {
+        match self {
+            Arms::Words(words) => words[place].number(),
+            Arms::Elements(elements) => elements[place].number(),
+        }
+    }
+
+    /// Is the text at a place the subject? That is known without a text where both are kept as numbers.
+    fn is_known(self, place: usize, subject: &Subject<'_>) -> Option<bool>
+        requires { place < length (arm_texts self) }
+        ensures { IfSome result (λ is. is ≡ same_text (word (arm_texts self.entry) place) subject.now) }
+    {
+        match (self.number(place), subject.number()) {
+            (Some(own), Some(known)) => Some(known == own),
+            _ => None,
+        }
+    }
+
+    /// Does the pattern at a place match the subject?
     pub(crate) fn matches(
         self,
         alloc: Global,
         place: usize,
         globs: bool,
-        text: &str,
+        subject: &Subject<'_>,
     ) -> Result<bool, AllocError>
         requires { place < length (arm_texts self) }
-        ensures { IfOk result (λ is. is ≡ shapes.matches globs (word (arm_texts self.entry) place) (chars text.now)) }
+        ensures { IfOk result (λ is. is ≡ shapes.matches globs (word (arm_texts self.entry) place) subject.now) }
     {
         if let Some(pattern) = self.shown(place) {
-            return Ok(matches_text(globs, pattern, text));
+            return Ok(matches_text(globs, pattern, subject.as_str()));
+        }
+        if !globs {
+            if let Some(is) = self.is_known(place, subject) {
+                return Ok(is);
+            }
         }
         let pattern = self.text(alloc, place)?;
-        Ok(matches_text(globs, pattern.as_str(), text))
+        Ok(matches_text(globs, pattern.as_str(), subject.as_str()))
     }
 }

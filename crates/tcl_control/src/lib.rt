@@ -14,6 +14,7 @@ mod handlers;
 mod loops;
 mod numbers;
 mod returning;
+mod subject;
 mod switching;
 mod trying;
 

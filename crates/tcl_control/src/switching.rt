@@ -17,6 +17,7 @@ use crate::answers::{word_at, words_behind};
 use crate::arms::Arms;
 use crate::conditions::body_asks;
 use crate::numbers::said_of;
+use crate::subject::Subject;
 use std::alloc::{AllocError, Global};
 use std::rc::RcStr;
 use tcl_arguments::text_at;
@@ -114,12 +115,17 @@ fn body_from(alloc: Global, arms: Arms<'_>) -> Result<Option<Value>, AllocError>
 }
 
 // Is the first pattern the one that is chosen?
-fn is_chosen(alloc: Global, globs: bool, text: &str, arms: Arms<'_>) -> Result<bool, AllocError>
+fn is_chosen(
+    alloc: Global,
+    globs: bool,
+    subject: &Subject<'_>,
+    arms: Arms<'_>,
+) -> Result<bool, AllocError>
     requires { 2 ≤ length (arm_texts arms) }
-    ensures { IfOk result (λ is. is ≡ (shapes.matches globs (word (arm_texts arms.entry) 0) (chars text.now)
+    ensures { IfOk result (λ is. is ≡ (shapes.matches globs (word (arm_texts arms.entry) 0) subject.now
         || shapes.is_default (word (arm_texts arms.entry) 0) (pairs_in (drop 2 (arm_texts arms.entry))))) }
 {
-    if arms.matches(alloc, 0, globs, text)? {
+    if arms.matches(alloc, 0, globs, subject)? {
         return Ok(true);
     }
     is_default(alloc, arms)
@@ -130,14 +136,14 @@ fn is_chosen(alloc: Global, globs: bool, text: &str, arms: Arms<'_>) -> Result<b
 fn chosen(
     alloc: Global,
     globs: bool,
-    text: &str,
+    subject: &Subject<'_>,
     arms: Arms<'_>,
 ) -> Result<Option<Value>, AllocError>
-    ensures { IfOk result (λ body. body ≡ shapes.chosen globs (chars text.now) (pairs_in (arm_texts arms.entry))) }
+    ensures { IfOk result (λ body. body ≡ shapes.chosen globs subject.now (pairs_in (arm_texts arms.entry))) }
 {
     let mut rest = arms;
     'pairs: while rest.len() > 1 {
-        let here = is_chosen(alloc, globs, text, rest)?;
+        let here = is_chosen(alloc, globs, subject, rest)?;
         if here {
             return body_from(alloc, rest);
         }
@@ -152,13 +158,13 @@ fn chosen(
 fn body_among(
     alloc: Global,
     globs: bool,
-    text: &str,
+    subject: &Subject<'_>,
     arms: Arms<'_>,
 ) -> Result<Option<Value>, Fault>
-    ensures { Answers (λ body. body) result (spec.body_among globs (chars text.now) (arm_texts arms.entry)) }
+    ensures { Answers (λ body. body) result (spec.body_among globs subject.now (arm_texts arms.entry)) }
 {
     checked(alloc, arms)?;
-    Ok(chosen(alloc, globs, text, arms)?)
+    Ok(chosen(alloc, globs, subject, arms)?)
 }
 
 // What is said of too few words.
@@ -177,26 +183,26 @@ fn form(alloc: Global) -> Result<RcStr, AllocError>
 fn body_behind(
     alloc: Global,
     globs: bool,
-    words: &mut [Value],
+    words: &[Value],
     first: usize,
 ) -> Result<Option<Value>, Fault>
-    requires { first ≤ length words.old }
-    ensures { Answers (λ body. body) result (spec.body_behind globs (drop first words.old)) }
+    requires { first ≤ length words.now }
+    ensures { Answers (λ body. body) result (spec.body_behind globs (drop first words.now)) }
 {
     let count = words.len() - first;
     if count < 2 {
         let said = form(alloc)?;
         return Err(Fault::Error(said));
     }
-    let text = text_at(alloc, words, first)?;
+    let subject = Subject::of(alloc, &words[first])?;
     if count == 2 {
         let mut list = word_at(words, first + 1)?;
         let row = list.row(alloc)?;
         let arms = Arms::Elements(row.items());
-        return body_among(alloc, globs, text.as_str(), arms);
+        return body_among(alloc, globs, &subject, arms);
     }
     let pairs = words_behind(words, first + 1);
-    body_among(alloc, globs, text.as_str(), Arms::Words(pairs))
+    body_among(alloc, globs, &subject, Arms::Words(pairs))
 }
 
 // The body that is chosen.
@@ -204,7 +210,7 @@ fn switch_body(alloc: Global, words: &mut [Value]) -> Result<Option<Value>, Faul
     ensures { Answers (λ body. body) result (spec.switch_body words.old) }
 {
     let (globs, first) = options_of(alloc, words)?;
-    body_behind(alloc, globs, words, first)
+    body_behind(alloc, globs, &*words, first)
 }
 
 /// `switch ?-option ...? string ?pattern body ...? ?default body?`: the body of the first pattern that matches is run.
