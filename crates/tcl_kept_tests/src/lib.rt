@@ -2,6 +2,12 @@
 #![tactic(auto)]
 
 #[cfg(test)]
+mod answers;
+#[cfg(test)]
 mod beside;
 #[cfg(test)]
-mod kept;
+mod dictionaries;
+#[cfg(test)]
+mod lists;
+#[cfg(test)]
+mod texts;

@@ -1,7 +1,7 @@
 //! Commands on dictionaries: each once with ample memory, and many keys. A helper answers what is written, or the script's error.
+use crate::answers::{counts, holds, is, repeated, said, text, value, words};
 use std::alloc::Global;
 use std::rc::RcStr;
-use std::test::Fail;
 use tcl_chars::{Dialect, Fault};
 use tcl_dicts::{
     dict_append, dict_create, dict_exists, dict_get, dict_incr, dict_keys, dict_lappend,
@@ -9,284 +9,219 @@ use tcl_dicts::{
 };
 use tcl_values::Value;
 
-fn words(alloc: Global, texts: &[&str]) -> Result<Vec<Value>, Fault> {
-    let mut words = Vec::new(alloc);
-    for text in texts {
-        words.push(Value::of_text(RcStr::from_str(alloc, text)?))?;
-    }
-    Ok(words)
-}
-
-/// What an answer says: its text, or the error's.
-fn said(alloc: Global, answer: Result<Value, Fault>) -> Result<RcStr, Fault> {
-    match answer {
-        Ok(mut value) => Ok(value.text(alloc)?),
-        Err(Fault::Error(message)) => Ok(message),
-        Err(Fault::Memory) => Err(Fault::Memory),
+fn answered(alloc: Global, command: &str, words: &mut [Value]) -> Result<Value, Fault> {
+    match command {
+        "create" => dict_create(alloc, words),
+        "exists" => dict_exists(alloc, words),
+        "get" => dict_get(alloc, words),
+        "keys" => dict_keys(alloc, words),
+        "merge" => dict_merge(alloc, words),
+        "remove" => dict_remove(alloc, words),
+        "replace" => dict_replace(alloc, words),
+        "size" => dict_size(alloc, words),
+        _ => dict_values(alloc, words),
     }
 }
 
-fn create(alloc: Global, texts: &[&str]) -> Result<RcStr, Fault> {
-    said(alloc, dict_create(alloc, &mut words(alloc, texts)?))
+/// What the command says of the words of a line.
+fn ran(alloc: Global, command: &str, line: &str) -> Result<RcStr, Fault> {
+    let mut words = words(alloc, line)?;
+    said(alloc, answered(alloc, command, &mut words))
 }
 
-fn get(alloc: Global, texts: &[&str]) -> Result<RcStr, Fault> {
-    said(alloc, dict_get(alloc, &mut words(alloc, texts)?))
+/// The words of the first row whose command says something else.
+fn wrong(
+    alloc: Global,
+    rows: &[(&'static str, &'static str, &'static str)],
+) -> Option<&'static str> {
+    for row in rows {
+        let (command, line, want) = *row;
+        if !is(ran(alloc, command, line), want) {
+            return Some(line);
+        }
+    }
+    None
 }
 
-fn exists(alloc: Global, texts: &[&str]) -> Result<RcStr, Fault> {
-    said(alloc, dict_exists(alloc, &mut words(alloc, texts)?))
+/// Commands, the words behind their names as a list, and what they say.
+static MADE_AND_LOOKED_AT: [(&str, &str, &str); 15] = [
+    ("create", "a 1 b 2 a 3", "a 3 b 2"),
+    (
+        "create",
+        "a",
+        r#"wrong # args: should be "dict create ?key value ...?""#,
+    ),
+    ("merge", "{a 1 b 2} {b 3 c 4}", "a 1 b 3 c 4"),
+    ("remove", "{a 1 b 2} a x", "b 2"),
+    ("replace", "{a  1} b {x y}", "a 1 b {x y}"),
+    ("get", "{a 1 b 2 a 3}", "a 3 b 2"),
+    ("get", "{a {b c}} a b", "c"),
+    ("get", "{a 1} x", r#"key "x" not known in dictionary"#),
+    ("get", "{a {b c d}} a x", "missing value to go with key"),
+    ("exists", "a x", "0"),
+    ("exists", "{a 1} a", "1"),
+    ("size", "{a 1 a 2}", "1"),
+    ("keys", "{a 1 b 2} b*", "b"),
+    ("keys", "{a 1 b 2}", "a b"),
+    ("values", "{a 1 b 22} ?", "1"),
+];
+
+#[test]
+fn made_and_looked_at(rt: HostRuntime) {
+    assert_eq!(rt; wrong(rt.alloc(), &MADE_AND_LOOKED_AT), None);
 }
 
-fn size(alloc: Global, texts: &[&str]) -> Result<RcStr, Fault> {
-    said(alloc, dict_size(alloc, &mut words(alloc, texts)?))
+/// Changes a dictionary by the command, where it takes that many words.
+fn change(
+    alloc: Global,
+    command: &str,
+    value: &mut Value,
+    words: &mut [Value],
+) -> Result<(), Fault> {
+    match command {
+        "append" => dict_append(alloc, value, words),
+        "incr" if words.len() == 2 => dict_incr(alloc, value, words, Dialect::Tcl86),
+        "lappend" => dict_lappend(alloc, value, words),
+        "set" if words.len() >= 2 => dict_set(alloc, value, words),
+        "unset" if !words.is_empty() => dict_unset(alloc, value, words),
+        _ => Ok(()),
+    }
 }
 
-fn keys(alloc: Global, texts: &[&str]) -> Result<RcStr, Fault> {
-    said(alloc, dict_keys(alloc, &mut words(alloc, texts)?))
+/// Changes a dictionary by the command with the words of a line.
+fn run(alloc: Global, command: &str, value: &mut Value, line: &str) -> Result<(), Fault> {
+    let mut words = words(alloc, line)?;
+    change(alloc, command, value, &mut words)
 }
 
-fn values(alloc: Global, texts: &[&str]) -> Result<RcStr, Fault> {
-    said(alloc, dict_values(alloc, &mut words(alloc, texts)?))
-}
-
-fn merge(alloc: Global, texts: &[&str]) -> Result<RcStr, Fault> {
-    said(alloc, dict_merge(alloc, &mut words(alloc, texts)?))
-}
-
-fn remove(alloc: Global, texts: &[&str]) -> Result<RcStr, Fault> {
-    said(alloc, dict_remove(alloc, &mut words(alloc, texts)?))
-}
-
-fn replace(alloc: Global, texts: &[&str]) -> Result<RcStr, Fault> {
-    said(alloc, dict_replace(alloc, &mut words(alloc, texts)?))
-}
-
-/// What a change left of a text, or the error.
-fn left(alloc: Global, done: Result<(), Fault>, value: Value) -> Result<RcStr, Fault> {
-    match done {
-        Ok(()) => said(alloc, Ok(value)),
+/// What the command leaves of a text, or its error.
+fn left(alloc: Global, command: &str, start: &str, line: &str) -> Result<RcStr, Fault> {
+    let mut value = value(alloc, start)?;
+    match run(alloc, command, &mut value, line) {
+        Ok(()) => text(alloc, value),
         Err(fault) => said(alloc, Err(fault)),
     }
 }
 
-fn set(alloc: Global, start: &str, texts: &[&str]) -> Result<RcStr, Fault> {
-    let mut value = Value::of_text(RcStr::from_str(alloc, start)?);
-    let mut words = words(alloc, texts)?;
-    if words.len() < 2 {
-        return left(alloc, Ok(()), value);
+/// A command, a text, the words behind the variable's name as a list, and what is left of the text.
+type Change = (&'static str, &'static str, &'static str, &'static str);
+
+/// The words of the first change that leaves something else.
+fn wrongly_changed(alloc: Global, rows: &[Change]) -> Option<&'static str> {
+    for row in rows {
+        let (command, start, line, want) = *row;
+        if !is(left(alloc, command, start, line), want) {
+            return Some(line);
+        }
     }
-    let done = dict_set(alloc, &mut value, &mut words);
-    left(alloc, done, value)
+    None
 }
 
-fn unset(alloc: Global, start: &str, texts: &[&str]) -> Result<RcStr, Fault> {
-    let mut value = Value::of_text(RcStr::from_str(alloc, start)?);
-    let mut words = words(alloc, texts)?;
-    if words.is_empty() {
-        return left(alloc, Ok(()), value);
+static CHANGES: [Change; 12] = [
+    ("set", "a {x y}", "a b c d", "a {x y b {c d}}"),
+    ("set", "a 1", "a b c d", "missing value to go with key"),
+    ("unset", "a 1  b 2", "c", "a 1 b 2"),
+    (
+        "unset",
+        "a 1  b 2",
+        "c d",
+        r#"key "c" not known in dictionary"#,
+    ),
+    ("unset", "a {x y z w}", "a x", "a {z w}"),
+    ("append", "a {x y}", "a 1 2 3", "a {x y123}"),
+    ("lappend", "a {x  y}", "a", "a {x  y}"),
+    ("lappend", "a {x  y}", "a z", "a {x y z}"),
+    ("lappend", "j 1", "k {x y}", "j 1 k {{x y}}"),
+    ("lappend", "k {", "k x", "unmatched open brace in list"),
+    ("incr", "a 1  b 2", "b 1", "a 1 b 3"),
+    ("incr", "a q", "a x", r#"expected integer but got "q""#),
+];
+
+#[test]
+fn changed(rt: HostRuntime) {
+    assert_eq!(rt; wrongly_changed(rt.alloc(), &CHANGES), None);
+}
+
+/// Puts so many keys into a dictionary.
+fn put(alloc: Global, value: &mut Value, count: u32) -> Result<(), Fault> {
+    for number in 0..count {
+        let key = Value::of_int(i64::from(number)).key(alloc)?;
+        value.dict_put(alloc, key, Value::of_int(1))?;
     }
-    let done = dict_unset(alloc, &mut value, &mut words);
-    left(alloc, done, value)
-}
-
-fn append(alloc: Global, start: &str, texts: &[&str]) -> Result<RcStr, Fault> {
-    let mut value = Value::of_text(RcStr::from_str(alloc, start)?);
-    let mut words = words(alloc, texts)?;
-    let done = dict_append(alloc, &mut value, &mut words);
-    left(alloc, done, value)
-}
-
-fn lappend(alloc: Global, start: &str, texts: &[&str]) -> Result<RcStr, Fault> {
-    let mut value = Value::of_text(RcStr::from_str(alloc, start)?);
-    let mut words = words(alloc, texts)?;
-    let done = dict_lappend(alloc, &mut value, &mut words);
-    left(alloc, done, value)
-}
-
-fn incr(alloc: Global, start: &str, texts: &[&str]) -> Result<RcStr, Fault> {
-    let mut value = Value::of_text(RcStr::from_str(alloc, start)?);
-    let mut words = words(alloc, texts)?;
-    if words.len() != 2 {
-        return left(alloc, Ok(()), value);
-    }
-    let done = dict_incr(alloc, &mut value, &mut words, Dialect::Tcl86);
-    left(alloc, done, value)
-}
-
-/// The dictionary that is left when the element `a b` was put `count` times at the end of the list under the key `k`.
-fn lengthened(alloc: Global, count: u32) -> Result<Value, Fault> {
-    let mut value = Value::of_text(RcStr::from_str(alloc, "")?);
-    let mut words = words(alloc, &["k", "a b"])?;
-    for _ in 0..count {
-        dict_lappend(alloc, &mut value, &mut words)?;
-    }
-    Ok(value)
-}
-
-/// The dictionary that is left when the text `ab` was put `count` times behind the value of the key `k`.
-fn extended(alloc: Global, count: u32) -> Result<Value, Fault> {
-    let mut value = Value::of_text(RcStr::from_str(alloc, "")?);
-    let mut words = words(alloc, &["k", "ab"])?;
-    for _ in 0..count {
-        dict_append(alloc, &mut value, &mut words)?;
-    }
-    Ok(value)
-}
-
-/// The first text, the other one `count` times, and the last one.
-fn repeated(
-    alloc: Global,
-    first: &str,
-    other: &str,
-    count: u32,
-    last: &str,
-) -> Result<String, Fault> {
-    let mut text = String::from_str(alloc, first)?;
-    for _ in 0..count {
-        text.push_str(other)?;
-    }
-    text.push_str(last)?;
-    Ok(text)
+    Ok(())
 }
 
 /// The size of a dictionary in which `count` keys were put, each of them twice.
 fn many(alloc: Global, count: u32) -> Result<usize, Fault> {
-    let mut value = Value::of_text(RcStr::from_str(alloc, "")?);
-    for _ in 0..2u32 {
-        for number in 0..count {
-            let key = Value::of_int(i64::from(number)).key(alloc)?;
-            value.dict_put(alloc, key, Value::of_int(1))?;
-        }
-    }
+    let mut value = value(alloc, "")?;
+    put(alloc, &mut value, count)?;
+    put(alloc, &mut value, count)?;
     value.dict_size(alloc)
 }
 
 #[test]
-fn made(rt: HostRuntime) -> Result<(), Fail> {
-    let alloc = rt.alloc();
-    assert_eq!(rt;
-        create(alloc, &["a", "1", "b", "2", "a", "3"])?.as_str(),
-        "a 3 b 2"
-    );
-    assert_eq!(rt;
-        create(alloc, &["a"])?.as_str(),
-        "wrong # args: should be \"dict create ?key value ...?\""
-    );
-    assert_eq!(rt;
-        merge(alloc, &["a 1 b 2", "b 3 c 4"])?.as_str(),
-        "a 1 b 3 c 4"
-    );
-    assert_eq!(rt; remove(alloc, &["a 1 b 2", "a", "x"])?.as_str(), "b 2");
-    assert_eq!(rt;
-        replace(alloc, &["a  1", "b", "x y"])?.as_str(),
-        "a 1 b {x y}"
-    );
-    Ok(())
+fn ten_thousand_keys(rt: HostRuntime) {
+    assert!(rt; counts(many(rt.alloc(), 10_000), 10_000));
 }
 
-#[test]
-fn looked_at(rt: HostRuntime) -> Result<(), Fail> {
-    let alloc = rt.alloc();
-    assert_eq!(rt; get(alloc, &["a 1 b 2 a 3"])?.as_str(), "a 3 b 2");
-    assert_eq!(rt; get(alloc, &["a {b c}", "a", "b"])?.as_str(), "c");
-    assert_eq!(rt;
-        get(alloc, &["a 1", "x"])?.as_str(),
-        "key \"x\" not known in dictionary"
-    );
-    assert_eq!(rt;
-        get(alloc, &["a {b c d}", "a", "x"])?.as_str(),
-        "missing value to go with key"
-    );
-    assert_eq!(rt; exists(alloc, &["a", "x"])?.as_str(), "0");
-    assert_eq!(rt; exists(alloc, &["a 1", "a"])?.as_str(), "1");
-    assert_eq!(rt; size(alloc, &["a 1 a 2"])?.as_str(), "1");
-    Ok(())
+/// The dictionary that the command leaves of an empty one when it runs `count` times.
+fn grown(alloc: Global, command: &str, line: &str, count: u32) -> Result<Value, Fault> {
+    let mut value = value(alloc, "")?;
+    let mut words = words(alloc, line)?;
+    for _ in 0..count {
+        change(alloc, command, &mut value, &mut words)?;
+    }
+    Ok(value)
 }
 
-#[test]
-fn chosen(rt: HostRuntime) -> Result<(), Fail> {
-    let alloc = rt.alloc();
-    assert_eq!(rt; keys(alloc, &["a 1 b 2", "b*"])?.as_str(), "b");
-    assert_eq!(rt; keys(alloc, &["a 1 b 2"])?.as_str(), "a b");
-    assert_eq!(rt; values(alloc, &["a 1 b 22", "?"])?.as_str(), "1");
-    Ok(())
-}
-
-#[test]
-fn paths(rt: HostRuntime) -> Result<(), Fail> {
-    let alloc = rt.alloc();
-    assert_eq!(rt;
-        set(alloc, "a {x y}", &["a", "b", "c", "d"])?.as_str(),
-        "a {x y b {c d}}"
-    );
-    assert_eq!(rt;
-        set(alloc, "a 1", &["a", "b", "c", "d"])?.as_str(),
-        "missing value to go with key"
-    );
-    assert_eq!(rt; unset(alloc, "a 1  b 2", &["c"])?.as_str(), "a 1 b 2");
-    assert_eq!(rt;
-        unset(alloc, "a 1  b 2", &["c", "d"])?.as_str(),
-        "key \"c\" not known in dictionary"
-    );
-    assert_eq!(rt;
-        unset(alloc, "a {x y z w}", &["a", "x"])?.as_str(),
-        "a {z w}"
-    );
-    Ok(())
-}
-
-#[test]
-fn changed(rt: HostRuntime) -> Result<(), Fail> {
-    let alloc = rt.alloc();
-    assert_eq!(rt;
-        append(alloc, "a {x y}", &["a", "1", "2", "3"])?.as_str(),
-        "a {x y123}"
-    );
-    assert_eq!(rt; lappend(alloc, "a {x  y}", &["a"])?.as_str(), "a {x  y}");
-    assert_eq!(rt;
-        lappend(alloc, "a {x  y}", &["a", "z"])?.as_str(),
-        "a {x y z}"
-    );
-    assert_eq!(rt; incr(alloc, "a 1  b 2", &["b", "1"])?.as_str(), "a 1 b 3");
-    assert_eq!(rt;
-        incr(alloc, "a q", &["a", "x"])?.as_str(),
-        "expected integer but got \"q\""
-    );
-    assert_eq!(rt; many(alloc, 10_000)?, 10_000usize);
-    Ok(())
-}
-
-#[test]
-fn grown(rt: HostRuntime) -> Result<(), Fail> {
-    let alloc = rt.alloc();
-    let mut list = lengthened(alloc, 1_000)?;
+/// Is the element `a b`, put a thousand times at the end of the list under a key, there a thousand times?
+fn elements_grow(alloc: Global) -> Result<bool, Fault> {
+    let found = text(alloc, grown(alloc, "lappend", "k {a b}", 1000)?)?;
     let written = repeated(alloc, "k {{a b}", " {a b}", 999, "}")?;
-    assert_eq!(rt; list.text(alloc)?.as_str(), written.as_str());
-    let mut text = extended(alloc, 1_000)?;
-    let written = repeated(alloc, "k ", "ab", 1_000, "")?;
-    assert_eq!(rt; text.text(alloc)?.as_str(), written.as_str());
-    Ok(())
+    Ok(found.as_str() == written.as_str())
+}
+
+/// Is the text `ab`, put a thousand times behind the value of a key, there a thousand times?
+fn text_grows(alloc: Global) -> Result<bool, Fault> {
+    let found = text(alloc, grown(alloc, "append", "k ab", 1000)?)?;
+    let written = repeated(alloc, "k ", "ab", 1000, "")?;
+    Ok(found.as_str() == written.as_str())
 }
 
 #[test]
-fn shared(rt: HostRuntime) -> Result<(), Fail> {
+fn a_thousand_times(rt: HostRuntime) {
     let alloc = rt.alloc();
-    let mut value = lengthened(alloc, 2)?;
-    let mut copy = value.copy()?;
-    let mut words = words(alloc, &["k", "c"])?;
-    dict_lappend(alloc, &mut value, &mut words)?;
-    assert_eq!(rt; copy.text(alloc)?.as_str(), "k {{a b} {a b}}");
-    assert_eq!(rt; value.text(alloc)?.as_str(), "k {{a b} {a b} c}");
-    dict_append(alloc, &mut copy, &mut words)?;
-    assert_eq!(rt; copy.text(alloc)?.as_str(), "k {{a b} {a b}c}");
-    assert_eq!(rt;
-        lappend(alloc, "j 1", &["k", "x y"])?.as_str(),
-        "j 1 k {{x y}}"
-    );
-    assert_eq!(rt;
-        lappend(alloc, "k {", &["k", "x"])?.as_str(),
-        "unmatched open brace in list"
-    );
-    Ok(())
+    assert!(rt; holds(elements_grow(alloc)));
+    assert!(rt; holds(text_grows(alloc)));
+}
+
+/// A copy of a dictionary, which then has one element more in the list under a key.
+fn copied(alloc: Global, value: &mut Value) -> Result<Value, Fault> {
+    let copy = value.copy()?;
+    run(alloc, "lappend", value, "k c")?;
+    Ok(copy)
+}
+
+fn has_text(alloc: Global, value: &mut Value, want: &str) -> Result<bool, Fault> {
+    Ok(value.text(alloc)?.as_str() == want)
+}
+
+/// Has only the dictionary the element more, and then only its copy the text more?
+fn are_apart(alloc: Global, value: &mut Value, copy: &mut Value) -> Result<bool, Fault> {
+    let stays = has_text(alloc, copy, "k {{a b} {a b}}")?;
+    let grows = has_text(alloc, value, "k {{a b} {a b} c}")?;
+    run(alloc, "append", copy, "k c")?;
+    Ok(stays && grows && has_text(alloc, copy, "k {{a b} {a b}c}")?)
+}
+
+/// Is a copy another dictionary as soon as one of them changes?
+fn copy_stays(alloc: Global) -> Result<bool, Fault> {
+    let mut value = grown(alloc, "lappend", "k {a b}", 2)?;
+    let mut copy = copied(alloc, &mut value)?;
+    are_apart(alloc, &mut value, &mut copy)
+}
+
+#[test]
+fn copies_stay(rt: HostRuntime) {
+    assert!(rt; holds(copy_stays(rt.alloc())));
 }

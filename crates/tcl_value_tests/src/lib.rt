@@ -2,7 +2,11 @@
 #![tactic(auto)]
 
 #[cfg(test)]
+mod answers;
+#[cfg(test)]
 mod dicts;
+#[cfg(test)]
+mod elements;
 #[cfg(test)]
 mod lists;
 #[cfg(test)]
