@@ -2,7 +2,7 @@
 use Rattle.std.proofs.Common.{◌≡◌, ℕ, ◌+◌, ◌<◌, ◌≤◌, ◌++◌, ◌∷◌, [], Bool, true, false, List, length, take, get_or, Ok, sym, ap, ◌∙◌, refl}
 use Rattle.std.specs.Cmp.Lexicographic.{bytes_decides}
 use Rattle.std.proofs.lemmas.Bool.{false≢true}
-use Rattle.std.proofs.lemmas.List.{get_or-map, length-map, map_push, take_more, take_all}
+use Rattle.std.proofs.lemmas.List.{length-map, map_push, take_more, take_all}
 use Rattle.tcl_chars.proofs.Same.{text_is}
 use Rattle.tcl_chars.specs.Texts.{same_text}
 use Rattle.tcl_list.specs.Elements.{elements_of}
@@ -10,6 +10,7 @@ use Rattle.tcl_list.specs.Written.{written}
 use Rattle.tcl_pages.specs.Answers.{Answer}
 use Rattle.tcl_pages.specs.Texts.{Text}
 use Rattle.tcl_values.specs.Kept.{Kept, texts}
+use Rattle.tcl_values.proofs.ElementTexts.{text_at}
 use Rattle.tcl_values.proofs.Joined.{reads_written}
 
 read_once : (r : Answer (List Text)) (es fs : List Text) → r ≡ Ok es → r ≡ Ok fs → es ≡ fs
@@ -39,16 +40,13 @@ pub one_more : (ks ls : List Kept) (i : ℕ) (k l : Kept) (b : Bool) → i < len
 one_more ks ls i k l b within within_other is is_other test holds so_far =
     taken ks i k within is ∙ (λ n. so_far n ++ text_is k.text l.text (sym test ∙ holds) n ∷ []) ∙ sym (taken ls i l within_other is_other)
 
-text_in : (ks : List Kept) (i : ℕ) (k : Kept) → i < length ks → k ≡ get_or ks i k → k.text ≡ get_or (texts ks) i []
-text_in ks i k l is = ap (λ (q : Kept). q.text) is ∙ sym (get_or-map (λ (q : Kept). q.text) ks i k [] l)
-
 -- elements at one place differ
 pub others_at : (ks ls : List Kept) (i : ℕ) (k l : Kept) (b : Bool) → i < length ks → i < length ls → k ≡ get_or ks i k → l ≡ get_or ls i l → b ≡ same_text k.text l.text → b ≡ false
     → false ≡ same_text (written (texts ks)) (written (texts ls))
 others_at ks ls i k l b within within_other is is_other test fails =
     not_same _ _
     (λ e.
-    let same : k.text ≡ l.text = text_in ks i k within is ∙ ap (λ (ts : List Text). get_or ts i []) (one_written (texts ks) (texts ls) e) ∙ sym (text_in ls i l within_other is_other) in
+    let same : k.text ≡ l.text = text_at ks i k within is ∙ ap (λ (ts : List Text). get_or ts i []) (one_written (texts ks) (texts ls) e) ∙ sym (text_at ls i l within_other is_other) in
     false≢true (sym fails ∙ test ∙ (bytes_decides k.text l.text).1 same))
 
 -- all of them have the same texts

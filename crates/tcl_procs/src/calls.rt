@@ -24,7 +24,7 @@ pub fn call_procedure(
 {
     match bound(alloc, procedure.layout.clone()?, &procedure.formals, words)? {
         Some(variables) => {
-            let body = Value::of_text(procedure.body.clone()?);
+            let body = Value::of_unread_text(procedure.body.clone()?);
             let scope = Scope::Within(Box::new(alloc, variables)?);
             Ok(Step::Run(scope, body, Owes::Leaving))
         }

@@ -5,6 +5,7 @@ pub mod ChangedPairs
 pub mod Decimals
 pub mod Depths
 pub mod ElementPlaces
+pub mod ElementTexts
 pub mod Gathered
 pub mod Grown
 pub mod Growth

@@ -14,7 +14,7 @@ ghost use Rattle.tcl_values.specs.Shape.{elements, items_text, AreKept};
 use crate::composed::joined;
 use crate::element::{Element, Entry, Items};
 use crate::items::splice;
-use crate::list::read_text;
+use crate::list_reading::read_text;
 use crate::value::{Growing, Value, grow};
 use std::alloc::{AllocError, Global};
 use std::rc::{Rc, RcStr};

@@ -12,7 +12,7 @@ ghost use Rattle.tcl_values.specs.Shape.{held_text, is_dict, pairs_held, pairs_i
 use crate::dictionary::Dictionary;
 use crate::element::Pairs;
 use crate::key::Key;
-use crate::list::read_held;
+use crate::list_reading::read_held;
 use crate::pairs::{count_pairs, find_pair, no_pairs, paired, put_own, put_pair, remove_pair};
 use crate::value::{Held, Value};
 use std::alloc::{AllocError, Global};

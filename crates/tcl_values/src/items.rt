@@ -46,6 +46,18 @@ pub(crate) fn row_text(row: &Items, alloc: Global) -> Result<RcStr, AllocError>
     }
 }
 
+/// Keeps the text of a list beside it, where nobody else holds the list.
+pub(crate) fn keep_text(row: &mut Rc<Items>, text: RcStr)
+    requires kept { AreKept row.old.value }
+    requires text { text_of text ≡ items_text row.old.value }
+    ensures same { items_text row.new.value ≡ items_text row.old.value }
+    ensures kept { AreKept row.new.value }
+{
+    if let Some(own) = Rc::get_mut(row) {
+        own.text = Some(text);
+    }
+}
+
 /// The text of a list, which is kept from now on where nobody else holds the list.
 pub(crate) fn show(row: &mut Rc<Items>, alloc: Global) -> Result<RcStr, AllocError>
     requires { AreKept row.old.value }
@@ -57,10 +69,7 @@ pub(crate) fn show(row: &mut Rc<Items>, alloc: Global) -> Result<RcStr, AllocErr
         return text.clone();
     }
     let text = RcStr::from_string(write_text(alloc, row)?)?;
-    let copy = text.clone()?;
-    if let Some(own) = Rc::get_mut(row) {
-        own.text = Some(copy);
-    }
+    keep_text(row, text.clone()?);
     Ok(text)
 }
 

@@ -4,7 +4,7 @@
 //! What is kept is shared by copies of a value and copied where one of them is changed. A change of a value that has no copy is
 //! made in place. A text of at most seven ASCII characters that is composed, or cut out of another one, is kept in the value itself.
 //!
-//! - [`Value`]: made by `of_text`, `of_str`, `of_shared`, `of_literal`, `of_name`, `of_string`, `of_int`, `of_list`, `joined`; copied by `copy`. Read by `text`,
+//! - [`Value`]: made by `of_text`, `of_unread_text`, `of_str`, `of_shared`, `of_literal`, `of_name`, `of_string`, `of_int`, `of_list`, `joined`; copied by `copy`. Read by `text`,
 //!   `spelled`, `shown`, `ascii` and `places`, as a number by `whole`, and without any reading by `number` and `known_number`, as a name by `sought` and `sought_command`, as a list by
 //!   `count`, `item`, `row`, `list`, `range`. Changed by
 //!   `append` at the end of the text, and as a list by `push`, `replace_item`, `put_item_under` and `splice`.
@@ -26,6 +26,7 @@ mod appending;
 mod beside;
 mod change;
 mod composed;
+mod deep;
 mod dict;
 mod dictionary;
 mod digits;
@@ -36,6 +37,7 @@ mod items;
 mod joining;
 mod key;
 mod list;
+mod list_reading;
 mod literal;
 mod making;
 mod marks;

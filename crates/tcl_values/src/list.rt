@@ -1,117 +1,25 @@
 //! Values read as lists, and changed as lists.
 
-ghost use Rattle.std.specs.Prelude.{◌≡◌, ◌<◌, ◌≤◌, true, map, IfOk, OnOk, OnErr};
+ghost use Rattle.std.specs.Prelude.{◌≡◌, ◌<◌, ◌≤◌, slice_get, IfOk, OnOk, OnErr};
 ghost use Rattle.tcl_list.specs.Elements.{elements_of};
-ghost use Rattle.tcl_list.specs.Texts.{text_of, Answers};
+ghost use Rattle.tcl_list.specs.Texts.{Answers};
 ghost use Rattle.tcl_list.specs.Written.{written};
 ghost use Rattle.tcl_values.specs.Kept.{texts, depth_over};
 ghost use Rattle.tcl_values.specs.Lists.{count_of, item_of, part_of, pushed, spliced, with_item, Leaves};
-ghost use Rattle.tcl_values.specs.Shape.{elements, elements_held, held_text, is_row, items_text, AreKept, IsHeld};
+ghost use Rattle.tcl_values.specs.Shape.{items_text, AreKept};
 
 use crate::element::{Element, Entry, Items};
 use crate::items::{gathered, part, push_element, row_text, set_element, splice};
+use crate::list_reading::read_row;
 use crate::pairs::dict_element;
 use crate::row::Row;
-use crate::single::{is_word, number_row};
 use crate::value::{Held, Value};
-use crate::written::read_written;
 use std::alloc::{AllocError, Global};
-use std::rc::{Rc, RcStr};
+use std::rc::Rc;
 use tcl_chars::Fault;
-use tcl_list::split;
-
-/// Texts as elements that are their texts alone.
-pub(crate) fn plain_elements(alloc: Global, words: Vec<RcStr>) -> Result<Vec<Element>, AllocError>
-    ensures texts { IfOk result (λ v. texts v.items ≡ map text_of words.items) }
-    ensures depth { IfOk result (λ v. depth_over v.items ≡ 1) }
-{
-    let mut elements = Vec::with_capacity(alloc, words.len())?;
-    for text in words {
-        elements.push(Element::of_text(text))?;
-    }
-    Ok(elements)
-}
-
-/// The words that a text is read as. A plain word is shared.
-pub(crate) fn words(alloc: Global, text: &RcStr) -> Result<Vec<RcStr>, Fault>
-    ensures { Answers (λ v. map text_of v.items) result (elements_of (text_of text.now)) }
-{
-    if is_word(text.as_str()) {
-        return Ok(vec![in alloc; text.clone()?]?);
-    }
-    split(alloc, text.as_str())
-}
-
-/// The list that a text is read as, with the text beside it.
-pub(crate) fn read_text(alloc: Global, text: RcStr) -> Result<Rc<Items>, Fault>
-    ensures read { Answers (λ r. texts (elements r.value)) result (elements_of (text_of text)) }
-    ensures same { IfOk result (λ r. items_text r.value ≡ text_of text) }
-    ensures flat { IfOk result (λ r. r.value.depth ≡ 1) }
-    ensures kept { IfOk result (λ r. AreKept r.value) }
-{
-    let words = words(alloc, &text)?;
-    let items = plain_elements(alloc, words)?;
-    let row = Items {
-        text: Some(text),
-        depth: 1,
-        items,
-        pairs: None,
-    };
-    Ok(Rc::new(alloc, row)?)
-}
-
-/// The list that the text of what is kept is read as, and was read as by whoever shares the text: that one reads it who is the first.
-fn read_shared(held: &Held, alloc: Global) -> Result<Rc<Items>, Fault>
-    requires { IsHeld held.now }
-    ensures read { Answers (λ r. texts (elements r.value)) result (elements_of (held_text held.now)) }
-    ensures same { IfOk result (λ r. items_text r.value ≡ held_text held.now) }
-    ensures kept { IfOk result (λ r. AreKept r.value) }
-{
-    if let Some(items) = held.kept_list() {
-        return Ok(items.clone()?);
-    }
-    let text = held.text(alloc)?;
-    let items = if held.is_written() {
-        read_written(alloc, text)?
-    } else {
-        read_text(alloc, text)?
-    };
-    held.keep_list(&items)?;
-    Ok(items)
-}
-
-/// The list that the text of what is kept is read as. A number isn't spelled.
-pub(crate) fn read_held(held: &Held, alloc: Global) -> Result<Rc<Items>, Fault>
-    requires { IsHeld held.now }
-    ensures read { Answers (λ r. texts (elements r.value)) result (elements_of (held_text held.now)) }
-    ensures same { IfOk result (λ r. items_text r.value ≡ held_text held.now) }
-    ensures kept { IfOk result (λ r. AreKept r.value) }
-{
-    match held {
-        Held::Row(row) => Ok(row.clone()?),
-        Held::Number(n) => Ok(number_row(alloc, *n)?),
-        _ => read_shared(held, alloc),
-    }
-}
-
-/// Reads what is kept as a list, which is kept from now on.
-pub(crate) fn read_row(held: &mut Held, alloc: Global) -> Result<(), Fault>
-    requires { IsHeld held.old }
-    ensures read { Answers (λ _. texts (elements_held held.new)) result (elements_of (held_text held.old)) }
-    ensures row { OnOk result (is_row held.new ≡ true) }
-    ensures same { held_text held.new ≡ held_text held.old }
-    ensures kept { IsHeld held.new }
-{
-    if held.is_row() {
-        return Ok(());
-    }
-    let row = read_held(held, alloc)?;
-    *held = Held::Row(row);
-    Ok(())
-}
 
 /// A list as an element; one that is too deep is its text alone.
-fn row_element(row: Rc<Items>, alloc: Global) -> Result<Element, AllocError>
+pub(crate) fn row_element(row: Rc<Items>, alloc: Global) -> Result<Element, AllocError>
     requires { AreKept row.value }
     ensures text { IfOk result (λ e. e.text ≡ items_text row.value) }
     ensures depth { IfOk result (λ e. e.depth < 64) }
@@ -147,6 +55,20 @@ fn copy_values(alloc: Global, elements: &[Element]) -> Result<Vec<Value>, AllocE
         values.push(element.copy()?)?;
     }
     Ok(values)
+}
+
+/// The element at a place, as a value; none where there is no such place.
+fn element_at(
+    elements: &[Element],
+    index: usize,
+    alloc: Global,
+) -> Result<Option<Value>, AllocError>
+    ensures { IfOk result (λ o. o ≡ slice_get (texts elements.now) index) }
+{
+    match elements.get(index) {
+        Some(element) => Ok(Some(element.value(alloc)?)),
+        None => Ok(None),
+    }
 }
 
 impl Value {
@@ -220,6 +142,9 @@ impl Value {
         ensures count { Answers (λ n. n) result (count_of self.old) }
         ensures same { self.new ≡ self.old }
     {
+        if let Some(items) = self.held.kept_list() {
+            return Ok(items.items.len());
+        }
         if self.held.is_single() {
             return Ok(1);
         }
@@ -239,15 +164,15 @@ impl Value {
         ensures item { Answers (λ o. o) result (item_of self.old index) }
         ensures same { self.new ≡ self.old }
     {
+        if let Some(items) = self.held.kept_list() {
+            return Ok(element_at(&items.items, index, alloc)?);
+        }
         if self.held.is_single() {
             return Ok(if index == 0 { Some(self.copy()?) } else { None });
         }
         read_row(&mut self.held, alloc)?;
         match &self.held {
-            Held::Row(row) => match row.items.get(index) {
-                Some(element) => Ok(Some(element.value(alloc)?)),
-                None => Ok(None),
-            },
+            Held::Row(row) => Ok(element_at(&row.items, index, alloc)?),
             _ => unreachable!(),
         }
     }

@@ -161,6 +161,15 @@ pub(crate) fn with_room(
 }
 
 impl Value {
+    /// The value that is this text, which isn't looked at: whether it is ASCII isn't known then.
+    pub fn of_unread_text(text: RcStr) -> Value
+        ensures { result ≡ text_of text }
+    {
+        Value {
+            held: Held::Text(text),
+        }
+    }
+
     /// The value that is this text. What a long one is read as, as a list or as a dictionary, all copies share.
     pub fn of_shared(alloc: Global, text: RcStr) -> Result<Value, AllocError>
         ensures { IfOk result (λ v. v ≡ text_of text) }

@@ -10,7 +10,7 @@ ghost use Rattle.tcl_values.specs.Shape.{elements, items_text, AreKept};
 
 use crate::element::{Element, Entry, Items};
 use crate::items::{add, depth_after};
-use crate::list::read_row;
+use crate::list_reading::read_row;
 use crate::value::{Held, Value};
 use std::alloc::Global;
 use std::rc::{Rc, RcStr};

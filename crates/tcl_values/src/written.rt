@@ -9,7 +9,7 @@ ghost use Rattle.tcl_values.specs.Shape.{elements, items_text, AreKept};
 use crate::digits::decimal_number;
 use crate::element::{Element, Entry, Items};
 use crate::items::deepest;
-use crate::list::words;
+use crate::list_reading::words;
 use crate::single::is_word;
 use crate::value::Held;
 use std::alloc::{AllocError, Global};

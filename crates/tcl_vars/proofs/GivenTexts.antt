@@ -1,12 +1,7 @@
--- Elements as texts, at a place.
-use Rattle.std.proofs.Common.{◌≡◌, ℕ, zero, suc, ◌≤◌, ◌<◌, List, [], ◌∷◌, length, get_or, Result, Ok, Err, IfOk, refl, sym, ap, ◌∙◌, arith}
+-- Elements as texts, at a place that there isn't.
+use Rattle.std.proofs.Common.{◌≡◌, ℕ, zero, suc, ◌≤◌, List, [], ◌∷◌, length, get_or, Result, Ok, Err, IfOk, refl, sym, ◌∙◌, arith}
 use Rattle.tcl_pages.specs.Texts.{Text}
 use Rattle.tcl_values.specs.Kept.{Kept, texts}
-
-pub element_there : (es : List Kept) (i : ℕ) (k : Kept) → i < length es → k ≡ get_or es i k → k.text ≡ get_or (texts es) i []
-element_there [] i k h e = absurd (omega arith)
-element_there (x ∷ es) zero k h e = ap (λ (z : Kept). z.text) e
-element_there (x ∷ es) (suc i) k h e = element_there es i k (omega arith) e
 
 nothing_there : (es : List Kept) (i : ℕ) → length es ≤ i → get_or (texts es) i [] ≡ []
 nothing_there [] zero h = refl

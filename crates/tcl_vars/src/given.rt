@@ -27,7 +27,7 @@ fn value_in(alloc: Global, values: &[Value], place: usize) -> Result<Value, Allo
 }
 
 // The element at a place, or the empty text.
-#[tactic(auto, using(crate::proofs::GivenTexts::element_there, crate::proofs::GivenTexts::element_nowhere))]
+#[tactic(auto, using(tcl_values::proofs::ElementTexts::text_at, crate::proofs::GivenTexts::element_nowhere))]
 fn element_in(alloc: Global, elements: &[Element], place: usize) -> Result<Value, AllocError>
     ensures { IfOk result (λ value. value ≡ get_or (texts elements.now) place []) }
 {

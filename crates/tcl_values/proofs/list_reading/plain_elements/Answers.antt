@@ -1,7 +1,7 @@
 use Rattle.std.proofs.Common.{arith}
 use Rattle.std.proofs.lemmas.Grind.{common_steps}
 use Rattle.tcl_values.proofs.Depths.{depth_plain}
-use Rattle.tcl_values.proofs.list.plain_elements.Goals as goal
+use Rattle.tcl_values.proofs.list_reading.plain_elements.Goals as goal
 
 pub loop-text-preserved : goal.loop-text-preserved
 loop-text-preserved c =
