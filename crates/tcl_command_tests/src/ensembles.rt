@@ -1,12 +1,27 @@
 //! Subcommands by their names, and what is said where there is none. Usages are what tclsh 8.6 says; the names to choose from are
 //! those that tclint has.
+use crate::pure::is_text;
 use std::alloc::{AllocError, Global};
 use tcl_meaning::{Ensemble, Page, SeenPage};
 use tcl_pages::{DictPage, PurePage, StringPage};
 use tcl_pure::{subcommand, subcommand_usage, unknown_subcommand};
 use tcl_steps::Completion;
 
-static NAMES: [(Ensemble, &str, Option<Page>); 8] = [
+/// An ensemble, a name, and the subcommand that it is.
+type Name = (Ensemble, &'static str, Option<Page>);
+
+/// The first name that is another subcommand.
+fn wrong_name(rows: &[Name]) -> Option<&'static str> {
+    for row in rows {
+        let (ensemble, name, wanted) = *row;
+        if subcommand(ensemble, name) != wanted {
+            return Some(name);
+        }
+    }
+    None
+}
+
+static NAMES: [Name; 8] = [
     (Ensemble::Array, "set", Some(Page::ArraySet)),
     (Ensemble::Array, "se", None),
     (Ensemble::Dict, "for", Some(Page::DictFor)),
@@ -27,24 +42,32 @@ static NAMES: [(Ensemble, &str, Option<Page>); 8] = [
 
 #[test]
 fn names(rt: HostRuntime) {
-    for row in &NAMES {
-        let (ensemble, name, wanted) = *row;
-        assert!(rt; subcommand(ensemble, name) == wanted, "{name}");
-    }
+    assert_eq!(rt; wrong_name(&NAMES), None);
 }
 
 /// Does the error say this?
 fn says(alloc: Global, error: Result<Completion, AllocError>, wanted: &str) -> bool {
-    let Ok(completion) = error else {
-        return false;
-    };
-    match completion.into_result().text(alloc) {
-        Ok(text) => text.as_str() == wanted,
+    match error {
+        Ok(completion) => is_text(alloc, completion.into_result(), wanted),
         Err(_) => false,
     }
 }
 
-static UNKNOWN: [(Ensemble, &str); 4] = [
+/// An ensemble, and what is said.
+type Said = (Ensemble, &'static str);
+
+/// The first text that isn't said of a subcommand that there isn't.
+fn wrong_unknown(alloc: Global, rows: &[Said]) -> Option<&'static str> {
+    for row in rows {
+        let (ensemble, wanted) = *row;
+        if !says(alloc, unknown_subcommand(alloc, ensemble, "x y"), wanted) {
+            return Some(wanted);
+        }
+    }
+    None
+}
+
+static UNKNOWN: [Said; 4] = [
     (
         Ensemble::Array,
         "unknown or ambiguous subcommand \"x y\": must be exists, get, names, set, size, or unset",
@@ -65,14 +88,21 @@ static UNKNOWN: [(Ensemble, &str); 4] = [
 
 #[test]
 fn unknown(rt: HostRuntime) {
-    for row in &UNKNOWN {
-        let (ensemble, wanted) = *row;
-        let error = unknown_subcommand(rt.alloc(), ensemble, "x y");
-        assert!(rt; says(rt.alloc(), error, wanted), "{wanted}");
-    }
+    assert_eq!(rt; wrong_unknown(rt.alloc(), &UNKNOWN), None);
 }
 
-static USAGES: [(Ensemble, &str); 4] = [
+/// The first text that isn't said of a subcommand that is missing.
+fn wrong_usage(alloc: Global, rows: &[Said]) -> Option<&'static str> {
+    for row in rows {
+        let (ensemble, wanted) = *row;
+        if !says(alloc, subcommand_usage(alloc, ensemble), wanted) {
+            return Some(wanted);
+        }
+    }
+    None
+}
+
+static USAGES: [Said; 4] = [
     (
         Ensemble::Array,
         "wrong # args: should be \"array subcommand ?arg ...?\"",
@@ -93,9 +123,5 @@ static USAGES: [(Ensemble, &str); 4] = [
 
 #[test]
 fn usages(rt: HostRuntime) {
-    for row in &USAGES {
-        let (ensemble, wanted) = *row;
-        let error = subcommand_usage(rt.alloc(), ensemble);
-        assert!(rt; says(rt.alloc(), error, wanted), "{wanted}");
-    }
+    assert_eq!(rt; wrong_usage(rt.alloc(), &USAGES), None);
 }

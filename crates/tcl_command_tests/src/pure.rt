@@ -1,13 +1,15 @@
 //! Commands that their words alone decide, by their pages: each once. Expected texts are what tclsh 8.6 answers.
-use std::alloc::Global;
+use std::alloc::{AllocError, Global};
 use std::rc::RcStr;
-use std::test::Fail;
 use tcl_chars::{Dialect, Fault};
 use tcl_pages::{DictPage, ListPage, PurePage, StringPage};
 use tcl_pure::pure_page;
 use tcl_values::Value;
 
-static ROWS: [(PurePage, &[&str], &str); 26] = [
+/// A page, its words, and what it says.
+type Row = (PurePage, &'static [&'static str], &'static str);
+
+static ROWS: [Row; 26] = [
     (PurePage::List(ListPage::Concat), &[" a ", "b c"], "a b c"),
     (PurePage::List(ListPage::Lindex), &["a b c", "end-1"], "b"),
     (
@@ -80,37 +82,53 @@ static ROWS: [(PurePage, &[&str], &str); 26] = [
     ),
 ];
 
-/// The words as values.
-fn values(alloc: Global, words: &[&str]) -> Result<Vec<Value>, Fault> {
-    let mut values = Vec::new(alloc);
+fn value(alloc: Global, text: &str) -> Result<Value, AllocError> {
+    Ok(Value::of_text(RcStr::from_str(alloc, text)?))
+}
+
+/// Adds the words as values.
+fn add_values(values: &mut Vec<Value>, alloc: Global, words: &[&str]) -> Result<(), AllocError> {
     for word in words {
-        values.push(Value::of_text(RcStr::from_str(alloc, word)?))?;
+        values.push(value(alloc, word)?)?;
     }
-    Ok(values)
+    Ok(())
 }
 
-/// What the page answers, or its error.
-fn said(alloc: Global, page: PurePage, words: &[&str]) -> Result<RcStr, Fault> {
-    let mut words = values(alloc, words)?;
-    match pure_page(alloc, Dialect::Tcl86, page, words.as_mut_slice()) {
-        Ok(mut value) => Ok(value.text(alloc)?),
-        Err(Fault::Error(message)) => Ok(message),
-        Err(Fault::Memory) => Err(Fault::Memory),
-    }
+fn answered(alloc: Global, page: PurePage, words: &[&str]) -> Result<Value, Fault> {
+    let mut values = Vec::new(alloc);
+    add_values(&mut values, alloc, words)?;
+    pure_page(alloc, Dialect::Tcl86, page, values.as_mut_slice())
 }
 
-/// Does the page say this?
-fn says(alloc: Global, page: PurePage, words: &[&str], wanted: &str) -> bool {
-    match said(alloc, page, words) {
+/// Is this the text of a value?
+pub(crate) fn is_text(alloc: Global, mut value: Value, wanted: &str) -> bool {
+    match value.text(alloc) {
         Ok(text) => text.as_str() == wanted,
         Err(_) => false,
     }
 }
 
+/// Is this the answer, or its error?
+fn says(alloc: Global, answer: Result<Value, Fault>, wanted: &str) -> bool {
+    match answer {
+        Ok(value) => is_text(alloc, value, wanted),
+        Err(Fault::Error(message)) => message.as_str() == wanted,
+        Err(Fault::Memory) => false,
+    }
+}
+
+/// What the first page should say that says something else.
+fn wrong(alloc: Global, rows: &[Row]) -> Option<&'static str> {
+    for row in rows {
+        let (page, words, wanted) = *row;
+        if !says(alloc, answered(alloc, page, words), wanted) {
+            return Some(wanted);
+        }
+    }
+    None
+}
+
 #[test]
 fn pages(rt: HostRuntime) {
-    for row in &ROWS {
-        let (page, words, wanted) = *row;
-        assert!(rt; says(rt.alloc(), page, words, wanted), "{wanted}");
-    }
+    assert_eq!(rt; wrong(rt.alloc(), &ROWS), None);
 }

@@ -4,4 +4,5 @@ mod depth;
 mod faults;
 mod large;
 mod show;
+mod texts;
 mod trees;

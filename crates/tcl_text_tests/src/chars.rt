@@ -1,4 +1,6 @@
 //! Answers from the language's manual.
+mod arithmetic;
+mod indices;
 mod numbers;
 mod sentences;
 mod texts;

@@ -2,6 +2,7 @@
 ghost use Rattle.std.specs.Prelude.{◌≡◌, ◌++◌, [], OnOk, Some};
 ghost use Rattle.tcl_chan.specs.Devices.{put_behind};
 
+use crate::answers::holds;
 use std::alloc::{AllocError, Global};
 use tcl_chan::device::{Input, Output};
 use tcl_chan::fault::{ChanFault, Out};
@@ -27,15 +28,19 @@ fn write_both<R: Input, W: Output, E: Output>(
     world.flush(Out::Stdout)
 }
 
-#[test]
-fn devices_end_as_the_world_leaves_them(rt: HostRuntime) -> Result<(), AllocError> {
-    let alloc = rt.alloc();
-    let mut input = MemoryInput::new(b"");
+/// Do both outputs hold what was written to them?
+fn both_hold(alloc: Global, out: &mut MemoryOutput, err: &mut MemoryOutput) -> bool {
+    let wrote = write_both(alloc, &mut MemoryInput::new(b""), out, err, "one", "two");
+    wrote.is_ok() && out.bytes() == b"one".as_slice() && err.bytes() == b"two".as_slice()
+}
+
+fn both_hold_in_memory(alloc: Global) -> Result<bool, AllocError> {
     let mut out = MemoryOutput::new(alloc, 9)?;
     let mut err = MemoryOutput::new(alloc, 9)?;
-    let wrote = write_both(alloc, &mut input, &mut out, &mut err, "one", "two");
-    assert!(rt; wrote.is_ok());
-    assert!(rt; out.bytes() == b"one".as_slice());
-    assert!(rt; err.bytes() == b"two".as_slice());
-    Ok(())
+    Ok(both_hold(alloc, &mut out, &mut err))
+}
+
+#[test]
+fn devices_end_as_the_world_leaves_them(rt: HostRuntime) {
+    assert!(rt; holds(both_hold_in_memory(rt.alloc())));
 }

@@ -1,4 +1,5 @@
 //! The devices by themselves.
+use crate::answers::is;
 use std::alloc::{AllocError, Global};
 use std::io::{self, ErrorKind, Read, Write};
 use tcl_chan::device::{Broken, Input, Output};
@@ -7,15 +8,20 @@ use tcl_chan::memory::{MemoryInput, MemoryOutput};
 use tcl_chan::pieces::OneByte;
 use tcl_chan::standard::{StandardInput, StandardOutput};
 
-/// What four reads of up to two bytes give, each with `;` behind it, or `!` where it failed, and the failures.
+/// Adds what a read of up to two bytes gives, with `;` behind it, or `!` where it failed.
+fn add_read<R: Input>(shown: &mut String, input: &mut R) -> Result<(), AllocError> {
+    let mut buffer = [0; 2];
+    match input.read(&mut buffer) {
+        Ok(size) => add_bytes(shown, &buffer, size),
+        Err(Broken) => shown.push('!'),
+    }
+}
+
+/// What four reads give, and the failures.
 fn reads<R: Input>(alloc: Global, input: &mut R) -> Result<String, AllocError> {
     let mut shown = String::new(alloc);
     for _ in 0..4u8 {
-        let mut buffer = [0; 2];
-        match input.read(&mut buffer) {
-            Ok(size) => add_bytes(&mut shown, &buffer, size)?,
-            Err(Broken) => shown.push('!')?,
-        }
+        add_read(&mut shown, input)?;
     }
     write!(shown, "{}", input.failures())?;
     Ok(shown)
@@ -28,21 +34,15 @@ fn add_bytes(shown: &mut String, buffer: &[u8], size: usize) -> Result<(), Alloc
     shown.push(';')
 }
 
-/// What writes of these texts answer, a flush where there is none: the sizes, `!` where a call failed, and the failures.
-fn writes<W: Output>(
-    alloc: Global,
-    output: &mut W,
-    texts: &[Option<&str>],
-) -> Result<String, AllocError> {
-    let mut shown = String::new(alloc);
-    for text in texts {
-        match text {
-            Some(text) => add_size(&mut shown, output.write(text.as_bytes()))?,
-            None => add_size(&mut shown, output.flush().map(|_| 0))?,
+/// Writes a text, or flushes where there is none.
+fn write<W: Output>(output: &mut W, text: Option<&str>) -> Result<usize, Broken> {
+    match text {
+        Some(text) => output.write(text.as_bytes()),
+        None => {
+            output.flush()?;
+            Ok(0)
         }
     }
-    write!(shown, "{}", output.failures())?;
-    Ok(shown)
 }
 
 fn add_size(shown: &mut String, size: Result<usize, Broken>) -> Result<(), AllocError> {
@@ -52,12 +52,18 @@ fn add_size(shown: &mut String, size: Result<usize, Broken>) -> Result<(), Alloc
     }
 }
 
-/// Is this the text that was made?
-fn is(made: Result<String, AllocError>, want: &str) -> bool {
-    match made {
-        Ok(text) => text.as_str() == want,
-        Err(_) => false,
+/// What writes of these texts answer, a flush where there is none: the sizes, `!` where a call failed, and the failures.
+fn writes<W: Output>(
+    alloc: Global,
+    output: &mut W,
+    texts: &[Option<&str>],
+) -> Result<String, AllocError> {
+    let mut shown = String::new(alloc);
+    for text in texts {
+        add_size(&mut shown, write(output, *text))?;
     }
+    write!(shown, "{}", output.failures())?;
+    Ok(shown)
 }
 
 #[test]
@@ -131,13 +137,18 @@ fn outputs_over_memory(rt: HostRuntime) {
     assert!(rt; is(passing(rt.alloc()), "!0;1"));
 }
 
+static STANDARD: [Option<&str>; 3] = [Some("ab"), Some(""), None];
+
 #[test]
 fn standard_outputs(rt: HostRuntime) {
-    let texts = [Some("ab"), Some(""), None];
     let mut output = StandardOutput::stdout(rt.stdout());
-    assert!(rt; is(writes(rt.alloc(), &mut output, &texts), "2;0;0;0"));
+    assert!(rt; is(writes(rt.alloc(), &mut output, &STANDARD), "2;0;0;0"));
+}
+
+#[test]
+fn standard_errors(rt: HostRuntime) {
     let mut errors = StandardOutput::stderr(rt.stderr());
-    assert!(rt; is(writes(rt.alloc(), &mut errors, &texts), "2;0;0;0"));
+    assert!(rt; is(writes(rt.alloc(), &mut errors, &STANDARD), "2;0;0;0"));
 }
 
 /// A stream of which every call is interrupted.
@@ -160,12 +171,18 @@ impl Write for Interrupted {
     }
 }
 
+static FAILING: [Option<&str>; 4] = [Some("ab"), Some("b"), Some(""), None];
+
+/// A device over a stream with room for a byte.
+fn full(alloc: Global) -> Result<String, AllocError> {
+    let mut room = [0; 1];
+    let mut output = StandardOutput::over(room.as_mut_slice());
+    writes(alloc, &mut output, &FAILING)
+}
+
 #[test]
 fn outputs_that_fail(rt: HostRuntime) {
-    let texts = [Some("ab"), Some("b"), Some(""), None];
     let mut output = StandardOutput::over(Interrupted);
-    assert!(rt; is(writes(rt.alloc(), &mut output, &texts), "!!!!4"));
-    let mut room = [0; 1];
-    let mut full = StandardOutput::over(room.as_mut_slice());
-    assert!(rt; is(writes(rt.alloc(), &mut full, &texts), "1;!0;0;1"));
+    assert!(rt; is(writes(rt.alloc(), &mut output, &FAILING), "!!!!4"));
+    assert!(rt; is(full(rt.alloc()), "1;!0;0;1"));
 }

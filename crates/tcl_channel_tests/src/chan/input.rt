@@ -1,6 +1,7 @@
 //! Rows of input: the bytes, and what the calls answer, over a device that gives all it has, over one that gives a byte a
 //! call, and over those that cut at one place.
 use super::cuts::{CutInput, Resuming};
+use crate::answers::is;
 use std::alloc::{AllocError, Global};
 use std::rc::RcStr;
 use std::string::String;
@@ -69,10 +70,7 @@ fn answers<R: Input>(alloc: Global, input: &mut R, asks: &[Ask]) -> Result<Strin
 
 /// Do the calls answer this?
 fn answer_is<R: Input>(alloc: Global, input: &mut R, asks: &[Ask], want: &str) -> bool {
-    match answers(alloc, input, asks) {
-        Ok(text) => text.as_str() == want,
-        Err(_) => false,
-    }
+    is(answers(alloc, input, asks), want)
 }
 
 /// The places at which the input, cut there, is not answered so.
@@ -98,45 +96,64 @@ fn agrees(alloc: Global, bytes: &[u8], asks: &[Ask], want: &str) -> bool {
         && wrong_cut(alloc, bytes, asks, want).is_none()
 }
 
-/// What four calls of `gets` answer.
-static LINES: [(&[u8], &str); 17] = [
-    (b"a\r\nb", "a;b!none!none!"),
-    (b"\xFF\n", "\u{FFFD};none!none!none!"),
+/// Bytes, calls, and what these answer.
+type Row = (&'static [u8], &'static [Ask], &'static str);
+
+/// What should have been the first answers that are others.
+fn wrongly_answered(alloc: Global, rows: &[Row]) -> Option<&'static str> {
+    for row in rows {
+        let (bytes, asks, want) = *row;
+        if !agrees(alloc, bytes, asks, want) {
+            return Some(want);
+        }
+    }
+    None
+}
+
+const FOUR_LINES: &[Ask] = &[Ask::Line; 4];
+
+static LINES: [Row; 17] = [
+    (b"a\r\nb", FOUR_LINES, "a;b!none!none!"),
+    (b"\xFF\n", FOUR_LINES, "\u{FFFD};none!none!none!"),
     (
         b"\xE2\x82\x41\xF0\x80\x80\n",
+        FOUR_LINES,
         "\u{FFFD}A\u{FFFD}\u{FFFD}\u{FFFD};none!none!none!",
     ),
-    (b"a\r", "a\r!none!none!none!"),
-    (b"a\r\r\nb\n", "a\r;b;none!none!"),
-    (b"\ra\n", "\ra;none!none!none!"),
-    (b"\r", "\r!none!none!none!"),
-    (b"\xE2\x82\xAC\r\n", "\u{20AC};none!none!none!"),
-    (b"\xE2\n\xE2\x82\n", "\u{FFFD};\u{FFFD};none!none!"),
-    (b"\xF0\x80\x80", "\u{FFFD}\u{FFFD}\u{FFFD}!none!none!none!"),
-    (b"\r\n\r\n\n", ";;;none!"),
-    (b"\xE2\x82", "\u{FFFD}!none!none!none!"),
+    (b"a\r", FOUR_LINES, "a\r!none!none!none!"),
+    (b"a\r\r\nb\n", FOUR_LINES, "a\r;b;none!none!"),
+    (b"\ra\n", FOUR_LINES, "\ra;none!none!none!"),
+    (b"\r", FOUR_LINES, "\r!none!none!none!"),
+    (b"\xE2\x82\xAC\r\n", FOUR_LINES, "\u{20AC};none!none!none!"),
+    (
+        b"\xE2\n\xE2\x82\n",
+        FOUR_LINES,
+        "\u{FFFD};\u{FFFD};none!none!",
+    ),
+    (
+        b"\xF0\x80\x80",
+        FOUR_LINES,
+        "\u{FFFD}\u{FFFD}\u{FFFD}!none!none!none!",
+    ),
+    (b"\r\n\r\n\n", FOUR_LINES, ";;;none!"),
+    (b"\xE2\x82", FOUR_LINES, "\u{FFFD}!none!none!none!"),
     (
         b"\xF0\x9F\x98\x80\xF0\x9F\x98\n\xF0\x9F\nx",
+        FOUR_LINES,
         "\u{1F600}\u{FFFD};\u{FFFD};x!none!",
     ),
-    (b"\xEF\xBB\xBFa\n", "\u{FEFF}a;none!none!none!"),
-    (b"", "none!none!none!none!"),
-    (b"a\0b\n", "a\0b;none!none!none!"),
-    (b"a\nb\nc\nd\n", "a;b;c;d;"),
+    (b"\xEF\xBB\xBFa\n", FOUR_LINES, "\u{FEFF}a;none!none!none!"),
+    (b"", FOUR_LINES, "none!none!none!none!"),
+    (b"a\0b\n", FOUR_LINES, "a\0b;none!none!none!"),
+    (b"a\nb\nc\nd\n", FOUR_LINES, "a;b;c;d;"),
 ];
 
 #[test]
 fn lines_of_rows(rt: HostRuntime) {
-    for row in &LINES {
-        assert!(rt;
-            agrees(rt.alloc(), row.0, &[Ask::Line; 4], row.1),
-            "{}",
-            row.1
-        );
-    }
+    assert_eq!(rt; wrongly_answered(rt.alloc(), &LINES), None);
 }
 
-static TEXTS: [(&[u8], &[Ask], &str); 16] = [
+static TEXTS: [Row; 16] = [
     (
         b"abcd",
         &[Ask::Chars(3), Ask::Chars(0), Ask::Chars(9)],
@@ -209,9 +226,7 @@ static TEXTS: [(&[u8], &[Ask], &str); 16] = [
 
 #[test]
 fn texts_of_rows(rt: HostRuntime) {
-    for row in &TEXTS {
-        assert!(rt; agrees(rt.alloc(), row.0, row.1, row.2), "{}", row.2);
-    }
+    assert_eq!(rt; wrongly_answered(rt.alloc(), &TEXTS), None);
 }
 
 #[test]
@@ -236,19 +251,28 @@ fn after_a_fault_the_input_is_as_it_was(rt: HostRuntime) {
 }
 
 /// Standard input with bytes in place of the process's own.
-#[test]
-fn standard_input_gives_its_bytes(rt: HostRuntime) {
-    let mut input = StandardInput::new(b"ab\r\n\xFF\nc".as_slice());
-    let lines = [Ask::Line; 4];
-    assert!(rt; answer_is(rt.alloc(), &mut input, &lines, "ab;\u{FFFD};c!none!"));
-    let mut input = OneByte::new(StandardInput::new(b"a\r\n\xE2\x82\xACb".as_slice()));
-    let texts = [Ask::Chars(2), Ask::Chars(1), Ask::All];
-    assert!(rt; answer_is(rt.alloc(), &mut input, &texts, "a\n;\u{20AC};b!"));
-    assert!(rt; input.failures() == 0);
+fn lines_are(alloc: Global, bytes: &[u8], want: &str) -> bool {
+    answer_is(alloc, &mut StandardInput::new(bytes), FOUR_LINES, want)
 }
 
-/// Rows of bytes of which one read of a terminal gives the front, and another one would not return: it fails here.
-static ENOUGH: [(&[u8], usize, Ask, &str); 18] = [
+/// The same, a byte a call, with texts in place of lines.
+fn texts_are(alloc: Global, bytes: &[u8], want: &str) -> bool {
+    let mut input = OneByte::new(StandardInput::new(bytes));
+    let texts = [Ask::Chars(2), Ask::Chars(1), Ask::All];
+    answer_is(alloc, &mut input, &texts, want) && input.failures() == 0
+}
+
+#[test]
+fn standard_input_gives_its_bytes(rt: HostRuntime) {
+    assert!(rt; lines_are(rt.alloc(), b"ab\r\n\xFF\nc", "ab;\u{FFFD};c!none!"));
+    assert!(rt; texts_are(rt.alloc(), b"a\r\n\xE2\x82\xACb", "a\n;\u{20AC};b!"));
+}
+
+/// Bytes, how many of them one read of a terminal gives, a call, and what it answers.
+type Enough = (&'static [u8], usize, Ask, &'static str);
+
+/// Another read would not return: it fails here.
+static ENOUGH: [Enough; 18] = [
     (b"ab\ncd\n", 3, Ask::Line, "ab;"),
     (b"ab\ncd\n", 5, Ask::Line, "ab;"),
     (b"ab\r\ncd\n", 4, Ask::Line, "ab;"),
@@ -269,28 +293,47 @@ static ENOUGH: [(&[u8], usize, Ask, &str); 18] = [
     (b"\xE2\x82\xAC", 3, Ask::Chars(1), "\u{20AC};"),
 ];
 
-#[test]
-fn no_more_is_asked_than_needed(rt: HostRuntime) {
-    for row in &ENOUGH {
+/// What should have been the first answer that is another one.
+fn not_enough(alloc: Global, rows: &[Enough]) -> Option<&'static str> {
+    for row in rows {
         let (bytes, front, ask, want) = *row;
         let inner = MemoryInput::new(bytes);
         let mut input = FaultyInput::new(CutInput { inner, front }, 2);
-        assert!(rt; answer_is(rt.alloc(), &mut input, &[ask], want), "{want}");
+        if !answer_is(alloc, &mut input, &[ask], want) {
+            return Some(want);
+        }
     }
+    None
+}
+
+#[test]
+fn no_more_is_asked_than_needed(rt: HostRuntime) {
+    assert_eq!(rt; not_enough(rt.alloc(), &ENOUGH), None);
+}
+
+/// The first bytes of which no other read is asked for.
+fn enough(alloc: Global, rows: &[(&'static [u8], Ask)]) -> Option<&'static [u8]> {
+    for row in rows {
+        let (bytes, ask) = *row;
+        let mut input = FaultyInput::new(MemoryInput::new(bytes), 2);
+        if !answer_is(alloc, &mut input, &[ask], "can't read the input;") {
+            return Some(bytes);
+        }
+    }
+    None
 }
 
 /// Rows of bytes that what follows may change: another read is asked for.
+static NOT_ENOUGH: [(&[u8], Ask); 6] = [
+    (b"ab", Ask::Line),
+    (b"ab\r", Ask::Line),
+    (b"ab", Ask::Chars(3)),
+    (b"\r", Ask::Chars(1)),
+    (b"\xE2\x82", Ask::Chars(1)),
+    (b"\xF0\x9F\x98", Ask::Chars(1)),
+];
+
 #[test]
 fn more_is_asked_where_it_is_needed(rt: HostRuntime) {
-    for (bytes, ask) in [
-        (b"ab".as_slice(), Ask::Line),
-        (b"ab\r", Ask::Line),
-        (b"ab", Ask::Chars(3)),
-        (b"\r", Ask::Chars(1)),
-        (b"\xE2\x82", Ask::Chars(1)),
-        (b"\xF0\x9F\x98", Ask::Chars(1)),
-    ] {
-        let mut input = FaultyInput::new(MemoryInput::new(bytes), 2);
-        assert!(rt; answer_is(rt.alloc(), &mut input, &[ask], "can't read the input;"));
-    }
+    assert!(rt; enough(rt.alloc(), &NOT_ENOUGH).is_none());
 }

@@ -1,5 +1,6 @@
 //! Many calls, and long texts.
 use super::input::{Ask, answer};
+use crate::answers::holds;
 use std::alloc::{AllocError, Global};
 use tcl_chan::device::{Input, Output};
 use tcl_chan::fault::{ChanFault, Out};
@@ -40,29 +41,55 @@ fn takes<R: Input, W: Output, E: Output>(
     put_often(&mut world, text, times).is_ok()
 }
 
-#[test]
-fn a_thousand_texts(rt: HostRuntime) -> Result<(), AllocError> {
-    let alloc = rt.alloc();
-    let mut input = MemoryInput::new(b"");
-    let mut out = MemoryOutput::new(alloc, 5000)?;
+/// Does an output take the text so often, while there is no room for errors?
+fn takes_alone<W: Output>(
+    alloc: Global,
+    out: &mut W,
+    text: &str,
+    times: u32,
+) -> Result<bool, AllocError> {
     let mut err = MemoryOutput::new(alloc, 0)?;
-    assert!(rt; takes(alloc, &mut input, &mut out, &mut err, "four\n", 1000));
-    assert!(rt; out.bytes().len() == 5000);
-    assert!(rt; out.bytes().ends_with(b"four\nfour\n"));
-    Ok(())
+    Ok(takes(
+        alloc,
+        &mut MemoryInput::new(b""),
+        out,
+        &mut err,
+        text,
+        times,
+    ))
+}
+
+/// Are there so many bytes, with this end?
+fn end_so(bytes: &[u8], length: usize, end: &str) -> bool {
+    bytes.len() == length && bytes.ends_with(end.as_bytes())
+}
+
+fn thousand_taken(alloc: Global) -> Result<bool, AllocError> {
+    let mut out = MemoryOutput::new(alloc, 5000)?;
+    let taken = takes_alone(alloc, &mut out, "four\n", 1000)?;
+    Ok(taken && end_so(out.bytes(), 5000, "four\nfour\n"))
 }
 
 #[test]
-fn a_long_text(rt: HostRuntime) -> Result<(), AllocError> {
-    let alloc = rt.alloc();
-    let text = repeated(alloc, "é", 50_000)?;
-    let mut input = MemoryInput::new(b"");
+fn a_thousand_texts(rt: HostRuntime) {
+    assert!(rt; holds(thousand_taken(rt.alloc())));
+}
+
+/// Does a device that takes a byte a call take the text twice?
+fn taken_twice(alloc: Global, text: &str) -> Result<bool, AllocError> {
     let mut out = OneByte::new(MemoryOutput::new(alloc, 200_000)?);
-    let mut err = MemoryOutput::new(alloc, 0)?;
-    assert!(rt; takes(alloc, &mut input, &mut out, &mut err, &text, 2));
-    assert!(rt; out.inner().bytes().len() == 200_000);
-    assert!(rt; out.inner().bytes().ends_with(text.as_bytes()));
-    Ok(())
+    let taken = takes_alone(alloc, &mut out, text, 2)?;
+    Ok(taken && end_so(out.inner().bytes(), 200_000, text))
+}
+
+fn long_taken(alloc: Global) -> Result<bool, AllocError> {
+    let text = repeated(alloc, "é", 50_000)?;
+    taken_twice(alloc, &text)
+}
+
+#[test]
+fn a_long_text(rt: HostRuntime) {
+    assert!(rt; holds(long_taken(rt.alloc())));
 }
 
 /// How many bytes `calls` calls answer.
@@ -81,6 +108,29 @@ fn size<R: Input, W: Output, E: Output>(
 }
 
 /// How many bytes `calls` calls answer, and how many all the rest has.
+fn both_sizes<R: Input, W: Output, E: Output>(
+    world: &mut World<'_, '_, '_, R, W, E>,
+    ask: Ask,
+    calls: u32,
+) -> Result<(usize, usize), ChanFault> {
+    let size = size(world, ask, calls)?;
+    Ok((size, world.read(None)?.len()))
+}
+
+/// The same, of an input beside these outputs.
+fn sizes_beside<R: Input, W: Output, E: Output>(
+    alloc: Global,
+    input: &mut R,
+    out: &mut W,
+    err: &mut E,
+    ask: Ask,
+    calls: u32,
+) -> Result<(usize, usize), ChanFault> {
+    let mut world = World::new(alloc, input, out, err);
+    both_sizes(&mut world, ask, calls)
+}
+
+/// The same, of an input beside outputs that have no room.
 fn sizes<R: Input>(
     alloc: Global,
     input: &mut R,
@@ -89,9 +139,7 @@ fn sizes<R: Input>(
 ) -> Result<(usize, usize), ChanFault> {
     let mut out = MemoryOutput::new(alloc, 0)?;
     let mut err = MemoryOutput::new(alloc, 0)?;
-    let mut world = World::new(alloc, input, &mut out, &mut err);
-    let size = size(&mut world, ask, calls)?;
-    Ok((size, world.read(None)?.len()))
+    sizes_beside(alloc, input, &mut out, &mut err, ask, calls)
 }
 
 /// Are these the sizes, whether the bytes come together or one by one?
@@ -105,19 +153,40 @@ fn sizes_are(alloc: Global, bytes: &[u8], ask: Ask, calls: u32, want: (usize, us
         ) == Ok(want)
 }
 
-#[test]
-fn thousands_are_read(rt: HostRuntime) -> Result<(), AllocError> {
-    let text = repeated(rt.alloc(), "\u{E9}ab\r\n", 5000)?;
-    let bytes = text.as_bytes();
-    assert!(rt; sizes_are(rt.alloc(), bytes, Ask::Line, 5000, (20_000, 0)));
-    assert!(rt; sizes_are(rt.alloc(), bytes, Ask::Line, 4000, (16_000, 5000)));
-    assert!(rt; sizes_are(rt.alloc(), bytes, Ask::Chars(1), 1000, (1250, 23_750)));
-    Ok(())
+/// A kind of call, how many calls, and the sizes.
+type Sized = (Ask, u32, (usize, usize));
+
+/// How many calls answer other sizes, by the first row of which they do.
+fn wrongly_sized(alloc: Global, bytes: &[u8], rows: &[Sized]) -> Option<u32> {
+    for row in rows {
+        let (ask, calls, want) = *row;
+        if !sizes_are(alloc, bytes, ask, calls, want) {
+            return Some(calls);
+        }
+    }
+    None
 }
 
+/// Are all sizes right of a part that is repeated?
+fn sized(alloc: Global, part: &str, times: u32, rows: &[Sized]) -> Result<bool, AllocError> {
+    let text = repeated(alloc, part, times)?;
+    Ok(wrongly_sized(alloc, text.as_bytes(), rows).is_none())
+}
+
+static THOUSANDS: [Sized; 3] = [
+    (Ask::Line, 5000, (20_000, 0)),
+    (Ask::Line, 4000, (16_000, 5000)),
+    (Ask::Chars(1), 1000, (1250, 23_750)),
+];
+
 #[test]
-fn long_lines(rt: HostRuntime) -> Result<(), AllocError> {
-    let text = repeated(rt.alloc(), "\u{E9}ab", 50_000)?;
-    assert!(rt; sizes_are(rt.alloc(), text.as_bytes(), Ask::Line, 1, (200_000, 0)));
-    Ok(())
+fn thousands_are_read(rt: HostRuntime) {
+    assert!(rt; holds(sized(rt.alloc(), "\u{E9}ab\r\n", 5000, &THOUSANDS)));
+}
+
+static LONG: [Sized; 1] = [(Ask::Line, 1, (200_000, 0))];
+
+#[test]
+fn long_lines(rt: HostRuntime) {
+    assert!(rt; holds(sized(rt.alloc(), "\u{E9}ab", 50_000, &LONG)));
 }

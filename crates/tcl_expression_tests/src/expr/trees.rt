@@ -1,6 +1,7 @@
 //! Texts that are expressions. The trees are those of the table of operators in expr(n).
 
-use super::show::{parses, wrong};
+use super::show::{made_parses, wrong};
+use super::texts::filled;
 use std::alloc::{AllocError, Global};
 
 static OPERANDS: [(&str, &str); 20] = [
@@ -134,7 +135,7 @@ fn calls(rt: HostRuntime) {
 }
 
 // The operators that group from the left, one line a level, the tightest first. expr(n), Operators.
-const LEVELS: [(&str, u8); 22] = [
+static LEVELS: [(&str, u8); 22] = [
     ("*", 2),
     ("/", 2),
     ("%", 2),
@@ -159,24 +160,40 @@ const LEVELS: [(&str, u8); 22] = [
     ("||", 13),
 ];
 
+/// A text and its tree with operators in place of `@` and `#`: does the text parse as the tree?
+fn stands(alloc: Global, pattern: (&str, &str), operator: &str, other: &str) -> bool {
+    let (text, tree) = pattern;
+    match filled(alloc, tree, operator, other) {
+        Ok(tree) => made_parses(alloc, filled(alloc, text, operator, other), &tree),
+        Err(_) => false,
+    }
+}
+
 /// Two operators beside each other, and the tree that they make.
-fn beside(alloc: Global, left: (&str, u8), right: (&str, u8)) -> Result<bool, AllocError> {
-    let (op, level) = left;
-    let (other, below) = right;
-    let text = format!(in alloc; "1 {op} 2 {other} 3")?;
-    let want = if level <= below {
-        format!(in alloc; "((1 {op} 2) {other} 3)")?
+fn beside(alloc: Global, left: (&str, u8), right: (&str, u8)) -> bool {
+    let tree = if left.1 <= right.1 {
+        "((1 @ 2) # 3)"
     } else {
-        format!(in alloc; "(1 {op} (2 {other} 3))")?
+        "(1 @ (2 # 3))"
     };
-    Ok(parses(alloc, &text, &want))
+    stands(alloc, ("1 @ 2 # 3", tree), left.0, right.0)
 }
 
 /// The operator beside which this one stands otherwise than by its level.
 fn wrong_beside(alloc: Global, left: (&'static str, u8)) -> Option<&'static str> {
-    for right in LEVELS {
-        if beside(alloc, left, right) != Ok(true) {
+    for right in &LEVELS {
+        if !beside(alloc, left, *right) {
             return Some(right.0);
+        }
+    }
+    None
+}
+
+/// The first operator that stands otherwise beside one of them.
+fn wrong_operator(alloc: Global) -> Option<&'static str> {
+    for left in &LEVELS {
+        if wrong_beside(alloc, *left).is_some() {
+            return Some(left.0);
         }
     }
     None
@@ -184,32 +201,38 @@ fn wrong_beside(alloc: Global, left: (&'static str, u8)) -> Option<&'static str>
 
 #[test]
 fn each_operator_beside_each(rt: HostRuntime) {
-    for left in LEVELS {
-        assert!(rt; wrong_beside(rt.alloc(), left).is_none(), "{}", left.0);
-    }
+    assert_eq!(rt; wrong_operator(rt.alloc()), None);
 }
 
-/// An operator in place of each `@` of a text, and of its tree.
-fn stands(alloc: Global, op: &str, text: &str, tree: &str) -> Result<bool, AllocError> {
-    let text = text.replace(alloc, "@", op)?;
-    let tree = tree.replace(alloc, "@", op)?;
-    Ok(parses(alloc, &text, &tree))
+static BESIDE_THE_OTHERS: [(&str, &str); 5] = [
+    ("1 @ 2 ** 3", "(1 @ (2 ** 3))"),
+    ("1 ** 2 @ 3", "((1 ** 2) @ 3)"),
+    ("! 1 @ ~ 2", "((! 1) @ (~ 2))"),
+    ("1 @ 2 ? 3 @ 4 : 5 @ 6", "((1 @ 2) ? (3 @ 4) : (5 @ 6))"),
+    ("1 @ (2 @ 3)", "(1 @ ((2 @ 3)))"),
+];
+
+/// The first operator in place of each `@` whose text is parsed otherwise.
+fn wrong_in(alloc: Global, pattern: (&'static str, &'static str)) -> Option<&'static str> {
+    for level in &LEVELS {
+        if !stands(alloc, pattern, level.0, "") {
+            return Some(level.0);
+        }
+    }
+    None
+}
+
+/// The first pattern that is parsed otherwise with one of the operators.
+fn wrong_pattern(alloc: Global, patterns: &[(&'static str, &'static str)]) -> Option<&'static str> {
+    for pattern in patterns {
+        if wrong_in(alloc, *pattern).is_some() {
+            return Some(pattern.0);
+        }
+    }
+    None
 }
 
 #[test]
 fn each_operator_beside_the_others(rt: HostRuntime) {
-    for (text, tree) in [
-        ("1 @ 2 ** 3", "(1 @ (2 ** 3))"),
-        ("1 ** 2 @ 3", "((1 ** 2) @ 3)"),
-        ("! 1 @ ~ 2", "((! 1) @ (~ 2))"),
-        ("1 @ 2 ? 3 @ 4 : 5 @ 6", "((1 @ 2) ? (3 @ 4) : (5 @ 6))"),
-        ("1 @ (2 @ 3)", "(1 @ ((2 @ 3)))"),
-    ] {
-        for (op, _) in LEVELS {
-            assert!(rt;
-                stands(rt.alloc(), op, text, tree) == Ok(true),
-                "{op} in {text}"
-            );
-        }
-    }
+    assert_eq!(rt; wrong_pattern(rt.alloc(), &BESIDE_THE_OTHERS), None);
 }

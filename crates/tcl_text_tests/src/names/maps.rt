@@ -1,13 +1,18 @@
 //! Maps from a few names, one of which isn't ASCII, and from many.
+use crate::answers::{holds, is, repeated};
 use std::alloc::{AllocError, Global};
 use std::rc::RcStr;
 use tcl_names::NameMap;
 
-fn letters(alloc: Global) -> Result<NameMap<u8>, AllocError> {
-    let mut letters = NameMap::new(alloc);
+fn add_letters(letters: &mut NameMap<u8>, alloc: Global) -> Result<(), AllocError> {
     letters.insert(alloc, "b", 2)?;
     letters.insert(alloc, "ä", 3)?;
-    letters.insert(alloc, "a", 1)?;
+    letters.insert(alloc, "a", 1)
+}
+
+fn letters(alloc: Global) -> Result<NameMap<u8>, AllocError> {
+    let mut letters = NameMap::new(alloc);
+    add_letters(&mut letters, alloc)?;
     Ok(letters)
 }
 
@@ -37,12 +42,22 @@ fn push_entry(said: &mut String, name: &RcStr, value: u8) -> Result<(), AllocErr
     said.push(char::from(b'0' + value % 10))
 }
 
+fn push_entries(said: &mut String, entries: &[(RcStr, &u8)]) -> Result<(), AllocError> {
+    for entry in entries {
+        push_entry(said, &entry.0, *entry.1)?;
+    }
+    Ok(())
+}
+
+fn push_all(said: &mut String, alloc: Global, letters: &NameMap<u8>) -> Result<(), AllocError> {
+    let entries = letters.entries(alloc)?;
+    push_entries(said, entries.as_slice())
+}
+
 /// The names and the values, one behind another.
 fn entries(alloc: Global, letters: &NameMap<u8>) -> Result<String, AllocError> {
     let mut said = String::new(alloc);
-    for (name, value) in letters.entries(alloc)? {
-        push_entry(&mut said, &name, *value)?;
-    }
+    push_all(&mut said, alloc, letters)?;
     Ok(said)
 }
 
@@ -55,45 +70,83 @@ fn walked(alloc: Global, letters: &NameMap<u8>) -> Result<String, AllocError> {
     Ok(said)
 }
 
-/// Is this the text that was made?
-fn is(made: Result<String, AllocError>, want: &str) -> bool {
-    match made {
-        Ok(text) => text.as_str() == want,
-        Err(_) => false,
-    }
+/// Do the letters come so, in each way?
+fn come_in_order(alloc: Global, letters: &NameMap<u8>) -> bool {
+    letters.len() == 3
+        && is(names(alloc, letters), "abä")
+        && is(entries(alloc, letters), "a1b2ä3")
+        && is(walked(alloc, letters), "a1b2ä3")
 }
 
-#[test]
-fn names_come_by_code_point(rt: HostRuntime) -> Result<(), AllocError> {
-    let alloc = rt.alloc();
+fn letters_come_in_order(alloc: Global) -> Result<bool, AllocError> {
     let letters = letters(alloc)?;
-    assert!(rt; letters.len() == 3);
-    assert!(rt; is(names(alloc, &letters), "abä"));
-    assert!(rt; is(entries(alloc, &letters), "a1b2ä3"));
-    assert!(rt; is(walked(alloc, &letters), "a1b2ä3"));
-    Ok(())
+    Ok(come_in_order(alloc, &letters))
 }
 
 #[test]
-fn values_are_found_and_changed(rt: HostRuntime) -> Result<(), AllocError> {
-    let alloc = rt.alloc();
+fn names_come_by_code_point(rt: HostRuntime) {
+    assert!(rt; holds(letters_come_in_order(rt.alloc())));
+}
+
+/// A name, and what it stands for, if it stands for something.
+type Found = (&'static str, Option<u8>);
+
+/// The first name that stands for something else.
+fn wrongly_found(letters: &NameMap<u8>, rows: &[Found]) -> Option<&'static str> {
+    for row in rows {
+        let (name, want) = *row;
+        if letters.get(name).copied() != want {
+            return Some(name);
+        }
+    }
+    None
+}
+
+/// The first name of which something else is removed.
+fn wrongly_removed(letters: &mut NameMap<u8>, rows: &[Found]) -> Option<&'static str> {
+    for row in rows {
+        let (name, want) = *row;
+        if letters.remove(name) != want {
+            return Some(name);
+        }
+    }
+    None
+}
+
+static FOUND: [Found; 2] = [("b", Some(7)), ("ä", None)];
+
+static REMOVED: [Found; 2] = [("a", Some(9)), ("a", None)];
+
+/// Do the changed letters stand for what they have become, until they are removed?
+fn stand_so(alloc: Global, letters: &mut NameMap<u8>) -> bool {
+    letters.len() == 2
+        && wrongly_found(letters, &FOUND).is_none()
+        && letters.get_mut("c").is_none()
+        && is(walked(alloc, letters), "a9b7")
+        && wrongly_removed(letters, &REMOVED).is_none()
+}
+
+fn changed_stand_so(alloc: Global) -> Result<bool, AllocError> {
     let mut letters = changed(alloc)?;
-    assert!(rt; letters.len() == 2);
-    assert!(rt; letters.get("b").copied() == Some(7));
-    assert!(rt; letters.get("ä").is_none());
-    assert!(rt; letters.get_mut("c").is_none());
-    assert!(rt; is(walked(alloc, &letters), "a9b7"));
-    assert!(rt; letters.remove("a") == Some(9));
-    assert!(rt; letters.remove("a").is_none());
-    Ok(())
+    Ok(stand_so(alloc, &mut letters))
+}
+
+#[test]
+fn values_are_found_and_changed(rt: HostRuntime) {
+    assert!(rt; holds(changed_stand_so(rt.alloc())));
+}
+
+/// Gives a number its name: the distance from 1999.
+fn add_number(map: &mut NameMap<u32>, alloc: Global, number: u32) -> Result<(), AllocError> {
+    let name = format!(in alloc; "n{}", 1999u32.wrapping_sub(number))?;
+    map.insert(alloc, &name, number)
 }
 
 /// The names `n1000` to `n1999`, the last one first, each with its distance from the last.
 fn numbered(alloc: Global) -> Result<NameMap<u32>, AllocError> {
     let mut map = NameMap::new(alloc);
     for number in 0..1000u32 {
-        let name = format!(in alloc; "n{}", 1999 - number)?;
-        map.insert(alloc, &name, number)?;
+        add_number(&mut map, alloc, number)?;
     }
     Ok(map)
 }
@@ -110,23 +163,20 @@ fn counts_down(map: &NameMap<u32>, first: u32) -> bool {
     true
 }
 
-#[test]
-fn a_thousand_names(rt: HostRuntime) -> Result<(), AllocError> {
-    let map = numbered(rt.alloc())?;
-    assert!(rt; map.len() == 1000);
-    assert!(rt; counts_down(&map, 999));
-    assert!(rt; map.names(rt.alloc())?.len() == 1000);
-    assert!(rt; map.get("n1500").copied() == Some(499));
-    Ok(())
+fn numbers_stand_so(alloc: Global) -> Result<bool, AllocError> {
+    let map = numbered(alloc)?;
+    let names = map.names(alloc)?.len();
+    Ok(
+        map.len() == 1000
+            && counts_down(&map, 999)
+            && names == 1000
+            && map.get("n1500").copied() == Some(499),
+    )
 }
 
-/// A letter, repeated `times` times.
-fn long(alloc: Global, times: u32) -> Result<String, AllocError> {
-    let mut name = String::new(alloc);
-    for _ in 0..times {
-        name.push('é')?;
-    }
-    Ok(name)
+#[test]
+fn a_thousand_names(rt: HostRuntime) {
+    assert!(rt; holds(numbers_stand_so(rt.alloc())));
 }
 
 /// What a map says of its only name.
@@ -136,9 +186,13 @@ fn kept(alloc: Global, name: &str) -> Result<Option<u8>, AllocError> {
     Ok(map.get(name).copied())
 }
 
+/// What a map says of a part that is repeated as its only name.
+fn long_kept(alloc: Global, part: &str, times: u32) -> Result<Option<u8>, AllocError> {
+    let name = repeated(alloc, part, times)?;
+    kept(alloc, &name)
+}
+
 #[test]
-fn a_long_name(rt: HostRuntime) -> Result<(), AllocError> {
-    let name = long(rt.alloc(), 100_000)?;
-    assert!(rt; matches!(kept(rt.alloc(), &name), Ok(Some(1))));
-    Ok(())
+fn a_long_name(rt: HostRuntime) {
+    assert!(rt; matches!(long_kept(rt.alloc(), "é", 100_000), Ok(Some(1))));
 }

@@ -1,12 +1,7 @@
 //! First commands of whole texts, by the manual's rules.
-use super::shown::{is, shown};
-use std::alloc::{AllocError, Global};
-use tcl_words::parse_first;
-
-fn first(alloc: Global, text: &str) -> Result<String, AllocError> {
-    let parsed = parse_first(alloc, text, 200)?;
-    shown(alloc, &parsed)
-}
+use super::shown::first;
+use crate::answers::is;
+use std::alloc::Global;
 
 /// The first row whose text is shown otherwise.
 fn wrong(alloc: Global, rows: &[(&'static str, &'static str)]) -> Option<&'static str> {

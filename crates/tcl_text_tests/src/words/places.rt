@@ -1,5 +1,6 @@
 //! Commands from a place on, operands, and whether a text is complete.
-use super::shown::{is, operand_shown, shown};
+use super::shown::{operand_shown, shown};
+use crate::answers::is;
 use std::alloc::{AllocError, Global};
 use tcl_words::{begins_operand, is_complete, parse_command, parse_operand};
 
@@ -112,11 +113,21 @@ fn operands(rt: HostRuntime) {
     }
 }
 
+/// The first text that begins with an operand.
+fn beginning(texts: &[&'static str]) -> Option<&'static str> {
+    for text in texts {
+        if begins_operand(text) {
+            return Some(*text);
+        }
+    }
+    None
+}
+
+static NO_OPERANDS: [&str; 8] = ["", "a", "1", "$", "$:a", "$.", "]", "}"];
+
 #[test]
 fn no_operands(rt: HostRuntime) {
-    for text in ["", "a", "1", "$", "$:a", "$.", "]", "}"] {
-        assert!(rt; !begins_operand(text), "{text}");
-    }
+    assert_eq!(rt; beginning(&NO_OPERANDS), None);
 }
 
 static COMPLETE: [(&str, bool); 24] = [

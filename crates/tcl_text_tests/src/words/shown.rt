@@ -1,6 +1,6 @@
 //! Parses as texts.
 use std::alloc::{AllocError, Global};
-use tcl_words::{Form, Operand, Parsed, Piece, Span, Word};
+use tcl_words::{Form, Operand, Parsed, Piece, Span, Word, parse_first};
 
 /// A stretch, as its place and its text.
 fn add_span(out: &mut String, span: &Span<'_>) -> Result<(), AllocError> {
@@ -60,35 +60,41 @@ fn add_words(out: &mut String, words: &[Word<'_>]) -> Result<(), AllocError> {
     Ok(())
 }
 
-pub(crate) fn shown(alloc: Global, parsed: &Parsed<'_>) -> Result<String, AllocError> {
-    let mut out = String::new(alloc);
+fn add_parsed(out: &mut String, parsed: &Parsed<'_>) -> Result<(), AllocError> {
     match parsed {
-        Parsed::End(at) => write!(out, "End {at}")?,
-        Parsed::Bad(fault) => write!(out, "{fault}")?,
+        Parsed::End(at) => write!(out, "End {at}"),
+        Parsed::Bad(fault) => write!(out, "{fault}"),
         Parsed::Command(words, at) => {
-            add_words(&mut out, words)?;
-            write!(out, "{at}")?;
+            add_words(out, words)?;
+            write!(out, "{at}")
         }
     }
+}
+
+pub(crate) fn shown(alloc: Global, parsed: &Parsed<'_>) -> Result<String, AllocError> {
+    let mut out = String::new(alloc);
+    add_parsed(&mut out, parsed)?;
     Ok(out)
+}
+
+/// The first command of a text.
+pub(crate) fn first(alloc: Global, text: &str) -> Result<String, AllocError> {
+    let parsed = parse_first(alloc, text, 200)?;
+    shown(alloc, &parsed)
+}
+
+fn add_operand(out: &mut String, operand: &Operand<'_>) -> Result<(), AllocError> {
+    match operand {
+        Operand::Bad(fault) => write!(out, "{fault}"),
+        Operand::Found(word, at) => {
+            add_word(out, word)?;
+            write!(out, " {at}")
+        }
+    }
 }
 
 pub(crate) fn operand_shown(alloc: Global, operand: &Operand<'_>) -> Result<String, AllocError> {
     let mut out = String::new(alloc);
-    match operand {
-        Operand::Bad(fault) => write!(out, "{fault}")?,
-        Operand::Found(word, at) => {
-            add_word(&mut out, word)?;
-            write!(out, " {at}")?;
-        }
-    }
+    add_operand(&mut out, operand)?;
     Ok(out)
-}
-
-/// Is this the text that was made?
-pub(crate) fn is(made: Result<String, AllocError>, want: &str) -> bool {
-    match made {
-        Ok(text) => text.as_str() == want,
-        Err(_) => false,
-    }
 }
