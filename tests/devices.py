@@ -1,5 +1,6 @@
 """Checks of devices that fail and of memory that isn't there."""
 import os
+import select
 
 from program import IO_FAULT, SECONDS, Result, Wrong, answered, by_shell, check, expect, run_text, shown, write
 
@@ -55,12 +56,22 @@ def _(tested, room):
     expect(tested.run([], room, stdin=b"puts stderr no\n", by=CLOSED_OUT), 4, b"", IO_FAULT)
 
 
+def wait_for_no_reader(writing):
+    """Waits until nobody holds the reading end: a child of another test may do so until it runs its own program."""
+    polled = select.poll()
+    polled.register(writing, 0)
+    polled.poll(SECONDS * 1000)
+
+
 @check("output/reader-gone-in-a-session")
 def _(tested, room):
-    started = tested.start([], room)
+    reading, writing = os.pipe()
+    started = tested.start([], room, stdout=writing)
     try:
-        answered(started.stdout, 2)
-        started.stdout.close()
+        with open(reading, "rb", buffering=0) as device:
+            answered(device, 2)
+        wait_for_no_reader(writing)
+        os.close(writing)
         os.write(started.stdin.fileno(), b"puts a\nputs stderr no\n")
         started.stdin.close()
         err = started.stderr.read()
