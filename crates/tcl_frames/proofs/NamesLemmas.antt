@@ -120,7 +120,7 @@ chars_around bs xs ys c u e low =
 
 -- ---- what a name is that no colon leads and no `)` ends
 
-no_colon : (bs : List ℕ) → IsUtf8 bs → (get_or bs 0 0 ≡ colon → ⊥) → begins colon (chars bs) ≡ false
+pub no_colon : (bs : List ℕ) → IsUtf8 bs → (get_or bs 0 0 ≡ colon → ⊥) → begins colon (chars bs) ≡ false
 no_colon bs u h = by (chars bs) (encodes-chars bs u)
   where
     by : (cs : List ℕ) → encode_utf8_all cs ≡ bs → begins colon cs ≡ false

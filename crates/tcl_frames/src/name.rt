@@ -1,6 +1,8 @@
 //! The names of variables.
-ghost use Rattle.std.specs.Prelude.{◌≡◌, [], true, ◌||◌};
+ghost use Rattle.std.specs.Prelude.{◌≡◌, [], true, false, ◌||◌};
 ghost use Rattle.std.specs.Str.{chars};
+ghost use Rattle.tcl_chars.specs.Characters.{colon};
+ghost use Rattle.tcl_chars.specs.Place as place;
 ghost use Rattle.tcl_meaning.specs.Names as spec;
 ghost use Rattle.tcl_meaning.specs.Variables.{missing};
 ghost use Rattle.tcl_frames.specs.Parts.{part_of, name_of, paren_in, plain_name};
@@ -49,6 +51,7 @@ pub(crate) struct Name<'a> {
 
 // What follows the colons at the front.
 #[tactic(auto, unfolding(tcl_meaning::specs::Names::after_colons))]
+#[inline(never)]
 fn after_colons(text: &str) -> &str
     ensures { chars result.now ≡ spec.after_colons (chars text.now) }
 {
@@ -62,14 +65,33 @@ fn after_colons(text: &str) -> &str
     rest
 }
 
-/// Does a run of two or more colons lead the name?
+// Is a colon its first byte?
+#[inline(always)]
+fn is_led(name: &str) -> bool
+    ensures { result ≡ false → place.begins colon (chars name.now) ≡ false }
+{
+    let bytes = name.as_bytes();
+    bytes.len() > 0 && bytes[0] == b':'
+}
+
+/// Does a run of two or more colons lead the name? Mostly its first byte tells.
+#[inline(always)]
 pub fn is_global(name: &str) -> bool
+    ensures { result ≡ spec.is_global (chars name.now) }
+{
+    is_led(name) && has_two_colons(name)
+}
+
+// The same, where a colon leads it.
+#[inline(never)]
+fn has_two_colons(name: &str) -> bool
     ensures { result ≡ spec.is_global (chars name.now) }
 {
     begins(':', name) && begins(':', tail(name))
 }
 
 /// The name of a variable or a command without a leading run of two or more colons: Tcl(n), rule 8.
+#[inline(always)]
 pub fn without_colons(name: &str) -> &str
     ensures { chars result.now ≡ spec.without_colons (chars name.now) }
 {
@@ -153,7 +175,7 @@ pub(crate) fn has_no_paren(name: &str) -> bool
 }
 
 // The same of any name.
-#[inline(never)]
+#[inline(always)]
 fn divide_at_paren(name: &str) -> Name<'_>
     ensures { name_of result ≡ spec.divided_name (chars name.now) }
 {

@@ -10,4 +10,6 @@ mod dictionaries;
 #[cfg(test)]
 mod lists;
 #[cfg(test)]
+mod preferred;
+#[cfg(test)]
 mod texts;

@@ -109,3 +109,17 @@ depth_inserted ks ls now i c d n e exact new none =
       exact,
       new,
     )
+
+-- an element that was no list is replaced by one that is a list of texts
+pub depth_read : (ks : List Kept) (i : ℕ) (k b : Kept) → slice_get ks i ≡ Some b → b.depth ≡ 0 → k.depth ≡ 1 → depth_over (slice_set ks i k) ≡ max (depth_over ks) 2
+depth_read [] i k b g none one = cc
+depth_read (x ∷ ks) zero k b g none one =
+    let same : x.depth ≡ b.depth = ap depth_in g in
+    omega (arith, same, none, one, depth_least ks)
+depth_read (x ∷ ks) (suc i) k b g none one = omega (arith, depth_read ks i k b g none one)
+
+-- a key and a value behind others that are as deep as some list at most
+pub depth_pair : (ks mid more vs : List Kept) (i : ℕ) (k v : Kept) → depth_over ks ≤ depth_over vs → i < length vs → v ≡ get_or vs i v → mid ≡ ks ++ k ∷ [] → more ≡ mid ++ v ∷ [] → k.depth ≡ 0
+    → depth_over more ≤ depth_over vs
+depth_pair ks mid more vs i k v within l is key value none =
+    omega (arith, within, ap depth_over key, depth_over-push ks k, ap depth_over value, depth_over-push mid v, none, depth_below vs i v l is, depth_least vs)

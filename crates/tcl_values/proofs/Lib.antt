@@ -16,6 +16,7 @@ pub mod PairPlaces
 pub mod PairTexts
 pub mod PairWriting
 pub mod Placed
+pub mod ReadInside
 pub mod Replaced
 pub mod Shorts
 pub mod Singles

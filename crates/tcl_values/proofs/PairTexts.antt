@@ -88,6 +88,9 @@ in_flat : (ps : Pairs) → in_pairs (flat ps) ≡ Ok ps
 in_flat [] = refl
 in_flat (p ∷ ps) = pair_ahead _ p.0 p.1 (flat ps) ∙ ap (with_pair p.0 p.1) (in_flat ps)
 
+pub reads_flat : (ps : Pairs) → elements_of (dictionary ps) ≡ Ok (flat ps)
+reads_flat ps = reads_written (flat ps)
+
 reads_pairs : (ps : Pairs) → AreDistinct ps → pairs_of (dictionary ps) ≡ Ok ps
 unfolding pairs_of
 reads_pairs ps d = ap (λ r. r >>= read_pairs []) (reads_written (flat ps)) ∙ ap (λ r. r >>= λ qs. Ok (put_keys [] qs)) (in_flat ps) ∙ ap Ok (puts_back [] ps d)

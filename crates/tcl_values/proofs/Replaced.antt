@@ -44,7 +44,7 @@ part_taken t ks more i n new e part is =
     let some : texts more ≡ take n (drop i (texts ks)) = ap texts part ∙ sym (ap (take n) (drop-map (λ (q : Kept). q.text) i ks) ∙ take-map (λ (q : Kept). q.text) n (drop i ks)) in
     ap (λ r. r >>= λ es. Ok (written (take n (drop i es)))) e ∙ ap Ok (ap written (sym some) ∙ sym is)
 
-same_texts : (ks : List Kept) (i : ℕ) (k b : Kept) → slice_get ks i ≡ Some b → k.text ≡ b.text → texts (slice_set ks i k) ≡ texts ks
+pub same_texts : (ks : List Kept) (i : ℕ) (k b : Kept) → slice_get ks i ≡ Some b → k.text ≡ b.text → texts (slice_set ks i k) ≡ texts ks
 same_texts [] i k b g e = refl
 same_texts (x ∷ ks) zero k b g e =
     let same : x.text ≡ b.text = ap text_in g in

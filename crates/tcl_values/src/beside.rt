@@ -6,13 +6,12 @@ ghost use Rattle.tcl_values.specs.Shape.{elements, items_text, pairs_text, AreKe
 use crate::element::{Element, Entry, Items, Pairs};
 use crate::key::Sought;
 use crate::pairs::paired;
-use crate::value::{Held, Value};
 use std::alloc::{AllocError, Global};
 use std::rc::Rc;
 use tcl_chars::Fault;
 
 /// A shorter list is read as a dictionary in hardly more time than it is looked at.
-const LONG: usize = 16;
+pub(crate) const LONG: usize = 16;
 
 /// Is it a list of keys and values, of so many elements at least, without the dictionary?
 fn is_bare(row: &Items, least: usize) -> bool {
@@ -20,7 +19,7 @@ fn is_bare(row: &Items, least: usize) -> bool {
 }
 
 /// Puts the dictionary beside the list that is read as it.
-fn put_beside(own: &mut Items, pairs: Rc<Pairs>)
+pub(crate) fn put_beside(own: &mut Items, pairs: Rc<Pairs>)
     requires kept { AreKept own.old }
     requires read { ArePairsRead pairs.value (items_text own.old) }
     requires lower { pairs.value.depth ≤ own.old.depth }
@@ -32,7 +31,11 @@ fn put_beside(own: &mut Items, pairs: Rc<Pairs>)
 }
 
 /// Has a list of so many elements keep the dictionary that it is read as. A list that somebody else holds too is copied for that, once.
-fn keep_beside(row: &mut Rc<Items>, alloc: Global, least: usize) -> Result<(), AllocError>
+pub(crate) fn keep_beside(
+    row: &mut Rc<Items>,
+    alloc: Global,
+    least: usize,
+) -> Result<(), AllocError>
     requires { AreKept row.old.value }
     ensures text { items_text row.new.value ≡ items_text row.old.value }
     ensures depth { row.new.value.depth ≡ row.old.value.depth }
@@ -76,7 +79,11 @@ fn prefer_at(own: &mut Pairs, place: usize, alloc: Global) -> Result<(), AllocEr
 }
 
 /// Has a long list under a key of a dictionary keep the dictionary that it is read as, where nobody else holds the outer one.
-fn prefer_under(pairs: &mut Rc<Pairs>, key: &str, alloc: Global) -> Result<(), AllocError>
+pub(crate) fn prefer_under(
+    pairs: &mut Rc<Pairs>,
+    key: &str,
+    alloc: Global,
+) -> Result<(), AllocError>
     requires { ArePaired pairs.old.value }
     ensures text { pairs_text pairs.new.value ≡ pairs_text pairs.old.value }
     ensures depth { pairs.new.value.depth ≡ pairs.old.value.depth }
@@ -104,7 +111,7 @@ fn prefer_own(own: &mut Items, key: &str, alloc: Global) -> Result<(), AllocErro
 }
 
 /// Has a list keep the dictionary that it is read as, and so a long list under a key.
-fn prefer_beside(row: &mut Rc<Items>, key: &str, alloc: Global) -> Result<(), AllocError>
+pub(crate) fn prefer_beside(row: &mut Rc<Items>, key: &str, alloc: Global) -> Result<(), AllocError>
     requires { AreKept row.old.value }
     ensures text { items_text row.new.value ≡ items_text row.old.value }
     ensures kept { AreKept row.new.value }
@@ -113,52 +120,5 @@ fn prefer_beside(row: &mut Rc<Items>, key: &str, alloc: Global) -> Result<(), Al
     match Rc::get_mut(row) {
         Some(own) => prefer_own(own, key, alloc),
         None => Ok(()),
-    }
-}
-
-impl Value {
-    /// Keeps the dictionary that it is read as beside it from now on, where it is kept as a list of 16 elements or more: copies are to be
-    /// read as a dictionary. A list that is no dictionary stays as it is.
-    ///
-    /// # Errors
-    ///
-    /// `AllocError` where a growth was refused.
-    pub fn prefer_dictionary(&mut self, alloc: Global) -> Result<(), AllocError>
-        ensures { self.new ≡ self.old }
-    {
-        match &mut self.held {
-            Held::Row(row) => keep_beside(row, alloc, LONG),
-            _ => Ok(()),
-        }
-    }
-
-    /// May copies of it be read as a dictionary only by reading a list anew, its own or one under a key? Only then it is worth the while to
-    /// have lists keep the dictionaries that they are read as.
-    #[inline(always)]
-    pub fn lacks_dictionary(&self) -> bool {
-        match &self.held {
-            Held::Dict(pairs) => pairs.has_lists,
-            Held::Row(row) => match &row.pairs {
-                Some(pairs) => pairs.has_lists,
-                None => true,
-            },
-            _ => false,
-        }
-    }
-
-    /// Has a list of 16 elements or more under a key of the dictionary that it is kept or read as keep the dictionary that the inner list is
-    /// read as, where nobody else holds the outer one: copies are to be read as a dictionary of dictionaries.
-    ///
-    /// # Errors
-    ///
-    /// `AllocError` where a growth was refused.
-    pub fn prefer_dictionary_under(&mut self, alloc: Global, key: &str) -> Result<(), AllocError>
-        ensures { self.new ≡ self.old }
-    {
-        match &mut self.held {
-            Held::Dict(pairs) => prefer_under(pairs, key, alloc),
-            Held::Row(row) => prefer_beside(row, key, alloc),
-            _ => Ok(()),
-        }
     }
 }

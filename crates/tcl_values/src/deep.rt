@@ -39,7 +39,7 @@ fn empty_list(alloc: Global) -> Result<Row, AllocError> {
 }
 
 /// A word as an element, and a number where it is its decimal text.
-fn word_element(alloc: Global, word: &str) -> Result<Element, AllocError>
+fn guessed_word(alloc: Global, word: &str) -> Result<Element, AllocError>
     ensures { IfOk result (λ e. e.depth < 64) }
 {
     if let Some(n) = decimal_number(word) {
@@ -81,7 +81,7 @@ impl Guess<'_> {
         let Some(word) = self.text.get(start..end) else {
             return Ok(false);
         };
-        let element = word_element(alloc, word)?;
+        let element = guessed_word(alloc, word)?;
         push_element(&mut self.list.items, element)?;
         Ok(true)
     }

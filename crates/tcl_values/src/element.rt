@@ -68,7 +68,7 @@ pub(crate) struct Pairs {
     pub(crate) keys: IndexSet<Key>,
     /// The keys' values, in the places of the keys.
     pub(crate) values: Vec<Element>,
-    /// May there be a list among the values? A hint that no contract needs.
+    /// May there be a list among the values, or a text that is long enough to be kept as one? A hint that no contract needs.
     pub(crate) has_lists: bool,
 }
 
@@ -128,11 +128,6 @@ impl Element {
         ensures depth { result.depth ≡ 0 }
     {
         Element::of_short(Short::new())
-    }
-
-    /// Is it kept as a list?
-    pub(crate) fn is_list(&self) -> bool {
-        matches!(&self.entry, Entry::Row(_))
     }
 
     /// Its text: lent where it stands ready, else written.

@@ -219,6 +219,7 @@ pub(crate) fn set_element(
 /// Elements as a list without a text.
 pub(crate) fn gathered(alloc: Global, items: Vec<Element>) -> Result<Rc<Items>, AllocError>
     requires { depth_over items.items ≤ 64 }
+    ensures elements { IfOk result (λ r. elements r.value ≡ items.items) }
     ensures text { IfOk result (λ r. items_text r.value ≡ written (texts items.items)) }
     ensures kept { IfOk result (λ r. AreKept r.value) }
 {

@@ -103,6 +103,17 @@ impl Key {
         }
     }
 
+    /// The element that is its text.
+    pub(crate) fn element(&self) -> Result<Element, AllocError>
+        ensures text { IfOk result (λ e. e.text ≡ self.now) }
+        ensures depth { IfOk result (λ e. e.depth ≡ 0) }
+    {
+        match &self.spelling {
+            Spelling::Short(short) => Ok(Element::of_short(*short)),
+            Spelling::Shared(text) => Ok(Element::of_text(text.clone()?)),
+        }
+    }
+
     /// The value that is its text.
     pub fn value(&self) -> Result<Value, AllocError>
         ensures { IfOk result (λ v. v ≡ self.now) }

@@ -8,8 +8,9 @@
 //!   `spelled`, `shown`, `ascii` and `places`, as a number by `whole`, and without any reading by `number` and `known_number`, as a name by `sought` and `sought_command`, as a list by
 //!   `count`, `item`, `row`, `list`, `range`. Changed by
 //!   `append` at the end of the text, and as a list by `push`, `replace_item`, `put_item_under` and `splice`.
-//!   As a dictionary made by `of_dict`, which `prefer_dictionary` and `prefer_dictionary_under` keep beside a list, read by `dict_size`, `dict_get`, `dictionary`, changed by `dict_put`, `dict_put_under`, `dict_remove`, `dict_remove_under` and
-//!   `dict_change`.
+//!   As a dictionary made by `of_dict`, read by `dict_size`, `dict_get`, `dictionary`, changed by `dict_put`, `dict_put_under`, `dict_remove`, `dict_remove_under` and
+//!   `dict_change`. Who is to read copies of it again and again has it keep what they are read as: by `prefer_number`, `prefer_list` and `prefer_dictionary`, and by `prefer_list_at` and
+//!   `prefer_dictionary_under` what stands in it.
 //! - [`Places`]: the characters of a text, found by their places.
 //! - [`Change`]: what `dict_change` makes of the value under a key. A list or a text that has grown there once grows in place from then on.
 //! - [`Dictionary`]: the pairs of a value, to be looked at and to be changed into another dictionary; a share as a row is.
@@ -32,7 +33,9 @@ mod dictionary;
 mod digits;
 mod element;
 mod element_text;
+mod flat;
 mod gathering;
+mod inner;
 mod items;
 mod joining;
 mod key;
@@ -47,6 +50,7 @@ mod numerals;
 mod pairs;
 mod places;
 mod placing;
+mod preferring;
 mod readings;
 mod row;
 mod short;

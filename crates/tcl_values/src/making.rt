@@ -212,7 +212,7 @@ fn change_at(own: &mut Pairs, place: usize, alloc: Global, making: Making) -> Re
     own.values[place].make(alloc, making)?;
     let depth = own.values[place].depth() + 1;
     own.depth = own.depth.max(depth);
-    own.has_lists = own.has_lists || own.values[place].is_list();
+    own.has_lists = own.has_lists || own.values[place].may_be_list();
     own.text = None;
     Ok(())
 }

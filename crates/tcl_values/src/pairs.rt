@@ -154,7 +154,7 @@ fn set_value(own: &mut Pairs, place: usize, value: Element)
     ensures text { own.new.text ≡ None }
 {
     own.depth = own.depth.max(value.depth() + 1);
-    own.has_lists = own.has_lists || value.is_list();
+    own.has_lists = own.has_lists || value.may_be_list();
     own.values[place] = value;
     own.text = None;
 }
@@ -175,14 +175,14 @@ pub(crate) fn add_pair(own: &mut Pairs, key: Key, value: Element) -> Result<(), 
     ensures deeper { depth_over own.new.values.items ≤ own.new.depth }
 {
     let depth = value.depth() + 1;
-    let is_list = value.is_list();
+    let may_be_list = value.may_be_list();
     own.values.push(value)?;
     if let Err(_) = own.keys.insert(key) {
         own.values.pop();
         return Err(AllocError);
     }
     own.depth = own.depth.max(depth);
-    own.has_lists = own.has_lists || is_list;
+    own.has_lists = own.has_lists || may_be_list;
     own.text = None;
     Ok(())
 }

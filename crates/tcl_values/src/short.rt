@@ -1,6 +1,6 @@
 //! Short texts, which stand in the value itself: nothing is allocated for them.
 
-ghost use Rattle.std.specs.Prelude.{◌≡◌, ◌++◌, [], IfSome};
+ghost use Rattle.std.specs.Prelude.{◌≡◌, ◌++◌, ◌∷◌, [], IfSome};
 ghost use Rattle.std.specs.Str.{chars, IsAscii};
 ghost use Rattle.tcl_values.specs.Short.{short_text, IsShort};
 
@@ -39,23 +39,38 @@ impl Short {
         Short::new().joined(text)
     }
 
-    /// The text with another one behind it, where both together are short and ASCII.
+    // The text with one more character behind it, where both together are short and ASCII.
+    #[inline(always)]
+    fn with(&self, byte: u8) -> Option<Short>
+        requires { IsShort self.now }
+        ensures text { IfSome result (λ s. short_text s ≡ short_text self.now ++ byte ∷ []) }
+        ensures known { IfSome result (λ s. IsShort s) }
+    {
+        let count = self.count as usize;
+        if count >= ROOM || !byte.is_ascii() {
+            return None;
+        }
+        let mut bytes = self.bytes;
+        bytes[count] = byte;
+        Some(Short {
+            count: (count + 1) as u8,
+            bytes,
+            aligned: [],
+        })
+    }
+
+    /// The text with another one behind it, where both together are short and ASCII. The few characters are put one by one.
+    #[inline(always)]
     pub(crate) fn joined(&self, more: &str) -> Option<Short>
         requires { IsShort self.now }
         ensures text { IfSome result (λ s. short_text s ≡ short_text self.now ++ chars more.now) }
         ensures known { IfSome result (λ s. IsShort s) }
     {
-        let count = self.count as usize;
-        if ROOM - count < more.len() || !more.is_ascii() {
-            return None;
+        let mut whole = *self;
+        for byte in more.as_bytes() {
+            whole = whole.with(*byte)?;
         }
-        let mut bytes = self.bytes;
-        bytes[count..count + more.len()].copy_from_slice(more.as_bytes());
-        Some(Short {
-            count: (count + more.len()) as u8,
-            bytes,
-            aligned: [],
-        })
+        Some(whole)
     }
 
     /// The text.

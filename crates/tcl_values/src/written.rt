@@ -6,10 +6,9 @@ ghost use Rattle.tcl_list.specs.Texts.{text_of, Answers};
 ghost use Rattle.tcl_values.specs.Kept.{texts, depth_over};
 ghost use Rattle.tcl_values.specs.Shape.{elements, items_text, AreKept};
 
-use crate::digits::decimal_number;
 use crate::element::{Element, Entry, Items};
 use crate::items::deepest;
-use crate::list_reading::words;
+use crate::list_reading::{list_of, word_element, words};
 use crate::single::is_word;
 use crate::value::Held;
 use std::alloc::{AllocError, Global};
@@ -29,47 +28,6 @@ impl Held {
     }
 }
 
-/// A word as an element: a number, where the word is its decimal text.
-fn word_element(text: RcStr) -> Element
-    ensures text { result.text ≡ text_of text }
-    ensures depth { result.depth ≡ 0 }
-{
-    match decimal_number(text.as_str()) {
-        Some(n) => Element::of_number(n),
-        None => Element::of_text(text),
-    }
-}
-
-/// Words as elements.
-fn word_elements(alloc: Global, words: Vec<RcStr>) -> Result<Vec<Element>, AllocError>
-    ensures texts { IfOk result (λ v. texts v.items ≡ map text_of words.items) }
-    ensures depth { IfOk result (λ v. depth_over v.items ≡ 1) }
-{
-    let mut elements = Vec::with_capacity(alloc, words.len())?;
-    for text in words {
-        elements.push(word_element(text))?;
-    }
-    Ok(elements)
-}
-
-/// The list of words that a text is read as, with the text beside it.
-fn read_words(alloc: Global, text: RcStr) -> Result<Rc<Items>, Fault>
-    ensures read { Answers (λ r. texts (elements r.value)) result (elements_of (text_of text)) }
-    ensures same { IfOk result (λ r. items_text r.value ≡ text_of text) }
-    ensures flat { IfOk result (λ r. r.value.depth ≡ 1) }
-    ensures kept { IfOk result (λ r. AreKept r.value) }
-{
-    let words = words(alloc, &text)?;
-    let items = word_elements(alloc, words)?;
-    let row = Items {
-        text: Some(text),
-        depth: 1,
-        items,
-        pairs: None,
-    };
-    Ok(Rc::new(alloc, row)?)
-}
-
 /// Is a text not worth reading as a list: one word, or a long text?
 fn is_plain(text: &str) -> bool {
     text.is_empty() || MOST < text.len() || is_word(text)
@@ -83,12 +41,11 @@ fn read_element(alloc: Global, text: RcStr) -> Result<Element, AllocError>
     if is_plain(text.as_str()) {
         return Ok(word_element(text));
     }
-    match read_words(alloc, text.clone()?) {
-        Ok(row) => Ok(Element {
+    match list_of(alloc, &text)? {
+        Some(row) => Ok(Element {
             entry: Entry::Row(row),
         }),
-        Err(Fault::Error(_)) => Ok(word_element(text)),
-        Err(Fault::Memory) => Err(AllocError),
+        None => Ok(word_element(text)),
     }
 }
 

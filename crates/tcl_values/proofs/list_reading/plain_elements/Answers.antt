@@ -7,5 +7,5 @@ pub loop-text-preserved : goal.loop-text-preserved
 loop-text-preserved c =
     record {
       same = grind (arith, common_steps);
-      depth = depth_plain c.loop-text.elements.items c.push.new.self.items _ c.loop-text.invariant.depth c.in_ok-push.ensures.items c.of_text.ensures.depth;
+      depth = depth_plain c.loop-text.elements.items c.push.new.self.items _ c.loop-text.invariant.depth c.in_ok-push.ensures.items c.word_element.ensures.depth;
     }
