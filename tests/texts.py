@@ -35,6 +35,13 @@ text_check("long-quoted-word", lambda: b'set x "' + A_LONG_WORD + b'"\nputs "<$x
 text_check("long-braced-word", lambda: b"puts {" + A_LONG_WORD + b"}", lambda: A_LONG_WORD + b"\n")
 text_check("long-name", lambda: b"set " + A_LONG_WORD + b" 1\nputs $" + A_LONG_WORD, b"1\n")
 text_check("long-unknown-name", lambda: A_LONG_WORD, b"", 1, b'invalid command name "' + A_LONG_WORD + b'"\n')
+NESTED = b"""if {$i < 3} {while {$i < 3} {foreach \xc3\xa9 {\xc3\xa4 "\xc3\xb6 \xc3\xbc"} {incr i 2; set k ${\xc3\xa9}}}}
+"""
+SHOWS = b"""proc while args {puts [list while {*}$args]; uplevel 1 {set i 3}}
+set i 0
+"""
+SHOWN = "ö ü".encode() + b"\n" + b"while {$i < 3} {foreach \xc3\xa9 {\xc3\xa4 \"\xc3\xb6 \xc3\xbc\"} {incr i 2; set k ${\xc3\xa9}}}\n"
+text_check("calls-inside-a-call-of-a-long-text", lambda: b"# " + b"x" * 70_000 + b"\nset i 0\n" + NESTED + b"puts $k\n" + SHOWS + NESTED, SHOWN)
 text_check("long-comment", lambda: b"# " + A_LONG_WORD + b"\nputs a", b"a\n")
 text_check("braces-in-one-another", lambda: b"puts " + b"{" * MANY + b"}" * MANY, lambda: b"{" * (MANY - 1) + b"}" * (MANY - 1) + b"\n")
 text_check("braces-left-open", lambda: b"puts a\nputs " + b"{" * LONG, b"a\n", 1, b"missing close-brace\n")

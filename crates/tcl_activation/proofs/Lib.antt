@@ -20,4 +20,5 @@ mod Stepping
 mod Storing
 mod Straight
 mod Taking
+mod ThreeTexts
 mod Topics

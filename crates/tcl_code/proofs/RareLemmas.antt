@@ -11,6 +11,15 @@ use Rattle.tcl_pages.specs.Texts.{Text}
 use Rattle.tcl_code.specs.declared.rare.Stretch.{Stretch}
 use Rattle.tcl_code.specs.Rare.{cut, IsCut, AllCut}
 
+-- ---- a stretch more
+
+all_joined : (bs : List ℕ) (ss : List Stretch) (s : Stretch) → AllCut bs ss → IsCut bs s → AllCut bs (ss ++ s ∷ [])
+all_joined bs [] s h k = (k, tt)
+all_joined bs (r ∷ ss) s h k = (h.0, all_joined bs ss s h.1 k)
+
+pub inside_cut : (bs : List ℕ) (ss ts : List Stretch) (s : Stretch) → AllCut bs ss → ts ≡ ss ++ s ∷ [] → IsCut bs s → AllCut bs ts
+inside_cut bs ss ts s h f k = subst (AllCut bs) (sym f) (all_joined bs ss s h k)
+
 -- ---- text that comes behind
 
 module _ (old more new : List ℕ) (e : new ≡ old ++ more) (u : IsUtf8 more) where
@@ -46,10 +55,6 @@ module _ (old more new : List ℕ) (e : new ≡ old ++ more) (u : IsUtf8 more) w
   last_range =
       let a = ap length e ∙ length-append old more in
       ap (λ x. take (length new - length old) (drop (length old) x)) e ∙ ap (take (length new - length old)) (drop-append_seam old more) ∙ take_all (length new - length old) more (omega (arith, a))
-
-  all_joined : (bs : List ℕ) (ss : List Stretch) (s : Stretch) → AllCut bs ss → IsCut bs s → AllCut bs (ss ++ s ∷ [])
-  all_joined bs [] s h k = (k, tt)
-  all_joined bs (r ∷ ss) s h k = (h.0, all_joined bs ss s h.1 k)
 
   pub cut_more : (ss : List Stretch) (s : Stretch) → s.start ≡ length old → s.end ≡ length new → AllCut old ss → cut new (ss ++ s ∷ []) ≡ cut old ss ++ chars more ∷ []
   cut_more ss s b f h =

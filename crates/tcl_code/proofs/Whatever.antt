@@ -16,6 +16,7 @@ module _ (ts us : CodeTexts) where
   same_ways (instr.Push n) s = refl
   same_ways (instr.Read n) s = refl
   same_ways (instr.ReadPairs n) s = refl
+  same_ways (instr.ReadList n) s = refl
   same_ways (instr.ReadElement n) s = refl
   same_ways (instr.Join n) s = refl
   same_ways instr.Spend s = refl
@@ -62,6 +63,7 @@ module _ (ts us : CodeTexts) where
   same_fine (instr.Push n) s h = h
   same_fine (instr.Read n) s h = h
   same_fine (instr.ReadPairs n) s h = h
+  same_fine (instr.ReadList n) s h = h
   same_fine (instr.ReadElement n) s h = h
   same_fine (instr.Join n) s h = h
   same_fine instr.Spend s h = h

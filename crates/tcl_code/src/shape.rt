@@ -135,6 +135,7 @@ impl Shape {
             Instr::Push(_)
             | Instr::Read(_)
             | Instr::ReadPairs(_)
+            | Instr::ReadList(_)
             | Instr::Rare(TextInstr::Push | TextInstr::Read, _)
             | Instr::TakeFirst => self.with_texts(0, 1),
             Instr::ReadElement(_)
@@ -224,6 +225,7 @@ impl Shape {
             Instr::Push(_)
             | Instr::Read(_)
             | Instr::ReadPairs(_)
+            | Instr::ReadList(_)
             | Instr::Spend
             | Instr::Enter
             | Instr::Gather

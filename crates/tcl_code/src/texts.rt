@@ -87,7 +87,7 @@ fn value(alloc: Global, text: &str, purpose: Use) -> Result<Value, AllocError>
     }
 }
 
-/// The value that is made of a text for who asks for it.
+/// The value that is made of a text for who asks for it. A long one, as a body, is hardly read as a list.
 fn made(alloc: Global, text: &str) -> Result<Value, AllocError>
     ensures { IfOk result (λ v. v ≡ chars text.now) }
 {
@@ -95,7 +95,7 @@ fn made(alloc: Global, text: &str) -> Result<Value, AllocError>
         return Ok(number);
     }
     let own = RcStr::from_str(alloc, text)?;
-    if has_readings(text) {
+    if text.len() < LONG_WORD && has_readings(text) {
         return Value::of_literal(alloc, own);
     }
     Ok(Value::of_text(own))
@@ -167,10 +167,17 @@ impl Texts {
                 Some(value) => is_text(alloc, value, text),
                 None => Ok(false),
             },
-            Place::Rare(number) => match self.rare.get(number) {
-                Some(own) => Ok(own == text),
-                None => Ok(false),
-            },
+            Place::Rare(number) => Ok(self.has_rare(number, text)),
+        }
+    }
+
+    /// Is a text that of a number among those that are rarely asked for?
+    pub(crate) fn has_rare(&self, number: u32, text: &str) -> bool
+        ensures { result ≡ true → slice_get self.now.rare number ≡ Some (chars text.now) }
+    {
+        match self.rare.get(number) {
+            Some(own) => own == text,
+            None => false,
         }
     }
 
@@ -201,6 +208,20 @@ impl Texts {
             return self.keep(alloc, text, purpose);
         }
         Ok(Place::Rare(self.rare.push(text)?))
+    }
+
+    /// Puts a text among those that are rarely asked for before it comes, so that others may stand inside of it from now on, and tells its number. One
+    /// that is kept as a value isn't put.
+    pub(crate) fn foresee(&mut self, text: &str) -> Result<Option<u32>, AllocError>
+        ensures done { OnOk result (HasGrown self.old self.new) }
+        ensures same { OnErr result (self.new ≡ self.old) }
+    {
+        if !is_rare(text, Use::Beside, false) {
+            return Ok(None);
+        }
+        let number = self.rare.push(text)?;
+        self.rare.open(number);
+        Ok(Some(number))
     }
 
     /// The same texts, without room for more.

@@ -2,6 +2,7 @@
 use Rattle.std.specs.Prelude.{◌≡◌, false, List, [], ◌∷◌, ◌++◌, Option, Some, None, option_map}
 use Rattle.std.specs.Str.{chars}
 use Rattle.std.specs.String.{string_bytes}
+use Rattle.tcl_list.specs.Written.{written}
 use Rattle.tcl_words.specs.Parts.{Part, text, escape, Stretch, Shape}
 use Rattle.tcl_pages.specs.Texts.{Text}
 use Rattle.tcl_compile.specs.declared.literals.Literal.{Literal}
@@ -26,6 +27,10 @@ abbrev pub AllLiteral : List Shape → List Text → Type 0
 AllLiteral [] [] = Unit {0}
 AllLiteral (w ∷ ws) (t ∷ ts) = IsLiteral w t × AllLiteral ws ts
 AllLiteral _ _ = ⊥
+
+-- words that are all literal, as a list
+abbrev pub IsListOf : Text → List Shape → Type 0
+IsListOf list ws = (ts : List Text) × AllLiteral ws ts × (list ≡ written ts)
 
 -- what the code holds
 abbrev pub text_of : Literal → Text

@@ -1,7 +1,8 @@
 //! The code of a script, emitted from left to right.
 
-ghost use Rattle.std.specs.Prelude.{◌≡◌, ◌+◌, ◌-◌, ◌<◌, ◌++◌, false, true, ◌∷◌, [], IfOk, OnOk, length, map};
+ghost use Rattle.std.specs.Prelude.{◌≡◌, ◌+◌, ◌-◌, ◌<◌, ◌++◌, false, true, ◌∷◌, [], IfOk, IfSome, OnOk, length, map};
 ghost use Rattle.std.specs.Str.{chars};
+ghost use Rattle.std.specs.String.{string_bytes};
 ghost use Rattle.tcl_words.specs.First.{IsParsed, first_command, most_levels};
 ghost use Rattle.tcl_words.specs.Parts.{shape_of, part_of, parts_of};
 ghost use Rattle.tcl_meaning.specs.Nesting.{PartNests, PartsNest, WordsNest};
@@ -11,17 +12,18 @@ ghost use Rattle.tcl_compile.specs.Changes.{IsChange};
 ghost use Rattle.tcl_compile.specs.Emitted.{PieceCode, WordCode, BracketCode, CommandCode};
 ghost use Rattle.tcl_compile.specs.Forms.{HasForm, InlinedCode, IsNamed};
 ghost use Rattle.tcl_compile.specs.Fragments.{Grown, Plain, adding};
+ghost use Rattle.tcl_compile.specs.Literals.{IsListOf};
 ghost use Rattle.tcl_compile.specs.Whiles.{CommandMade, IsWhile, ScriptMade};
 ghost use Rattle.tcl_compile.specs.Within.{ArgumentsAreShort, PartWithin, PartsWithin, WordsWithin};
 
-use crate::beside::emit_listed;
+use crate::beside::{emit_list, foresee_body, foresee_call, listed};
 use crate::change::{change_of, emit_change};
 use crate::context::Context;
 use crate::each::{each_of, emit_each};
 use crate::inlining::{Form, command_of, form_of, inlined_by};
 use crate::literals::literals;
 use crate::pages::emit_page;
-use crate::reading::prefer_pairs;
+use crate::reading::prefer_reading;
 use crate::skips::lead_here;
 use std::alloc::{AllocError, Global};
 use tcl_chars::push;
@@ -94,6 +96,7 @@ fn emit_command(
         return emit_changed(code, context, whole, change, name, words);
     }
     if let Some(each) = each_of(context, words)? {
+        foresee_body(code, words)?;
         return emit_each(code, context, whole, &each, words);
     }
     match inlined_by(words) {
@@ -145,34 +148,38 @@ fn emit_inlined(
     requires short { ArgumentsAreShort (length (chars whole.now) - 1) (map shape_of words.now) }
     ensures { OnOk result (Grown (InlinedCode context.dialect form.now (map shape_of words.now)) code.old code.new) }
 {
+    let list = listed(context.alloc, words)?;
+    foresee_call(code, words, &list)?;
     let guard = code.len();
     code.emit(Instr::Guard(command_of(form), 0))?;
     emit_page(code, context, whole, form)?;
     let past = code.len();
     code.emit(Instr::Skip(0))?;
     lead_here(code, guard)?;
-    emit_beside(code, context, whole, words)?;
+    emit_beside(code, context, whole, words, &list)?;
     lead_here(code, past)
 }
 
-// The call of a command beside its page.
+// The call of a command beside its page, of its words as a list or else one by one.
 #[cycle(emitting)]
 fn emit_beside(
     code: &mut CodeBuilder,
     context: Context,
     whole: &str,
     words: &[Word<'_>],
+    list: &Option<String>,
 ) -> Result<(), AllocError>
     requires plain { Plain (map shape_of words.now) }
     requires some { 0 < length (chars whole.now) }
     requires nests { WordsNest most_levels (map shape_of words.now) }
     requires within { WordsWithin (length (chars whole.now) - 1) (map shape_of words.now) }
+    requires list { IfSome list.now (λ l. IsListOf (chars (string_bytes l)) (map shape_of words.now)) }
     ensures { OnOk result (Grown (CommandCode context.dialect (map shape_of words.now)) code.old code.new) }
 {
-    if emit_listed(code, context.alloc, words)? {
-        return Ok(());
+    match list {
+        Some(list) => emit_list(code, list.as_str()),
+        None => emit_plain(code, context, whole, words),
     }
-    emit_plain(code, context, whole, words)
 }
 
 // A command that changes a variable by the text of its last word.
@@ -230,7 +237,7 @@ fn emit_plain(
     'words: for word in words {
         emit_word(code, context, whole, word)?;
     }
-    prefer_pairs(code, words, start);
+    prefer_reading(code, words, start);
     emit_call(code, words.len())
 }
 

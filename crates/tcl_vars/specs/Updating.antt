@@ -1,5 +1,5 @@
 -- A variable's new text, by the words behind its name: append(n), incr(n), lappend(n), lset(n), dict(n). In a dialect of numbers.
-use Rattle.std.specs.Prelude.{◌≡◌, ℕ, ◌≤◌, List, [], Err}
+use Rattle.std.specs.Prelude.{◌≡◌, ℕ, ◌≤◌, List, [], Result, Ok, Err}
 use Rattle.tcl_chars.specs.Texts.{literal}
 use Rattle.tcl_chars.specs.declared.numbers.Dialect.{Dialect}
 use Rattle.tcl_pages.specs.Answers.{Answer}
@@ -13,6 +13,9 @@ use Rattle.tcl_meaning.specs.Completions.{normal}
 use Rattle.tcl_meaning.specs.Value.{◌>>=◌, judged, look}
 use Rattle.tcl_meaning.specs.Variables.{get, set}
 use Rattle.tcl_meaning.specs.VariablePages.{old_text}
+use Rattle.tcl_frames.specs.Standing.{Standing}
+use Rattle.tcl_steps.specs.Ends.{EndsDone}
+use Rattle.tcl_steps.specs.declared.stop.Stop.{Stop}
 use Rattle.tcl_vars.specs.declared.first.First.{First}
 use Rattle.tcl_vars.specs.declared.first.First.TheVariants as first
 
@@ -87,3 +90,8 @@ module _ (dialect : Dialect) where
   on_missing p name ws refusal = do
     old ← old_text (old_of p ws) name (Err refusal)
     from_old p name ws old
+
+-- The page is done with a normal completion of this text, or stops with the script's error; or memory was refused.
+abbrev pub Begins : Asks → Standing → Result Text Stop → Standing → Type 0
+Begins page before (Ok t) after = EndsDone page before (Ok (normal t)) after
+Begins page before (Err s) after = EndsDone page before (Err s) after

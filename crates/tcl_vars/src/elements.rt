@@ -28,12 +28,12 @@ pub(crate) fn lappend(alloc: Global, value: &mut Value, words: &[Value]) -> Resu
     ensures done { Leaves value.new (lappend value.old words.now) result }
     ensures same { OnErr result (value.new ≡ value.old) }
 {
+    if words.len() == 1 {
+        return value.push(alloc, words[0].copy()?);
+    }
     let count = value.count(alloc)?;
     if words.len() == 0 {
         return Ok(());
-    }
-    if words.len() == 1 {
-        return value.push(alloc, words[0].copy()?);
     }
     let mut more = Vec::with_capacity(alloc, words.len())?;
     push_copies(&mut more, words)?;

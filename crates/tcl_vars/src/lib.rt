@@ -4,6 +4,7 @@
 #![tactic(auto)]
 
 mod assigning;
+mod beginning;
 mod catching;
 mod changing;
 mod counts;

@@ -2,6 +2,7 @@ use Rattle.std.proofs.Common.{rules, [], ◌∷◌, ◌++◌, get_or, subst, ◌
 use Rattle.std.proofs.lemmas.Result.{on_ok_weaker}
 use Rattle.std.proofs.lemmas.List.{length-map}
 use Rattle.std.specs.Str.{chars}
+use Rattle.std.specs.String.{string_bytes}
 use Rattle.tcl_list.specs.Texts as texts
 use Rattle.tcl_code.specs.Instructions.{Call}
 use Rattle.tcl_words.specs.Parts.{shape_of, part_of, parts_of, stretch_of}
@@ -27,15 +28,16 @@ use Rattle.std.proofs.lemmas.Bool.{false≢true}
 use Rattle.std.specs.Prelude.{IsSome, List, ℕ, Option, option_map}
 use Rattle.tcl_compile.specs.Whiles.{IsWhile}
 use Rattle.tcl_compile.specs.Forms.{FormIsShort, ClausesAreShort, ClausesCode, OtherwiseIsShort, clause_of, most_clauses}
-use Rattle.tcl_compile.specs.Fragments.{Grown}
+use Rattle.tcl_compile.specs.Fragments.{Grown, call_of_list}
 use Rattle.tcl_compile.specs.declared.inlining.Clause.{Clause}
 use Rattle.tcl_compile.specs.Within.{ArgumentsAreShort}
 use Rattle.tcl_compile.proofs.Scripts.{made_code, made_without, script_leads, script_ends, script_fails}
 use Rattle.tcl_compile.proofs.Shorter.{first_short}
 use Rattle.tcl_compile.specs.Changes.{IsChange}
 use Rattle.tcl_compile.specs.Eaches.{IsEach}
-use Rattle.tcl_compile.specs.Literals.{AllLiteral, text_of}
+use Rattle.tcl_compile.specs.Literals.{AllLiteral, IsListOf, text_of}
 use Rattle.tcl_compile.proofs.LiteralWords.{of_some}
+use Rattle.tcl_compile.proofs.ListCalls.{grown_list}
 use Rattle.tcl_compile.proofs.Whiles.{loop_long, loop_plain, no_change, no_each}
 use Rattle.tcl_compile.proofs.Weights.{reach, reach_more, reach_le, weight, weight_args, weight_rest, light, argument_lighter, step_lighter}
 use Rattle.tcl_compile.proofs.Expressions.{tree_some, grown_value, grown_fault}
@@ -133,7 +135,7 @@ pub script::emit_plain-returns : goal.script::emit_plain-returns
 script::emit_plain-returns t c =
     let ws = map shape_of c.args.words.now in
     let n = length-map c.args.words.now shape_of in
-    on_ok_weaker c.emit_call.result (λ h. grown_command c.args.context.dialect ws c.words.word-index _ _ c.words.code _ (omega (arith, n)) (sym n) c.words.invariant.leads (h ∙ ap (λ is. is ++ Call (length c.args.words.now) ∷ []) c.prefer_pairs.ensures)) c.emit_call.ensures
+    on_ok_weaker c.emit_call.result (λ h. grown_command c.args.context.dialect ws c.words.word-index _ _ c.words.code _ (omega (arith, n)) (sym n) c.words.invariant.leads (h ∙ ap (λ is. is ++ Call (length c.args.words.now) ∷ []) c.prefer_reading.ensures)) c.emit_call.ensures
 
 pub script::emit_gathered-words-init : goal.script::emit_gathered-words-init
 script::emit_gathered-words-init t c = record {
@@ -234,13 +236,21 @@ script::emit_changed-returns t c =
     on_ok_weaker c.emit_change.result (λ h. grown_changed c.args.context.dialect c.args.change (chars c.args.name.now) ws (shape_of c.index-words-2.result) _ _ _ is at (change_long c.args.change (chars c.args.name.now) ws is) c.in_ok-emit_word.ensures h) c.emit_change.ensures
 
 pub script::emit_inlined-emit_beside-requires : goal.script::emit_inlined-emit_beside-requires
-script::emit_inlined-emit_beside-requires t c = (search rules, (form_plain c.args.form.now (map shape_of c.args.words.now) c.requires.1.1.0, (c.requires.1.1.1.0, (c.requires.1.1.1.1.0, c.requires.1.1.1.1.1.0))))
+script::emit_inlined-emit_beside-requires t c = (search rules, (form_plain c.args.form.now (map shape_of c.args.words.now) c.requires.1.1.0, (c.requires.1.1.1.0, (c.requires.1.1.1.1.0, (c.requires.1.1.1.1.1.0, c.in_ok-list.ensures)))))
+
+pub script::emit_beside-returns-in-Some : goal.script::emit_beside-returns-in-Some
+script::emit_beside-returns-in-Some t c =
+    let ws = map shape_of c.args.words.now in
+    let is = of_some (λ l. IsListOf (chars (string_bytes l)) ws) c.args.list.now c.in-Some.list c.in-Some.is c.requires.1.1.1.1.1.1 in
+    on_ok_weaker c.emit_list.result
+    (λ h. grown_list ws is.0 (chars (string_bytes c.in-Some.list)) _ _ is.1 is.2 (h ∙ ap (λ t. c.args.code.now ++ call_of_list (chars t)) c.as_str.ensures.value) c.args.context.dialect)
+    c.emit_list.ensures
 
 pub script::emit_inlined-returns : goal.script::emit_inlined-returns
 script::emit_inlined-returns t c =
     on_ok_weaker c.lead_here-2.result
-    (λ h. grown_guarded c.args.context.dialect _ _ _ _ _ _ _ c.args.form.now (map shape_of c.args.words.now) c.requires.1.1.0 (rw c.command_of.ensures at c.in_ok-emit.ensures.done) c.in_ok-emit_page.ensures c.in_ok-emit-2.ensures.done
-    (λ front back i e p. c.in_ok-lead_here.ensures front back i e (c.len-guard.ensures ∙ p)) c.in_ok-emit_beside.ensures (λ front back i e p. h front back i e (c.len-past.ensures ∙ p))) c.lead_here-2.ensures
+    (λ h. grown_guarded c.args.context.dialect _ _ _ _ _ _ _ c.args.form.now (map shape_of c.args.words.now) c.requires.1.1.0 (rw c.command_of.ensures at (rw c.in_ok-foresee_call.ensures at c.in_ok-emit.ensures.done)) c.in_ok-emit_page.ensures c.in_ok-emit-2.ensures.done
+    (λ front back i e p. c.in_ok-lead_here.ensures front back i e (c.len-guard.ensures ∙ ap length c.in_ok-foresee_call.ensures ∙ p)) c.in_ok-emit_beside.ensures (λ front back i e p. h front back i e (c.len-past.ensures ∙ p))) c.lead_here-2.ensures
 
 pub tree::emit_eager-returns : goal.tree::emit_eager-returns
 tree::emit_eager-returns t c = on_ok_weaker c.emit.result (λ h. grown_eager c.args.context.dialect _ _ _ c.args.op (view c.args.right.now) c.requires.1.1.1.1 c.in_ok-emit_tree.ensures h) c.emit.ensures.done
@@ -597,7 +607,7 @@ pub script::emit_command-returns-in-Some-2 : goal.script::emit_command-returns-i
 script::emit_command-returns-in-Some-2 t c =
     let ws = map shape_of c.args.words.now in
     let is = of_some (λ f. IsEach f ws) c.in_ok-each.field-0 c.in-Some-2.each c.in-Some-2.is c.in_ok-each.ensures in
-    on_ok_weaker c.emit_each.result (λ g. made_without c.args.context.dialect c.args.context.outermost ws _ _ (λ o. no_each (map texts.text_of c.in-Some-2.each.names.items) (text_of c.in-Some-2.each.body) ws is) g) c.emit_each.ensures
+    on_ok_weaker c.emit_each.result (λ g. made_without c.args.context.dialect c.args.context.outermost ws _ _ (λ o. no_each (map texts.text_of c.in-Some-2.each.names.items) (text_of c.in-Some-2.each.body) ws is) g) (rw c.in_ok-foresee_body.ensures at c.emit_each.ensures)
 
 pub script::emit_named-returns-in-Some : goal.script::emit_named-returns-in-Some
 script::emit_named-returns-in-Some t c =

@@ -14,7 +14,10 @@ returns-in-Read g c =
     let name = ap Read (copied c.args.code.now.texts.kept c.in-Read.number c.text-in-Read.result.now c.text-in-Read.result.now c.text-in-Read.ensures refl) in
     elim c.in-Read.is [
       | inl is ↦ reads_as (g.F.Variables.store c.args.frames.now) c.args.code.now.texts c.args.instr (instr.Read c.in-Read.number) (Read c.text-in-Read.result.now) c.args.self.now c.read.new.self c.read.result is name c.read.ensures
-      | inr is ↦ reads_as (g.F.Variables.store c.args.frames.now) c.args.code.now.texts c.args.instr (instr.ReadPairs c.in-Read.number) (Read c.text-in-Read.result.now) c.args.self.now c.read.new.self c.read.result is name c.read.ensures
+      | inr w ↦ elim w [
+        | inl is ↦ reads_as (g.F.Variables.store c.args.frames.now) c.args.code.now.texts c.args.instr (instr.ReadPairs c.in-Read.number) (Read c.text-in-Read.result.now) c.args.self.now c.read.new.self c.read.result is name c.read.ensures
+        | inr is ↦ reads_as (g.F.Variables.store c.args.frames.now) c.args.code.now.texts c.args.instr (instr.ReadList c.in-Read.number) (Read c.text-in-Read.result.now) c.args.self.now c.read.new.self c.read.result is name c.read.ensures
+      ]
     ]
 
 pub returns-in-ReadElement : goal.returns-in-ReadElement

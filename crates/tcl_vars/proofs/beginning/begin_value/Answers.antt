@@ -8,10 +8,10 @@ use Rattle.tcl_pages.specs.Updates.{Old, old_of, updated}
 use Rattle.tcl_steps.specs.Ends.{Gives, stop_of}
 use Rattle.tcl_vars.specs.Updating.{from_old}
 use Rattle.tcl_vars.proofs.UpdateLemmas.{no_first, first_is, first_stops, is_set, isnt_set, isnt_made}
-use Rattle.tcl_vars.proofs.updating.begin_variable.Goals as goal
+use Rattle.tcl_vars.proofs.beginning.begin_value.Goals as goal
 
-pub returns-in_err-value : goal.returns-in_err-value
-returns-in_err-value c =
+pub returns-in_err-value-clause-begins : goal.returns-in_err-value-clause-begins
+returns-in_err-value-clause-begins c =
     let p = err_from_is_err_and c.from_residual.result c.from_residual.ensures.1 in
     let name = chars c.args.name.now in
     let o = old_text (old_of c.args.page c.args.words.now) name (Err c.args.refusal) in
@@ -19,8 +19,8 @@ returns-in_err-value c =
     (no_first o (from_old c.args.dialect c.args.page name c.args.words.now) c.args.frames.now c.in_err-value.field-0.0
     (subst (λ (w : Old). Gives (old_text w name (Err c.args.refusal)) (Err c.in_err-value.field-0.0)) c.first_of-first.ensures c.in_err-value.ensures))
 
-pub returns-in-Err : goal.returns-in-Err
-returns-in-Err c =
+pub returns-in-Err-clause-begins : goal.returns-in-Err-clause-begins
+returns-in-Err-clause-begins c =
     let name = chars c.args.name.now in
     let d = c.args.dialect in
     let ws = c.args.words.now in
@@ -31,8 +31,8 @@ returns-in-Err c =
     (subst (λ (w : Old). old_text w name (Err c.args.refusal) ≡ Give (Has t)) c.first_of-first.ensures c.in_ok-value.ensures)
     (isnt_made name (updated d c.args.page t ws) c.args.frames.now c.in-Err.fault c.in-Err.ensures.done))
 
-pub returns-in_err-assign : goal.returns-in_err-assign
-returns-in_err-assign c =
+pub returns-in_err-assign-clause-begins : goal.returns-in_err-assign-clause-begins
+returns-in_err-assign-clause-begins c =
     let p = err_from_is_err_and c.from_residual-in_err-assign.result c.from_residual-in_err-assign.ensures.1 in
     let name = chars c.args.name.now in
     let d = c.args.dialect in
@@ -46,15 +46,15 @@ returns-in_err-assign c =
     (subst (λ (w : Old). old_text w name (Err c.args.refusal) ≡ Give (Has t)) c.first_of-first.ensures c.in_ok-value.ensures)
     (isnt_set name c.in_ok-copy.field-0 (updated d c.args.page t ws) c.args.frames.now g s (c.in-Ok.ensures.done ∙ ap Ok (sym c.in_ok-copy.ensures)) c.in_err-assign.ensures.ends))
 
-pub returns : goal.returns
-returns c =
+pub returns-clause-begins : goal.returns-clause-begins
+returns-clause-begins c =
     let name = chars c.args.name.now in
     let d = c.args.dialect in
     let ws = c.args.words.now in
     let o = old_text (old_of c.args.page ws) name (Err c.args.refusal) in
     let t = c.in_ok-value.value in
     let g = c.assign.new.frames in
-    rw (c.normal.ensures, sym c.in_ok-copy.ensures)
+    rw (sym c.in_ok-copy.ensures)
     (first_is o (from_old d c.args.page name ws) c.args.frames.now g t _
     (subst (λ (w : Old). old_text w name (Err c.args.refusal) ≡ Give (Has t)) c.first_of-first.ensures c.in_ok-value.ensures)
     (is_set name c.in_ok-copy.field-0 (updated d c.args.page t ws) c.args.frames.now g (c.in-Ok.ensures.done ∙ ap Ok (sym c.in_ok-copy.ensures)) c.in_ok-assign.ensures.ends))
