@@ -4,6 +4,7 @@ mod Counting
 mod Ending
 mod Finding
 mod Joining
+mod Lapping
 mod Lending
 mod Lifting
 mod Operators

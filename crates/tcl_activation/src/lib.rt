@@ -2,12 +2,14 @@
 #![tactic(auto)]
 
 mod activation;
+mod bodies;
 mod calls;
 mod changing;
 mod composing;
 mod expressions;
 mod guards;
 mod inlined;
+mod laps;
 mod loops;
 mod open_loop;
 mod operands;
