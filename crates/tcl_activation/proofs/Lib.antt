@@ -1,4 +1,5 @@
 mod Acting
+mod Bracketing
 mod Calling
 mod Counting
 mod Ending

@@ -15,5 +15,6 @@ pub mod Needs
 pub mod Standing
 pub mod Quick
 pub mod Behind
+pub mod Brackets
 pub mod Together
 pub mod Rounds

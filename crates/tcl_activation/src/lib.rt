@@ -3,6 +3,7 @@
 
 mod activation;
 mod bodies;
+mod brackets;
 mod calls;
 mod changing;
 mod composing;
