@@ -2,8 +2,10 @@ pub mod Building
 pub mod Catching
 pub mod Ends
 pub mod Found
+mod Fronts
 pub mod Guarding
 pub mod Holding
+mod Joined
 mod Keeping
 pub mod Noting
 pub mod Numbering

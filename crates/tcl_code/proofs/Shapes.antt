@@ -15,7 +15,7 @@ pub each_weaker : (P Q : Target → Shape → Type 0) (ws : Ways) → EachWay P 
 each_weaker P Q [] h f = tt
 each_weaker P Q (w ∷ ws) h f = (f w.0 w.1 h.0, each_weaker P Q ws h.1 f)
 
-each_has : (P : Target → Shape → Type 0) (ws : Ways) (k : Target) (s : Shape) → EachWay P ws → HasWay ws k s → P k s
+pub each_has : (P : Target → Shape → Type 0) (ws : Ways) (k : Target) (s : Shape) → EachWay P ws → HasWay ws k s → P k s
 each_has P [] k s h w = absurd w
 each_has P (v ∷ ws) k s h (inl e) = subst (λ u. P k u) e.1 (subst (λ j. P j v.1) e.0 h.0)
 each_has P (v ∷ ws) k s h (inr w) = each_has P ws k s h.1 w
@@ -26,7 +26,7 @@ pub inside_le : (n count : ℕ) (k : Target) → n < count → IsInside n count 
 inside_le n count (Ahead k) lt h = h
 inside_le n count (Back k) lt h = omega arith
 
-inside_more : (n count more : ℕ) (k : Target) → count ≤ more → IsInside n count k → IsInside n more k
+pub inside_more : (n count more : ℕ) (k : Target) → count ≤ more → IsInside n count k → IsInside n more k
 inside_more n count more (Ahead k) le h = omega arith
 inside_more n count more (Back k) le h = h
 
@@ -74,10 +74,10 @@ fits_same e f x = record { at = x.at; starts = x.starts ∙ e; ends = x.ends ∙
 
 -- ---- one part behind another
 
-at_front : (a b : List Instruction) (n : ℕ) (i : Instruction) → n < length a → slice_get (a ++ b) n ≡ Some i → slice_get a n ≡ Some i
+pub at_front : (a b : List Instruction) (n : ℕ) (i : Instruction) → n < length a → slice_get (a ++ b) n ≡ Some i → slice_get a n ≡ Some i
 at_front a b n i lt h = slice_get-get_or a n i lt ∙ ap Some (sym (get_or_append_left a b i n lt) ∙ get_or_from_slice_get (a ++ b) n i i h)
 
-at_back : (a b : List Instruction) (m : ℕ) (i : Instruction) → slice_get (a ++ b) (length a + m) ≡ Some i → slice_get b m ≡ Some i
+pub at_back : (a b : List Instruction) (m : ℕ) (i : Instruction) → slice_get (a ++ b) (length a + m) ≡ Some i → slice_get b m ≡ Some i
 at_back a b m i h =
     let lt : m < length b = omega (arith, slice_get_within (a ++ b) (length a + m) i h, length-append a b) in
     slice_get-get_or b m i lt ∙ ap Some (sym (get_or-append-add a b m i) ∙ get_or_from_slice_get (a ++ b) (length a + m) i i h)
@@ -219,7 +219,7 @@ fits_turn c s t u k x le e = record {
 is_none : {A : Type 0} (x : A) → Some x ≡ None → ⊥
 is_none x e = cc
 
-none_some : (code : List Instruction) (p : ℕ) → slice_get code p ≡ None → p < length code → ⊥
+pub none_some : (code : List Instruction) (p : ℕ) → slice_get code p ≡ None → p < length code → ⊥
 none_some [] p e lt = absurd (omega arith)
 none_some (i ∷ code) p e lt = is_none _ (sym (slice_get-get_or (i ∷ code) p i lt) ∙ e)
 

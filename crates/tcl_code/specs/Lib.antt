@@ -1,6 +1,7 @@
 pub mod Build
 pub mod Caught
 pub mod Dealing
+pub mod Front
 pub mod Guards
 pub mod Instructions
 pub mod Machine

@@ -8,6 +8,7 @@
 
 mod builder;
 mod code;
+mod front;
 mod inlined;
 mod instr;
 pub mod laws;

@@ -6,7 +6,7 @@ ghost use Rattle.std.specs.String.{string_bytes};
 ghost use Rattle.tcl_words.specs.First.{IsParsed, first_command, most_levels};
 ghost use Rattle.tcl_words.specs.Parts.{shape_of, part_of, parts_of};
 ghost use Rattle.tcl_meaning.specs.Nesting.{PartNests, PartsNest, WordsNest};
-ghost use Rattle.tcl_code.specs.Instructions.{Call, Join, Push};
+ghost use Rattle.tcl_code.specs.Instructions.{Call, Join, Push, Spend};
 ghost use Rattle.tcl_code.specs.declared.inlined.Inlined.TheVariants as inlined;
 ghost use Rattle.tcl_compile.specs.Changes.{IsChange};
 ghost use Rattle.tcl_compile.specs.Emitted.{PieceCode, WordCode, BracketCode, CommandCode};
@@ -39,6 +39,25 @@ fn first(alloc: Global, text: &str) -> Result<Parsed<'_>, AllocError>
     parse_first(alloc, text, MOST_LEVELS)
 }
 
+// Between a text's own commands, finds what was emitted valid, if it is long.
+fn settle(code: &mut CodeBuilder, context: Context) -> Result<(), AllocError>
+    ensures { code.new ≡ code.old }
+{
+    if context.outermost {
+        code.settle()
+    } else {
+        Ok(())
+    }
+}
+
+// Emits that a unit is spent: a command begins.
+fn emit_spend(code: &mut CodeBuilder, context: Context) -> Result<(), AllocError>
+    ensures { OnOk result (code.new ≡ code.old ++ Spend ∷ []) }
+{
+    settle(code, context)?;
+    code.emit(Instr::Spend)
+}
+
 // The commands of a script, in place of its last completion.
 #[cycle(emitting)]
 pub(crate) fn emit_script(
@@ -54,7 +73,7 @@ pub(crate) fn emit_script(
             Parsed::End(_) => return Ok(()),
             Parsed::Bad(fault) => return code.raise(fault.text()),
             Parsed::Command(words, after) => {
-                code.emit(Instr::Spend)?;
+                emit_spend(code, context)?;
                 emit_command(code, context, rest, words.as_slice())?;
                 rest = &rest[after..];
             }

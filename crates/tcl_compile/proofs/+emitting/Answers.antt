@@ -220,7 +220,7 @@ script::emit_script-commands-preserved t c =
     let was = c.commands.invariant.1.shorter in (
       search rules,
       record {
-        leads = rw left (script_leads c.args.context.dialect c.args.context.outermost (chars c.args.text.now) now e.rest (map shape_of c.in-Command.words.items) _ c.commands.code _ _ e.is c.commands.invariant.1.leads c.in_ok-emit-in-Command.ensures.done (rw c.as_slice.ensures.value at c.in_ok-emit_command-in-Command.ensures));
+        leads = rw left (script_leads c.args.context.dialect c.args.context.outermost (chars c.args.text.now) now e.rest (map shape_of c.in-Command.words.items) _ c.commands.code _ _ e.is c.commands.invariant.1.leads c.in_ok-emit_spend-in-Command.ensures (rw c.as_slice.ensures.value at c.in_ok-emit_command-in-Command.ensures));
         shorter = omega arith;
       },
     )
