@@ -58,6 +58,12 @@ text_check("long-next-of-for", lambda: b"for {set i 0} {$i < 2} {incr i;" + A_LO
 text_check("long-body-of-foreach", lambda: b"foreach x {1 2} {if {$x} {" + A_LONG_BODY + b"}}; puts $n", b"285714\n")
 text_check("long-body-malformed", lambda: b"while 1 {" + A_LONG_BODY + b"puts $n; puts {", b"", 1, b"missing close-brace\n")
 text_check("long-body-that-fails", lambda: b"while 1 {" + A_LONG_BODY + b"puts $n; set x \"a\"b}", b"142857\n", 1, b"extra characters after close-quote\n")
+# A code of many instructions is found valid part by part: branches, loops and brackets stand across many such parts. Each line adds two, but the first three.
+BRANCHES = b"incr s; if {$s > 3} {incr s} else {incr s [expr {1 + 1}]}\n" * 20_000
+LEAVES = b"while {1} {if {$s > 60000} {break}; incr s}\n"
+text_check("branches-in-many-parts", lambda: b"set s 0\n" + BRANCHES + LEAVES + b"puts $s", b"60001\n")
+text_check("branches-in-a-long-procedure", lambda: b"proc f s {" + BRANCHES + b"puts $s\n" + LEAVES + b"return $s}\nputs [f 0],[f 60000]", b"40001\n100000\n60001,100000\n")
+text_check("fault-behind-many-parts", lambda: b"set s 0\n" + BRANCHES + b"puts $s; break; puts no", b"40001\n", 1, b'invoked "break" outside of a loop\n')
 text_check("many-list-elements", b"for {set i 0} {$i < 100000} {incr i} {lappend l $i}; puts [llength $l],[lindex $l end]", b"100000,99999\n")
 text_check("many-keys", b"for {set i 0} {$i < 20000} {incr i} {dict set d k$i $i}; puts [dict size $d],[dict get $d k19999]", b"20000,19999\n")
 text_check("many-array-elements", b"for {set i 0} {$i < 100000} {incr i} {set a($i) $i}; puts [array size a],$a(99999)", b"100000,99999\n")
