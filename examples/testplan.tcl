@@ -1,5 +1,5 @@
 # A test plan: each test is a row with its inputs and what is expected of an 8-bit adder with flags. The report comes
-# by format, with totals of each group; the exit status is the number of tests that failed.
+# by format, with totals of each group; the exit status is the number of tests that failed, at most 63.
 #
 #     ./tclint examples/testplan.tcl            all groups
 #     ./tclint examples/testplan.tcl carry      one group
@@ -72,4 +72,4 @@ dict for {group count} $tests {
     puts [format "%-9s %3d of %3d  %6s  %s" $group $good $count [percent $good $count] [string repeat # $good][string repeat . [expr {$count - $good}]]]
 }
 puts [format "%-9s %3d of %3d  %6s" all [expr {$total - $failed}] $total [percent [expr {$total - $failed}] $total]]
-exit $failed
+exit [expr {min($failed, 63)}]

@@ -34,7 +34,7 @@ proc test {name args} {
             -result {verdict $name [expr {$code == 0 && $result eq $wanted}] "expected <$wanted>, got $code <$result>"}
             -error {verdict $name [expr {$code == 1 && [string match $wanted $result]}] "expected error <$wanted>, got $code <$result>"}
             -code {
-                set got [expr {$code == 1 ? [dict get $options -errorcode] : "no error"}]
+                set got [expr {$code == 1 ? [dict get [dict merge {-errorcode NONE} $options] -errorcode] : "no error"}]
                 verdict $name [expr {$got eq $wanted}] "expected code <$wanted>, got <$got>"
             }
         }
