@@ -12,7 +12,7 @@ REMARKS = [
     ("in the order of code points", "tclsh: in any order", "foreach i {d b e a c g f} {set a($i) 1}; puts [expr {[array names a] eq [lsort [array names a]]}]", "0", "1"),
     ("formal is set twice", "tclsh keeps the first", "proc f {a a} {set a}; puts [f 1 2]", "1", "2"),
     ("where n is decimal digits", "tclsh: a number", "set x t; proc f {} {upvar 0x1 x y; set y}; puts [catch f m]:$m", "0:t", '1:bad level "0x1"'),
-    ("a bad one is the usage", "tclsh has other texts", "catch {if 1} m; puts $m", 'wrong # args: no script following "1" argument', 'wrong # args: should be "if cond ..'),
+    ("the error is the usage", "tclsh has other texts", "catch {if 1} m; puts $m", 'wrong # args: no script following "1" argument', 'wrong # args: should be "if cond ..'),
     ("go into variables", "tclsh adds `-errorinfo`, `-errorline` and others", "catch {error x} m o; puts [dict exists $o -errorinfo][dict exists $o -errorline]", "11", "00"),
     ("with a status, 0 to 255", "tclsh takes any number", "if {[catch {exit 256} m]} {puts $m}", "", 'bad exit status "256": must be 0 to 255'),
     ("A result past 64 bits", "tclsh goes on", "catch {expr {2 ** 64}} m; puts $m", "18446744073709551616", "integer overflow"),
