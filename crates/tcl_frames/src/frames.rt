@@ -27,10 +27,18 @@ use tcl_names::{HashedNames, Hint, NameMap, Sought};
 use tcl_values::Value;
 
 /// The frames of a script, the global one first, and the active one, whose names the script means.
-#[derive(Drop)]
 pub struct Frames {
     pub(crate) stack: Stack,
     pub(crate) variables: AllVariables,
+}
+
+impl Drop for Frames {
+    #[inline(always)]
+    fn drop(self) {
+        let Frames { stack, variables } = self;
+        drop(stack);
+        drop(variables);
+    }
 }
 
 impl Model for Frames {

@@ -38,11 +38,23 @@ enum Kept {
 }
 
 /// The place that a name is linked to.
-#[derive(Drop)]
 pub(crate) struct Link {
     frame: usize,
     name: RcStr,
     part: Kept,
+}
+
+impl Drop for Link {
+    #[inline(always)]
+    fn drop(self) {
+        let Link {
+            frame: _,
+            name,
+            part,
+        } = self;
+        drop(name);
+        drop(part);
+    }
 }
 
 impl Model for Link {

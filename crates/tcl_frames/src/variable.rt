@@ -31,9 +31,16 @@ enum Held {
 }
 
 /// A variable: a text, or an array of texts.
-#[derive(Drop)]
 pub struct Variable {
     held: Held,
+}
+
+impl Drop for Variable {
+    #[inline(always)]
+    fn drop(self) {
+        let Variable { held } = self;
+        drop(held);
+    }
 }
 
 impl Model for Variable {

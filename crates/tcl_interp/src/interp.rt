@@ -13,7 +13,7 @@ ghost use Rattle.tcl_meaning.specs.Run.{run_script};
 ghost use Rattle.tcl_meaning.specs.Variables.{get, put_change};
 ghost use Rattle.tcl_names.specs.Named.{text_of};
 ghost use Rattle.tcl_interp.specs.Host.{all_told, host_text, vars_shown, IsRefusal, RefusesPut};
-ghost use Rattle.tcl_interp.specs.Interp.{kept_by, remains_at, state_at};
+ghost use Rattle.tcl_interp.specs.Interp.{kept_by, remains_at, standing_at, state_at};
 ghost use Rattle.tcl_interp.specs.Outcome.{Ends, outcome_fails, outcome_is_io};
 ghost use Rattle.tcl_interp.specs.declared.host.HostFault.TheVariants as host;
 ghost use Rattle.tcl_interp.specs.declared.host.Outcome.TheVariants as outcome;
@@ -36,13 +36,28 @@ use tcl_table::Table;
 
 /// An interpreter: the variables and commands that scripts leave. Contracts see its dialect, its global frame, its commands,
 /// and whether it has failed. What codes are kept never shows.
-#[derive(Drop)]
 pub struct Interp {
     pub(crate) alloc: Global,
     pub(crate) frames: Frames,
     pub(crate) table: Table,
     pub(crate) codes: Codes,
     pub(crate) failed: bool,
+}
+
+impl Drop for Interp {
+    #[inline(always)]
+    fn drop(self) {
+        let Interp {
+            alloc: _,
+            frames,
+            table,
+            codes,
+            failed: _,
+        } = self;
+        drop(frames);
+        drop(table);
+        drop(codes);
+    }
 }
 
 impl Model for Interp {
@@ -94,6 +109,22 @@ impl Interp {
             codes,
             failed: false,
         })
+    }
+
+    /// What scripts keep, the commands and the codes.
+    pub(crate) fn into_parts(self) -> (Frames, Table, Codes)
+        ensures frames { result.0 ≡ standing_at self.globals }
+        ensures commands { result.1 ≡ self.commands }
+        ensures dialect { result.2 ≡ self.dialect }
+    {
+        let Interp {
+            alloc: _,
+            frames,
+            table,
+            codes,
+            failed: _,
+        } = self;
+        (frames, table, codes)
     }
 
     /// Has the interpreter failed: was a growth refused to it, or did a device fail under it?

@@ -27,7 +27,6 @@ use tcl_vm::Paused;
 
 /// A run of a script in parts: it pauses where a unit is wanting, and goes on there. Contracts see its dialect, its machine, what
 /// scripts keep, and whether it goes on, is over or has failed.
-#[derive(Drop)]
 pub struct Run {
     alloc: Global,
     frames: Frames,
@@ -35,6 +34,24 @@ pub struct Run {
     codes: Codes,
     paused: Paused<Room, Undone, Scope, Owes, Loop>,
     stage: Stage,
+}
+
+impl Drop for Run {
+    #[inline(always)]
+    fn drop(self) {
+        let Run {
+            alloc: _,
+            frames,
+            table,
+            codes,
+            paused,
+            stage: _,
+        } = self;
+        drop(frames);
+        drop(table);
+        drop(codes);
+        drop(paused);
+    }
 }
 
 impl Model for Run {
@@ -65,15 +82,19 @@ impl Interp {
         if interp.failed {
             return Err((interp, HostFault::Failed));
         }
-        match start(interp.alloc, &mut interp.codes, script) {
-            Ok(paused) => Ok(Run {
-                alloc: interp.alloc,
-                frames: interp.frames,
-                table: interp.table,
-                codes: interp.codes,
-                paused,
-                stage: Stage::Going,
-            }),
+        let alloc = interp.alloc;
+        match start(alloc, &mut interp.codes, script) {
+            Ok(paused) => {
+                let (frames, table, codes) = interp.into_parts();
+                Ok(Run {
+                    alloc,
+                    frames,
+                    table,
+                    codes,
+                    paused,
+                    stage: Stage::Going,
+                })
+            }
             Err(_) => Err((interp, HostFault::Memory)),
         }
     }
@@ -131,15 +152,23 @@ impl Run {
     pub fn stop(self) -> Interp
         ensures { result ≡ stopped self }
     {
-        let mut frames = self.frames;
+        let Run {
+            alloc,
+            mut frames,
+            table,
+            codes,
+            paused,
+            stage,
+        } = self;
+        drop(paused);
         let _active = frames.active();
         frames.unwind();
         Interp {
-            alloc: self.alloc,
+            alloc,
             frames,
-            table: self.table,
-            codes: self.codes,
-            failed: stage_fails(self.stage),
+            table,
+            codes,
+            failed: stage_fails(stage),
         }
     }
 }

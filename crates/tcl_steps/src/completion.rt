@@ -18,10 +18,18 @@ use tcl_values::Value;
 
 /// How a command ended: a code, a result or a message, and the options that `return` or `error` was given. return(n), RETURN
 /// CODES.
-#[derive(Drop)]
 pub struct Completion {
     pub(crate) result: Value,
     pub(crate) ending: Ending,
+}
+
+impl Drop for Completion {
+    #[inline(always)]
+    fn drop(self) {
+        let Completion { result, ending } = self;
+        drop(result);
+        drop(ending);
+    }
 }
 
 /// How a command ended, but for its result. A code stands here if it is in force, without options.
@@ -169,6 +177,18 @@ impl Ending {
 }
 
 impl Completion {
+    /// Its result, and how it ended.
+    #[inline(always)]
+    pub(crate) fn into_parts(self) -> (Value, Ending)
+        ensures result { result.0 ≡ self.result }
+        ensures code { code_of result.1 ≡ self.code }
+        ensures level { level_of result.1 ≡ self.level }
+        ensures options { options_of result.1 ≡ self.options }
+    {
+        let Completion { result, ending } = self;
+        (result, ending)
+    }
+
     /// The end with a code in force.
     pub fn ended(_alloc: Global, code: Code, value: Value) -> Completion
         ensures { result ≡ ended code value }
@@ -285,6 +305,8 @@ impl Completion {
     pub fn into_result(self) -> Value
         ensures { result ≡ self.result }
     {
-        self.result
+        let Completion { result, ending } = self;
+        drop(ending);
+        result
     }
 }

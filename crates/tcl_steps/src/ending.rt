@@ -31,7 +31,7 @@ impl Completion {
     fn in_force(self) -> Completion
         ensures { result ≡ record self { level = 0 } }
     {
-        let Completion { result, ending } = self;
+        let (result, ending) = self.into_parts();
         let ending = match ending {
             Ending::Waiting(_) => Ending::Ok,
             Ending::Given(mut given) => {

@@ -43,7 +43,7 @@ impl Completion {
     pub fn left_body(self, alloc: Global) -> Result<Completion, AllocError>
         ensures { IfOk result (λ c. c ≡ left_body self) }
     {
-        let Completion { result, ending } = self;
+        let (result, ending) = self.into_parts();
         let ending = match ending {
             Ending::Waiting(level) if level > 1 => Ending::Waiting(level - 1),
             Ending::Waiting(_) => Ending::Ok,

@@ -9,19 +9,40 @@ use tcl_meaning::BuiltIn;
 use tcl_names::Layout;
 
 /// A formal of a procedure, and its default if it has one: proc(n).
-#[derive(Drop)]
 pub struct Formal {
     pub name: RcStr,
     pub default: Option<RcStr>,
 }
 
+impl Drop for Formal {
+    #[inline(always)]
+    fn drop(self) {
+        let Formal { name, default } = self;
+        drop(name);
+        drop(default);
+    }
+}
+
 /// A procedure: proc(n).
-#[derive(Drop)]
 pub struct Procedure {
     pub formals: Vec<Formal>,
     pub body: RcStr,
     /// The places of its variables in each call.
     pub layout: Rc<Layout>,
+}
+
+impl Drop for Procedure {
+    #[inline(always)]
+    fn drop(self) {
+        let Procedure {
+            formals,
+            body,
+            layout,
+        } = self;
+        drop(formals);
+        drop(body);
+        drop(layout);
+    }
 }
 
 // What is kept of a command.
@@ -32,9 +53,16 @@ enum Held {
 }
 
 /// What a command's name stands for.
-#[derive(Drop)]
 pub struct Command {
     held: Held,
+}
+
+impl Drop for Command {
+    #[inline(always)]
+    fn drop(self) {
+        let Command { held } = self;
+        drop(held);
+    }
 }
 
 impl Model for Command {

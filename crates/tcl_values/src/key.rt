@@ -23,9 +23,16 @@ use std::rc::RcStr;
 use tcl_chars::number_text;
 
 /// A key of a dictionary. Contracts see the characters of its text.
-#[derive(Drop)]
 pub struct Key {
     spelling: Spelling,
+}
+
+impl Drop for Key {
+    #[inline(always)]
+    fn drop(self) {
+        let Key { spelling } = self;
+        drop(spelling);
+    }
 }
 
 /// How its text is there.

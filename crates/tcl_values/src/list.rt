@@ -77,7 +77,7 @@ impl Value {
         ensures text { IfOk result (λ e. e.text ≡ self) }
         ensures depth { IfOk result (λ e. e.depth < 64) }
     {
-        match self.held {
+        match self.into_held() {
             Held::Number(n) => Ok(Element::of_number(n)),
             Held::Row(row) => row_element(row, alloc),
             Held::Dict(pairs) => dict_element(pairs, alloc),

@@ -23,9 +23,20 @@ use std::rc::{Rc, RcStr};
 use tcl_chars::{Dialect, Whole, number_text, push_text, read_whole};
 
 /// A value of a script, which contracts see as its text.
-#[derive(Drop)]
 pub struct Value {
     pub(crate) held: Held,
+}
+
+impl Drop for Value {
+    /// A number and a short text hold nothing.
+    #[inline(always)]
+    fn drop(self) {
+        let Value { held } = self;
+        match held {
+            Held::Number(_) | Held::Short(_) => {}
+            held => drop(held),
+        }
+    }
 }
 
 /// What is kept of a value.
@@ -197,6 +208,16 @@ impl Held {
 }
 
 impl Value {
+    /// What is kept of it.
+    #[inline(always)]
+    pub(crate) fn into_held(self) -> Held
+        ensures text { held_text result ≡ self }
+        ensures known { IsHeld result }
+    {
+        let Value { held } = self;
+        held
+    }
+
     /// The value that is this text.
     pub fn of_text(text: RcStr) -> Value
         ensures { result ≡ text_of text }

@@ -9,16 +9,17 @@ use Rattle.tcl_interp.proofs.interp.Interp.start.Goals as goal
 
 pub invariant_of-result : goal.invariant_of-result
 invariant_of-result c =
-    let i = c.interp.inside in
-    begun_goes i.codes (chars c.args.script.now) c.in-Ok.paused i.frames i.table (λ channels n. c.in-Ok.ensures.begins (state_of i.table channels n i.frames))
+    let parts = c.into_parts-frames.result in
+    begun_goes c.interp.inside.codes (chars c.args.script.now) c.in-Ok.paused parts.0 parts.1 (λ channels n. c.in-Ok.ensures.begins (state_of parts.1 channels n parts.0))
 
 pub returns-in-Ok-clause-starts : goal.returns-in-Ok-clause-starts
 returns-in-Ok-clause-starts c =
-    let i = c.interp.inside in
+    let parts = c.into_parts-frames.result in
+    let given = c.into_parts-frames.ensures in
     record {
-      dialect = c.in-Ok.ensures.dialect ∙ ap (λ (s : Shows). s.dialect) c.interp.view_is;
-      frames = c.interp.invariant ∙ ap standing_at (ap (λ (s : Shows). s.globals) c.interp.view_is);
-      commands = ap (λ (s : Shows). s.commands) c.interp.view_is;
+      dialect = given.dialect ∙ c.in-Ok.ensures.dialect ∙ ap (λ (s : Shows). s.dialect) c.interp.view_is;
+      frames = given.frames ∙ ap standing_at (ap (λ (s : Shows). s.globals) c.interp.view_is);
+      commands = given.commands ∙ ap (λ (s : Shows). s.commands) c.interp.view_is;
       stage = refl;
-      begins = λ channels n. subst (λ d. Begins d (chars c.args.script.now) 1 (machine_over c.in-Ok.paused i.frames i.table channels n)) (sym c.in-Ok.ensures.dialect) (c.in-Ok.ensures.begins (state_of i.table channels n i.frames));
+      begins = λ channels n. subst (λ d. Begins d (chars c.args.script.now) 1 (machine_over c.in-Ok.paused parts.0 parts.1 channels n)) (sym (given.dialect ∙ c.in-Ok.ensures.dialect)) (c.in-Ok.ensures.begins (state_of parts.1 channels n parts.0));
     }
