@@ -1,48 +1,77 @@
 //! What a host reads and writes.
 
-use super::setting::{evaluated, fresh, holds, is_done, lacks};
+use super::setting::{evaluated, expect, fresh, holds, is_done, lacks};
 use std::alloc::{AllocError, Global};
 use tcl_chars::Fault;
 use tcl_interp::{HostFault, Interp, VarFault};
 
-#[test]
-fn a_host_reads_what_it_writes(rt: HostRuntime) -> Result<(), Fault> {
-    let mut interp = fresh(rt.alloc())?;
-    assert!(rt; !interp.is_failed());
-    for (name, value) in [
-        ("b", "1"),
-        ("é", "2"),
-        ("a(y)", "3"),
-        ("::a(x)", ""),
-        ("Z", "5"),
-    ] {
-        assert!(rt; interp.set_var(name, value) == Ok(()), "at {name}");
-        assert!(rt; holds(&mut interp, name, value), "at {name}");
+/// Names of variables and elements with their values.
+static WRITTEN: [(&str, &str); 5] = [
+    ("b", "1"),
+    ("é", "2"),
+    ("a(y)", "3"),
+    ("::a(x)", ""),
+    ("Z", "5"),
+];
+
+/// Names beside them of what isn't there.
+static MISSING: [&str; 4] = ["a", "b(x)", "a(z)", "z"];
+
+/// Is each variable read as it was written?
+fn reads_written(interp: &mut Interp) -> bool {
+    for row in &WRITTEN {
+        let (name, value) = *row;
+        if interp.set_var(name, value).is_err() || !holds(interp, name, value) {
+            return false;
+        }
     }
-    for name in ["a", "b(x)", "a(z)", "z"] {
-        assert!(rt; lacks(&mut interp, name), "at {name}");
+    true
+}
+
+/// Is the host told of none of those that aren't there?
+fn lacks_missing(interp: &mut Interp) -> bool {
+    for name in &MISSING {
+        if !lacks(interp, name) {
+            return false;
+        }
     }
-    Ok(())
+    true
+}
+
+/// Does a host read what it writes, and nothing else?
+fn reads(alloc: Global) -> Result<bool, Fault> {
+    let mut interp = fresh(alloc)?;
+    Ok(!interp.is_failed() && reads_written(&mut interp) && lacks_missing(&mut interp))
 }
 
 #[test]
-fn a_refused_write_changes_nothing(rt: HostRuntime) -> Result<(), Fault> {
-    let mut interp = fresh(rt.alloc())?;
-    let is_array = Err(HostFault::Var(VarFault::IsArray));
-    let isnt_array = Err(HostFault::Var(VarFault::IsntArray));
-    for (name, value, want) in [
-        ("a(1)", "x", Ok(())),
-        ("b", "y", Ok(())),
-        ("a", "z", is_array),
-        ("b(1)", "z", isnt_array),
-    ] {
-        assert!(rt; interp.set_var(name, value) == want, "at {name}");
-    }
-    assert!(rt; holds(&mut interp, "a(1)", "x"));
-    assert!(rt; lacks(&mut interp, "a"));
-    assert!(rt; holds(&mut interp, "b", "y"));
-    assert!(rt; lacks(&mut interp, "b(1)"));
-    Ok(())
+fn a_host_reads_what_it_writes(rt: HostRuntime) {
+    expect(&rt, reads(rt.alloc()), "variables and elements");
+}
+
+/// Is a write refused for this?
+fn refuses(interp: &mut Interp, name: &str, fault: VarFault) -> bool {
+    interp.set_var(name, "z") == Err(HostFault::Var(fault))
+}
+
+/// Does a refused write change nothing?
+fn keeps(alloc: Global) -> Result<bool, Fault> {
+    let mut interp = fresh(alloc)?;
+    let is_written = interp.set_var("a(1)", "x").is_ok() && interp.set_var("b", "y").is_ok();
+    Ok(
+        is_written
+            && refuses(&mut interp, "a", VarFault::IsArray)
+            && refuses(&mut interp, "b(1)", VarFault::IsntArray)
+            && holds(&mut interp, "a(1)", "x")
+            && lacks(&mut interp, "a")
+            && holds(&mut interp, "b", "y")
+            && lacks(&mut interp, "b(1)"),
+    )
+}
+
+#[test]
+fn a_refused_write_changes_nothing(rt: HostRuntime) {
+    expect(&rt, keeps(rt.alloc()), "a write of another kind");
 }
 
 /// The variables as the host is told them.
@@ -59,16 +88,24 @@ fn shows(alloc: Global, interp: &mut Interp, want: &str) -> bool {
     }
 }
 
-#[test]
-fn variables_stand_in_the_order_of_code_points(rt: HostRuntime) -> Result<(), Fault> {
-    let mut interp = fresh(rt.alloc())?;
-    for name in ["b", "é", "a(y)", "a(x)", "Z"] {
-        assert!(rt; interp.set_var(name, name) == Ok(()));
+static NAMES: [&str; 5] = ["b", "é", "a(y)", "a(x)", "Z"];
+
+/// Do variables stand in the order of code points?
+fn stand_in_order(alloc: Global) -> Result<bool, Fault> {
+    let mut interp = fresh(alloc)?;
+    for name in &NAMES {
+        if interp.set_var(name, name).is_err() {
+            return Ok(false);
+        }
     }
     let want =
         "Ok([(\"Z\", Text(\"Z\")), (\"a\", Array([(\"x\", \"a(x)\"), (\"y\", \"a(y)\")])), (\"b\", Text(\"b\")), (\"é\", Text(\"é\"))])";
-    assert!(rt; shows(rt.alloc(), &mut interp, want));
-    Ok(())
+    Ok(shows(alloc, &mut interp, want))
+}
+
+#[test]
+fn variables_stand_in_the_order_of_code_points(rt: HostRuntime) {
+    expect(&rt, stand_in_order(rt.alloc()), "five names");
 }
 
 /// What a script leaves, as the host is told.
@@ -84,7 +121,7 @@ fn links_are_told_by_what_they_lead_to(rt: HostRuntime) {
         "set x 1; set a(1) 2; upvar 0 x y; upvar 0 a(1) z; upvar 0 no w; proc p {} {global v; set v 3; set u 4; return}; p";
     let want =
         "Ok([(\"a\", Array([(\"1\", \"2\")])), (\"v\", Text(\"3\")), (\"x\", Text(\"1\")), (\"y\", Text(\"1\")), (\"z\", Text(\"2\"))])";
-    assert!(rt; matches!(left(rt.alloc(), script, want), Ok(true)));
+    expect(&rt, left(rt.alloc(), script, want), script);
 }
 
 /// Is what a host puts into a link read by what it leads to?
@@ -93,7 +130,7 @@ fn links(alloc: Global) -> Result<bool, Fault> {
     let end = evaluated(alloc, &mut interp, 9, "upvar 0 a(1) y", 1)?;
     Ok(
         is_done(&end.outcome, 0, "", 0)
-            && interp.set_var("y", "2") == Ok(())
+            && interp.set_var("y", "2").is_ok()
             && holds(&mut interp, "a(1)", "2")
             && holds(&mut interp, "y", "2")
             && lacks(&mut interp, "a"),
@@ -102,7 +139,7 @@ fn links(alloc: Global) -> Result<bool, Fault> {
 
 #[test]
 fn a_host_writes_through_links(rt: HostRuntime) {
-    assert!(rt; matches!(links(rt.alloc()), Ok(true)));
+    expect(&rt, links(rt.alloc()), "a link");
 }
 
 /// Are so few texts compiled for so many turns of a script?
@@ -113,7 +150,7 @@ fn compiles_few(alloc: Global) -> Result<bool, Fault> {
     let end = evaluated(alloc, &mut interp, 5, script, 10000)?;
     Ok(
         is_done(&end.outcome, 0, "", 4995)
-            && end.out.bytes() == b"1000\n".as_slice()
+            && end.devices.hold("1000\n", "")
             && interp.compiles() >= 3
             && interp.compiles() < 20,
     )
@@ -121,7 +158,7 @@ fn compiles_few(alloc: Global) -> Result<bool, Fault> {
 
 #[test]
 fn kept_codes_are_not_compiled_again(rt: HostRuntime) {
-    assert!(rt; matches!(compiles_few(rt.alloc()), Ok(true)));
+    expect(&rt, compiles_few(rt.alloc()), "a thousand turns");
 }
 
 /// Is the body of each of 600 procedures compiled once, where all are called in turn, again and again?
@@ -132,7 +169,7 @@ fn compiles_once(alloc: Global) -> Result<bool, Fault> {
     let end = evaluated(alloc, &mut interp, 4, script, 20000)?;
     Ok(
         is_done(&end.outcome, 0, "", 10985)
-            && end.out.bytes() == b"599\n".as_slice()
+            && end.devices.hold("599\n", "")
             && interp.compiles() >= 600
             && interp.compiles() < 700,
     )
@@ -140,5 +177,5 @@ fn compiles_once(alloc: Global) -> Result<bool, Fault> {
 
 #[test]
 fn codes_of_many_procedures_are_kept(rt: HostRuntime) {
-    assert!(rt; matches!(compiles_once(rt.alloc()), Ok(true)));
+    expect(&rt, compiles_once(rt.alloc()), "600 procedures");
 }

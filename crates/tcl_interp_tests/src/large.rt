@@ -1,6 +1,6 @@
 //! Many variables, elements and commands, and long texts.
 
-use super::setting::{evaluated, fresh, holds, is_done};
+use super::setting::{evaluated, expect, fresh, holds, is_done};
 use std::alloc::{AllocError, Global};
 use tcl_chars::Fault;
 use tcl_interp::{HostFault, HostVar, Interp};
@@ -37,14 +37,25 @@ fn sizes(interp: &mut Interp) -> Result<(usize, usize), HostFault> {
     Ok((vars.len(), elements))
 }
 
+/// Are these the numbers of variables, and of elements of the first one?
+fn has_sizes(interp: &mut Interp, want: (usize, usize)) -> bool {
+    matches!(sizes(interp), Ok(found) if found == want)
+}
+
+/// Does an interpreter hold a thousand variables and elements?
+fn holds_thousand(alloc: Global) -> Result<bool, Fault> {
+    let mut interp = fresh(alloc)?;
+    Ok(
+        fill(alloc, &mut interp)?
+            && has_sizes(&mut interp, (1001, 1000))
+            && holds(&mut interp, "v1777", "v1777")
+            && holds(&mut interp, "a(1999)", "v1999"),
+    )
+}
+
 #[test]
-fn a_thousand_variables(rt: HostRuntime) -> Result<(), Fault> {
-    let mut interp = fresh(rt.alloc())?;
-    assert!(rt; fill(rt.alloc(), &mut interp) == Ok(true));
-    assert!(rt; sizes(&mut interp) == Ok((1001, 1000)));
-    assert!(rt; holds(&mut interp, "v1777", "v1777"));
-    assert!(rt; holds(&mut interp, "a(1999)", "v1999"));
-    Ok(())
+fn a_thousand_variables(rt: HostRuntime) {
+    expect(&rt, holds_thousand(rt.alloc()), "a thousand variables");
 }
 
 /// A thousand lines of two commands.
@@ -56,16 +67,26 @@ fn commands(alloc: Global) -> Result<String, AllocError> {
     Ok(script)
 }
 
+/// Are these so many bytes, with this text at their end?
+fn ends_with(bytes: &[u8], count: usize, end: &str) -> bool {
+    bytes.len() == count && bytes.ends_with(end.as_bytes())
+}
+
+/// Are a thousand lines of commands evaluated?
+fn evaluates_thousand(alloc: Global) -> Result<bool, Fault> {
+    let mut interp = fresh(alloc)?;
+    let script = commands(alloc)?;
+    let end = evaluated(alloc, &mut interp, 5000, &script, 2001)?;
+    Ok(
+        is_done(&end.outcome, 0, "", 1)
+            && ends_with(end.devices.out(), 5000, "1998\n1999\n")
+            && has_sizes(&mut interp, (1000, 0)),
+    )
+}
+
 #[test]
-fn a_thousand_commands(rt: HostRuntime) -> Result<(), Fault> {
-    let mut interp = fresh(rt.alloc())?;
-    let script = commands(rt.alloc())?;
-    let end = evaluated(rt.alloc(), &mut interp, 5000, &script, 2001)?;
-    assert!(rt; is_done(&end.outcome, 0, "", 1));
-    assert!(rt; end.out.bytes().len() == 5000);
-    assert!(rt; end.out.bytes().ends_with(b"1998\n1999\n"));
-    assert!(rt; sizes(&mut interp) == Ok((1000, 0)));
-    Ok(())
+fn a_thousand_commands(rt: HostRuntime) {
+    expect(&rt, evaluates_thousand(rt.alloc()), "a thousand lines");
 }
 
 /// A letter, repeated `times` times.
@@ -77,52 +98,64 @@ fn long(alloc: Global, times: u32) -> Result<String, AllocError> {
     Ok(text)
 }
 
-#[test]
-fn long_values(rt: HostRuntime) -> Result<(), Fault> {
-    let mut interp = fresh(rt.alloc())?;
-    let text = long(rt.alloc(), 100_000)?;
-    assert!(rt; interp.set_var("x", &text) == Ok(()));
-    let end = evaluated(rt.alloc(), &mut interp, 400_001, "puts $x$x; set y $x", 9)?;
-    assert!(rt; is_done(&end.outcome, 0, &text, 7));
-    assert!(rt; end.out.bytes().len() == 400_001);
-    assert!(rt; end.out.bytes().starts_with(text.as_bytes()));
-    assert!(rt; holds(&mut interp, "y", &text));
-    Ok(())
+/// Is a variable of 200,000 bytes put out twice, and copied?
+fn holds_long(alloc: Global) -> Result<bool, Fault> {
+    let text = long(alloc, 100_000)?;
+    let mut interp = fresh(alloc)?;
+    let is_set = interp.set_var("x", &text).is_ok();
+    let end = evaluated(alloc, &mut interp, 400_001, "puts $x$x; set y $x", 9)?;
+    Ok(
+        is_set
+            && is_done(&end.outcome, 0, &text, 7)
+            && ends_with(end.devices.out(), 400_001, "é\n")
+            && end.devices.out().starts_with(text.as_bytes())
+            && holds(&mut interp, "y", &text),
+    )
 }
 
-/// Does a script end so, with these units?
-fn answers(alloc: Global, script: &str, budget: u64, want: &str) -> Result<bool, Fault> {
+#[test]
+fn long_values(rt: HostRuntime) {
+    expect(&rt, holds_long(rt.alloc()), "a long text");
+}
+
+/// A script, what it costs, and its result.
+type Row = (&'static str, u64, &'static str);
+
+/// Does a script end so, with the units that it costs?
+fn answers(alloc: Global, row: &Row) -> Result<bool, Fault> {
+    let (script, cost, want) = *row;
     let mut interp = fresh(alloc)?;
-    let end = evaluated(alloc, &mut interp, 9, script, budget)?;
+    let end = evaluated(alloc, &mut interp, 9, script, cost)?;
     Ok(is_done(&end.outcome, 0, want, 0))
 }
 
+static LONG: [Row; 3] = [
+    (
+        "for {set i 0} {$i < 3000} {incr i} {lappend l $i}; llength $l",
+        9003,
+        "3000",
+    ),
+    (
+        "proc f n {if {$n == 0} {return 0}; expr {1 + [f [expr {$n - 1}]]}}; f 300",
+        1204,
+        "300",
+    ),
+    (
+        "set i 0; while 1 {if {[incr i] == 2000} break}; set i",
+        6004,
+        "2000",
+    ),
+];
+
 #[test]
 fn thousands_of_turns_and_levels(rt: HostRuntime) {
-    for (script, cost, want) in [
-        (
-            "for {set i 0} {$i < 3000} {incr i} {lappend l $i}; llength $l",
-            9003,
-            "3000",
-        ),
-        (
-            "proc f n {if {$n == 0} {return 0}; expr {1 + [f [expr {$n - 1}]]}}; f 300",
-            1204,
-            "300",
-        ),
-        (
-            "set i 0; while 1 {if {[incr i] == 2000} break}; set i",
-            6004,
-            "2000",
-        ),
-    ] {
-        let answered = answers(rt.alloc(), script, cost, want);
-        assert!(rt; matches!(answered, Ok(true)), "{script}");
+    for row in &LONG {
+        expect(&rt, answers(rt.alloc(), row), row.0);
     }
 }
 
-/// Scripts in which a value grows a thousand times, or has a thousand parts: what they cost, and their result.
-static GROWING: [(&str, u64, &str); 12] = [
+/// Scripts in which a value grows a thousand times, or has a thousand parts.
+static GROWING: [Row; 12] = [
     (
         "for {set i 0} {$i < 1000} {incr i} {append s ab}; string length $s",
         3003,
@@ -180,8 +213,6 @@ static GROWING: [(&str, u64, &str); 12] = [
 #[test]
 fn values_that_grow(rt: HostRuntime) {
     for row in &GROWING {
-        let (script, cost, want) = *row;
-        let answered = answers(rt.alloc(), script, cost, want);
-        assert!(rt; matches!(answered, Ok(true)), "{script}");
+        expect(&rt, answers(rt.alloc(), row), row.0);
     }
 }

@@ -1,11 +1,15 @@
 //! What the tests share.
 
+use super::devices::{Devices, NONE};
 use std::alloc::{AllocError, Global};
-use tcl_chan::device::{Input, Output};
-use tcl_chan::memory::{MemoryInput, MemoryOutput};
-use tcl_chan::world::World;
+use std::process::Abort;
 use tcl_chars::{Dialect, Fault};
 use tcl_interp::{Config, Interp, Outcome};
+
+/// Fails a test unless this was found to hold, and tells of what.
+pub(crate) fn expect(rt: &impl Abort, found: Result<bool, Fault>, what: &str) {
+    assert!(rt; matches!(found, Ok(true)), "{what}");
+}
 
 /// An interpreter without variables.
 pub(crate) fn fresh(alloc: Global) -> Result<Interp, Fault> {
@@ -17,26 +21,18 @@ pub(crate) fn fresh(alloc: Global) -> Result<Interp, Fault> {
     )
 }
 
-/// Evaluates a script over the devices.
-pub(crate) fn eval_over<R: Input, W: Output, E: Output>(
-    alloc: Global,
-    interp: &mut Interp,
-    input: &mut R,
-    out: &mut W,
-    err: &mut E,
-    script: &str,
-    budget: u64,
-) -> Outcome {
-    let mut world = World::new(alloc, input, out, err);
-    interp.eval(&mut world, script, budget)
-}
-
 /// How a script ended, and what it put out.
-#[derive(Drop)]
 pub(crate) struct Ending {
     pub(crate) outcome: Outcome,
-    pub(crate) out: MemoryOutput,
-    pub(crate) err: MemoryOutput,
+    pub(crate) devices: Devices,
+}
+
+impl Drop for Ending {
+    fn drop(self) {
+        let Ending { outcome, devices } = self;
+        drop(outcome);
+        drop(devices);
+    }
 }
 
 /// Evaluates a script over outputs that take `capacity` bytes each.
@@ -47,13 +43,9 @@ pub(crate) fn evaluated(
     script: &str,
     budget: u64,
 ) -> Result<Ending, AllocError> {
-    let mut input = MemoryInput::new(b"");
-    let mut out = MemoryOutput::new(alloc, capacity)?;
-    let mut err = MemoryOutput::new(alloc, capacity)?;
-    let outcome = eval_over(
-        alloc, interp, &mut input, &mut out, &mut err, script, budget,
-    );
-    Ok(Ending { outcome, out, err })
+    let mut devices = Devices::new(alloc, b"", capacity, NONE)?;
+    let outcome = devices.eval(alloc, interp, script, budget);
+    Ok(Ending { outcome, devices })
 }
 
 /// Did the script end by itself, with this code, this result or message, and this number of units left?

@@ -1,9 +1,7 @@
-//! The unit tests of a session and of the tool: what no contract can say.
+//! The unit tests of the program that no run of it can make: what no contract can say.
 #![tactic(auto)]
 
 #[cfg(test)]
 mod breaking;
 #[cfg(test)]
-mod session;
-#[cfg(test)]
-mod shell;
+mod words;

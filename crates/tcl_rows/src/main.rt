@@ -4,12 +4,14 @@
 #![tactic(auto)]
 
 mod breaking;
+mod devices;
 mod parts;
 mod rows;
 mod runs;
 mod slices;
 mod topics;
 
+use std::alloc::{AllocError, Global};
 use std::process::ExitCode;
 use std::{env, fs, io};
 
@@ -21,15 +23,26 @@ fn show_pauses(rt: &HostRuntime) -> io::Result<()> {
     print!(rt; "{shown}")
 }
 
+// All that is told of a script.
+fn told_of(alloc: Global, script: &str) -> Result<String, AllocError> {
+    let shown = rows::show(alloc, script)?;
+    let breaking = breaking::show_breaking(alloc, script)?;
+    let parted = parts::show_parts(alloc, script)?;
+    format!(in alloc; "{shown}{breaking}{parted}")
+}
+
+// A script of this name.
+fn show_script(rt: &HostRuntime, name: &str) -> io::Result<()> {
+    let bytes = fs::read(rt, name)?;
+    let script = str::from_utf8(&bytes).unwrap_or("not UTF-8");
+    let told = told_of(rt.alloc(), script)?;
+    println!(rt; "== {name}\n{told}")
+}
+
 // Every script that the program's words name, and then what stands in no script.
 fn show_all(rt: &HostRuntime) -> io::Result<()> {
     for name in env::args(rt)?.skip(1) {
-        let bytes = fs::read(rt, &name)?;
-        let script = str::from_utf8(&bytes).unwrap_or("not UTF-8");
-        let shown = rows::show(rt.alloc(), script)?;
-        let breaking = breaking::show_breaking(rt.alloc(), script)?;
-        let parted = parts::show_parts(rt.alloc(), script)?;
-        println!(rt; "== {name}\n{shown}{breaking}{parted}")?;
+        show_script(rt, &name)?;
     }
     let shown = rows::show_failing(rt.alloc())?;
     println!(rt; "== an output that fails\n{shown}")?;

@@ -1,21 +1,16 @@
 //! A script, and what is shown of it.
 
+use crate::devices::{Call, Devices, Kind, NONE};
+use crate::parts::fresh;
 use std::alloc::{AllocError, Global};
-use tcl_chan::device::{Input, Output};
-use tcl_chan::faulty::FaultyOutput;
-use tcl_chan::memory::{MemoryInput, MemoryOutput};
-use tcl_chan::world::World;
 use tcl_chars::Dialect;
-use tcl_interp::{Config, Interp, Outcome, Report, run, run_with};
+use tcl_interp::{Interp, Outcome};
 
 /// More units than any row spends.
 pub(crate) const UNITS: u64 = 10_000;
 
 /// What a script finds on the input.
 pub(crate) const INPUT: &[u8] = b"a\r\nb";
-
-/// The bytes of output that a row may hold.
-pub(crate) const CAPACITY: usize = 4096;
 
 /// How an evaluation ended.
 pub(crate) fn told(alloc: Global, outcome: &Outcome) -> Result<String, AllocError> {
@@ -46,20 +41,10 @@ fn spent(outcome: &Outcome, budget: u64) -> Option<u64> {
 
 // One run of the script.
 fn show_run(alloc: Global, script: &str, budget: u64) -> Result<Shown, AllocError> {
-    let mut input = MemoryInput::new(INPUT);
-    let mut out = MemoryOutput::new(alloc, CAPACITY)?;
-    let mut err = MemoryOutput::new(alloc, CAPACITY)?;
-    let Report { outcome, interp: _ } = run(
-        alloc,
-        script,
-        &[],
-        &mut input,
-        &mut out,
-        &mut err,
-        budget,
-    );
+    let mut devices = Devices::new(alloc, INPUT, NONE)?;
+    let outcome = devices.run(alloc, Dialect::Tcl86, script, budget).outcome;
     let end = told(alloc, &outcome)?;
-    let text = str::from_utf8(out.bytes()).unwrap_or("not UTF-8\n");
+    let text = devices.text();
     Ok(Shown {
         text: format!(in alloc; "{text}{end}")?,
         spent: spent(&outcome, budget),
@@ -87,63 +72,50 @@ pub(crate) fn show(alloc: Global, script: &str) -> Result<String, AllocError> {
     }
 }
 
-// How two evaluations of a script over the same devices end.
-fn ends<R: Input, W: Output, E: Output>(
+// How an evaluation ends.
+fn ends(
     alloc: Global,
     interp: &mut Interp,
-    input: &mut R,
-    out: &mut W,
-    err: &mut E,
+    devices: &mut Devices,
+    script: &str,
 ) -> Result<String, AllocError> {
-    let mut world = World::new(alloc, input, out, err);
-    let first = told(alloc, &interp.eval(&mut world, "puts a", UNITS))?;
-    let second = told(alloc, &interp.eval(&mut world, "puts b", UNITS))?;
-    format!(in alloc; "{first}\n{second}")
+    let outcome = devices.eval(alloc, interp, script, UNITS);
+    told(alloc, &outcome)
 }
 
 /// `puts` twice where the first write fails: how they end, and the bytes that were written.
 pub(crate) fn show_failing(alloc: Global) -> Result<String, AllocError> {
-    let config = Config {
-        dialect: Dialect::Tcl86,
+    let first_write = Call {
+        kind: Kind::Write,
+        number: 1,
     };
-    let Ok(mut interp) = Interp::new(alloc, config) else {
-        return Err(AllocError);
-    };
-    let mut input = MemoryInput::new(b"");
-    let mut out = FaultyOutput::new(MemoryOutput::new(alloc, CAPACITY)?, 1, 0);
-    let mut err = MemoryOutput::new(alloc, CAPACITY)?;
-    let ends = ends(alloc, &mut interp, &mut input, &mut out, &mut err)?;
-    let bytes = out.inner().bytes().len();
-    format!(in alloc; "{ends}\n{bytes} bytes")
+    let mut interp = fresh(alloc)?;
+    let mut devices = Devices::new(alloc, b"", first_write)?;
+    let first = ends(alloc, &mut interp, &mut devices, "puts a")?;
+    let second = ends(alloc, &mut interp, &mut devices, "puts b")?;
+    let bytes = devices.out().len();
+    format!(in alloc; "{first}\n{second}\n{bytes} bytes")
 }
 
 // How a script ends in an interpreter of a dialect.
 fn ends_in(alloc: Global, dialect: Dialect, script: &str) -> Result<String, AllocError> {
-    let mut input = MemoryInput::new(INPUT);
-    let mut out = MemoryOutput::new(alloc, CAPACITY)?;
-    let mut err = MemoryOutput::new(alloc, CAPACITY)?;
-    let Report { outcome, interp: _ } = run_with(
-        alloc,
-        Config { dialect },
-        script,
-        &[],
-        &mut input,
-        &mut out,
-        &mut err,
-        UNITS,
-    );
+    let mut devices = Devices::new(alloc, INPUT, NONE)?;
+    let outcome = devices.run(alloc, dialect, script, UNITS).outcome;
     told(alloc, &outcome)
 }
+
+// Scripts over numbers.
+static NUMBERS: [&str; 4] = [
+    "expr {010 + 1}",
+    "expr {08 + 1}",
+    "lsort -integer {010 9}",
+    "format %d 010",
+];
 
 /// How scripts over numbers end, with those of Tcl 8.6 and with those of Tcl 9.
 pub(crate) fn show_dialects(alloc: Global) -> Result<String, AllocError> {
     let mut shown = String::new(alloc);
-    for script in [
-        "expr {010 + 1}",
-        "expr {08 + 1}",
-        "lsort -integer {010 9}",
-        "format %d 010",
-    ] {
+    for script in &NUMBERS {
         let old = ends_in(alloc, Dialect::Tcl86, script)?;
         let new = ends_in(alloc, Dialect::Tcl9, script)?;
         write!(shown, "\n{script}: {old}; in Tcl 9: {new}")?;

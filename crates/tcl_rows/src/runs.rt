@@ -1,15 +1,9 @@
 //! A run in parts, and what is shown of it.
 
+use crate::devices::{Call, Devices, Kind};
 use crate::rows::told;
 use std::alloc::{AllocError, Global};
-use tcl_chan::device::{Input, Output};
-use tcl_chan::faulty::FaultyOutput;
-use tcl_chan::memory::{MemoryInput, MemoryOutput};
-use tcl_chan::world::World;
 use tcl_interp::{Interp, Outcome, Run};
-
-/// The bytes that an output may hold.
-pub(crate) const CAPACITY: usize = 64;
 
 // The units of a script that is evaluated behind a run that was stopped.
 const NEXT_UNITS: u64 = 9;
@@ -36,25 +30,26 @@ pub(crate) fn show_end(
 }
 
 /// Adds what was put out.
-pub(crate) fn show_put(out: &MemoryOutput, shown: &mut String) -> Result<(), AllocError> {
-    let text = str::from_utf8(out.bytes()).unwrap_or("not UTF-8");
+pub(crate) fn show_put(devices: &Devices, shown: &mut String) -> Result<(), AllocError> {
+    let text = devices.text();
     writeln!(shown, "put {text:?}")
 }
 
-// Goes on in these parts over the same devices, and adds how each of them ends.
-fn go_on<R: Input, W: Output, E: Output>(
-    alloc: Global,
-    run: &mut Run,
-    input: &mut R,
-    out: &mut W,
-    err: &mut E,
-    parts: &[u64],
-    shown: &mut String,
-) -> Result<(), AllocError> {
-    let mut world = World::new(alloc, input, out, err);
-    for part in parts {
-        let outcome = run.go(&mut world, *part);
-        show_end(alloc, &outcome, shown)?;
+impl Lent {
+    // The devices.
+    fn devices(self, alloc: Global) -> Result<Devices, AllocError> {
+        let failing = Call {
+            kind: Kind::Write,
+            number: self.failing,
+        };
+        Devices::new(alloc, self.input, failing)
+    }
+}
+
+// Adds how each part ended.
+fn show_ends(alloc: Global, outcomes: &[Outcome], shown: &mut String) -> Result<(), AllocError> {
+    for outcome in outcomes {
+        show_end(alloc, outcome, shown)?;
         shown.push_str(", ")?;
     }
     Ok(())
@@ -68,53 +63,27 @@ pub(crate) fn show_leg(
     parts: &[u64],
     shown: &mut String,
 ) -> Result<(), AllocError> {
-    let mut input = MemoryInput::new(lent.input);
-    let mut out = FaultyOutput::new(MemoryOutput::new(alloc, CAPACITY)?, lent.failing, 0);
-    let mut err = MemoryOutput::new(alloc, CAPACITY)?;
+    let mut devices = lent.devices(alloc)?;
+    let outcomes = devices.go(alloc, run, parts)?;
     write!(shown, "  {parts:?}: ")?;
-    go_on(alloc, run, &mut input, &mut out, &mut err, parts, shown)?;
+    show_ends(alloc, &outcomes, shown)?;
     let stage = run.stage();
     write!(shown, "{stage:?}, ")?;
-    show_put(out.inner(), shown)
-}
-
-// Evaluates a script in this interpreter over these devices, with some units, and adds how it ends.
-fn evaluate<R: Input, W: Output, E: Output>(
-    alloc: Global,
-    interp: &mut Interp,
-    input: &mut R,
-    out: &mut W,
-    err: &mut E,
-    script: &str,
-    shown: &mut String,
-) -> Result<(), AllocError> {
-    let mut world = World::new(alloc, input, out, err);
-    let outcome = interp.eval(&mut world, script, NEXT_UNITS);
-    show_end(alloc, &outcome, shown)
+    show_put(&devices, shown)
 }
 
 /// Evaluates a script in this interpreter over new devices, and adds how it ends and what was put out.
 pub(crate) fn show_next(
     alloc: Global,
-    interp: Interp,
+    interp: &mut Interp,
     lent: Lent,
     script: &str,
     shown: &mut String,
 ) -> Result<(), AllocError> {
-    let mut interp = interp;
-    let mut input = MemoryInput::new(lent.input);
-    let mut out = FaultyOutput::new(MemoryOutput::new(alloc, CAPACITY)?, lent.failing, 0);
-    let mut err = MemoryOutput::new(alloc, CAPACITY)?;
+    let mut devices = lent.devices(alloc)?;
+    let outcome = devices.eval(alloc, interp, script, NEXT_UNITS);
     write!(shown, "  eval {NEXT_UNITS}: ")?;
-    evaluate(
-        alloc,
-        &mut interp,
-        &mut input,
-        &mut out,
-        &mut err,
-        script,
-        shown,
-    )?;
+    show_end(alloc, &outcome, shown)?;
     shown.push_str(", ")?;
-    show_put(out.inner(), shown)
+    show_put(&devices, shown)
 }

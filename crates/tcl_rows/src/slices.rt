@@ -1,16 +1,14 @@
 //! Runs of a whole budget, in slices.
 
-use crate::runs::{CAPACITY, show_end, show_put};
+use crate::devices::{Devices, NONE};
+use crate::runs::{show_end, show_put};
 use std::alloc::{AllocError, Global};
-use tcl_chan::memory::{MemoryInput, MemoryOutput};
-use tcl_chars::Dialect;
-use tcl_interp::{Config, Report, run_sliced};
 
 // It spends 8 units over an input of two lines.
 const SCRIPT: &str = "while {[gets stdin l] >= 0} {puts $l}";
 
 // Budgets, and the sizes of their slices.
-const SLICED: [(u64, u64); 14] = [
+static SLICED: [(u64, u64); 14] = [
     (0, 0),
     (0, 1),
     (4, 3),
@@ -34,27 +32,12 @@ fn show_sliced(
     slice: u64,
     shown: &mut String,
 ) -> Result<(), AllocError> {
-    let mut input = MemoryInput::new(b"a\nb");
-    let mut out = MemoryOutput::new(alloc, CAPACITY)?;
-    let mut err = MemoryOutput::new(alloc, CAPACITY)?;
-    let config = Config {
-        dialect: Dialect::Tcl86,
-    };
-    let Report { outcome, interp: _ } = run_sliced(
-        alloc,
-        config,
-        SCRIPT,
-        &[],
-        &mut input,
-        &mut out,
-        &mut err,
-        budget,
-        slice,
-    );
+    let mut devices = Devices::new(alloc, b"a\nb", NONE)?;
+    let outcome = devices.run_sliced(alloc, SCRIPT, budget, slice).outcome;
     write!(shown, "  {budget} in slices of {slice}: ")?;
     show_end(alloc, &outcome, shown)?;
     shown.push_str(", ")?;
-    show_put(&out, shown)
+    show_put(&devices, shown)
 }
 
 /// Adds what the script comes to with some budgets, in slices of several sizes.
@@ -63,8 +46,8 @@ pub(crate) fn show(alloc: Global, shown: &mut String) -> Result<(), AllocError> 
         shown,
         "== a budget in slices leaves what it leaves whole\n{SCRIPT}"
     )?;
-    for (budget, slice) in SLICED {
-        show_sliced(alloc, budget, slice, shown)?;
+    for (budget, slice) in &SLICED {
+        show_sliced(alloc, *budget, *slice, shown)?;
     }
     Ok(())
 }

@@ -219,7 +219,8 @@ fn show_stop(alloc: Global, stop: &Stop, lent: Lent, shown: &mut String) -> Resu
     let mut run = started(alloc, script)?;
     show_leg(alloc, &mut run, lent, parts, shown)?;
     writeln!(shown, "{next}")?;
-    show_next(alloc, run.stop(), lent, next, shown)
+    let mut interp = run.stop();
+    show_next(alloc, &mut interp, lent, next, shown)
 }
 
 // Adds what the runs of some rows come to.
