@@ -4,4 +4,6 @@
 #[cfg(test)]
 mod breaking;
 #[cfg(test)]
+mod session;
+#[cfg(test)]
 mod words;
