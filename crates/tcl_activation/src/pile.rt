@@ -161,10 +161,14 @@ impl<T: Drop> Pile<T> {
         mem::swap(&mut self.items, &mut other.items);
     }
 
-    /// More on top, the last of them uppermost.
+    /// More on top, the last of them uppermost. On a pile with nothing on it none of them is moved.
     pub fn append(&mut self, items: &mut Vec<T>) -> Result<(), AllocError>
         ensures { OnOk result (self.new ≡ reverse items.old.items ++ self.old) }
     {
+        if self.items.is_empty() && self.items.capacity() <= items.capacity() {
+            mem::swap(&mut self.items, items);
+            return Ok(());
+        }
         self.items.append(items)
     }
 

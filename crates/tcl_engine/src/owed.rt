@@ -56,7 +56,8 @@ fn after_any(
     }
 }
 
-/// What is owed is done, when what was asked for has ended so. The end of a procedure's body comes first, since it is what comes most.
+/// What is owed is done, when what was asked for has ended so. What comes most stands first: the end of a procedure's body, and that of a
+/// script whose end is the command's, as of `switch` and `eval`.
 #[inline(always)]
 #[tactic(auto, unfolding(tcl_meaning::specs::Pages::owed))]
 pub(crate) fn after(
@@ -70,6 +71,7 @@ pub(crate) fn after(
 {
     match owes {
         Owes::Leaving => after_body(alloc, completion),
+        Owes::Nothing => Ok(Step::Done(completion)),
         owes => after_any(alloc, dialect, frames, owes, completion),
     }
 }

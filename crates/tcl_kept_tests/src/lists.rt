@@ -1,6 +1,7 @@
 //! Lists whose elements are put, gathered and looked at, each call once with ample memory.
 use crate::answers::{holds, is, left, text, value, words};
 use std::alloc::{AllocError, Global};
+use std::rc::RcStr;
 use tcl_chars::Fault;
 use tcl_values::{Gathering, Value};
 
@@ -130,4 +131,46 @@ static GATHERED: [Gathered; 4] = [
 #[test]
 fn parts_and_values_are_gathered(rt: HostRuntime) {
     assert_eq!(rt; wrongly_gathered(rt.alloc(), &GATHERED), None);
+}
+
+/// A text of a script as an element in four ways: taken, put behind, and both gathered as they stand there; and behind them itself, gathered.
+fn named_five_times(alloc: Global, text: &str) -> Result<String, Fault> {
+    let name = [Value::of_name(alloc, RcStr::from_str(alloc, text)?)?];
+    let mut list = Value::of_list(alloc, vec![in alloc; name[0].copy()?]?)?;
+    list.push(alloc, name[0].copy()?)?;
+    let both = list.list(alloc)?;
+    let gathered = Gathering::of_row(alloc, list.row(alloc)?)?.with_values(alloc, &both)?;
+    left(
+        alloc,
+        gathered.with_values(alloc, &name)?.into_value(alloc)?,
+        Ok(()),
+    )
+}
+
+/// A text of a script, and the list that it is five times.
+type Named = (&'static str, &'static str);
+
+/// The first text that makes another list.
+fn wrongly_named(alloc: Global, rows: &[Named]) -> Option<&'static str> {
+    for row in rows {
+        let (text, want) = *row;
+        if !is(named_five_times(alloc, text), want) {
+            return Some(text);
+        }
+    }
+    None
+}
+
+static NAMED: [Named; 6] = [
+    ("x", "x x x x x"),
+    ("", "{} {} {} {} {}"),
+    ("seven77", "seven77 seven77 seven77 seven77 seven77"),
+    ("eight888", "eight888 eight888 eight888 eight888 eight888"),
+    ("\u{e9}", "\u{e9} \u{e9} \u{e9} \u{e9} \u{e9}"),
+    ("a b", "{a b} {a b} {a b} {a b} {a b}"),
+];
+
+#[test]
+fn texts_of_a_script_as_elements(rt: HostRuntime) {
+    assert_eq!(rt; wrongly_named(rt.alloc(), &NAMED), None);
 }

@@ -40,8 +40,8 @@ part_texts old part now row first last s t e p is_old is_row =
 
 -- ---- one element behind them
 
-pub came_deeper : (ks more : List Kept) (k : Kept) (d e n : ℕ) → depth_over ks ≤ d → more ≡ ks ++ k ∷ [] → e ≡ k.depth → n ≡ max d (e + 1) → depth_over more ≤ n
-came_deeper ks more k d e n deep m same most = omega (arith, ap depth_over m, depth_over-push ks k, deep, same, most)
+pub came_deeper : (ks more : List Kept) (k : Kept) (d n : ℕ) → depth_over ks ≤ d → more ≡ ks ++ k ∷ [] → d ≤ n → k.depth + 1 ≤ n → depth_over more ≤ n
+came_deeper ks more k d n deep m others most = omega (arith, ap depth_over m, depth_over-push ks k, deep, others, most)
 
 pub came_texts : (old now new : List Kept) (k : Kept) (ts : List (List ℕ)) (i : ℕ) (t : List ℕ) → i < length ts → t ≡ get_or ts i t → new ≡ now ++ k ∷ [] → k.text ≡ t → texts now ≡ texts old ++ take i ts → texts new ≡ texts old ++ take (i + 1) ts
 came_texts old now new k ts i t l is e said same =

@@ -134,6 +134,8 @@ pub record IsLiteral (l : Literal) : Type 0 where
 pub record IsNamed (n : Named) : Type 0 where
   pub key : IsKeyOf n.key (rc_str_bytes n.text)
   pub ascii : OnTrue n.ascii (IsAscii (rc_str_bytes n.text))
+  pub short : IfSome n.short (λ s. IsShort s)
+  pub same : IfSome n.short (λ s. short_text s ≡ text_of n.text)
 
 abbrev pub entry_text : Entry → List ℕ
 entry_text (entry.Text s) = text_of s

@@ -6,6 +6,7 @@ ghost use Rattle.std.specs.Str.{chars};
 ghost use Rattle.tcl_values.specs.Numerals.{digits, AreDigits};
 
 use itoa::Buffer;
+use std::str;
 
 /// The most characters of a number's text.
 const ROOM: usize = 20;
@@ -41,10 +42,8 @@ impl Digits {
         requires { AreDigits self.now }
         ensures { result.now ≡ digits self.now }
     {
-        match str::from_utf8(&self.bytes[..self.count as usize]) {
-            Ok(text) => text,
-            Err(_) => unreachable!(),
-        }
+        // Digits and a sign are UTF-8.
+        unsafe { str::from_utf8_unchecked(&self.bytes[..self.count as usize]) }
     }
 }
 

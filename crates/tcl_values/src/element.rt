@@ -23,9 +23,21 @@ use tcl_chars::{number_text, push_number, push_text};
 
 /// An element of a list that is kept. It has a text; that of a list or of a dictionary is written when somebody asks for it.
 #[cycle(element)]
-#[derive(Drop)]
 pub struct Element {
     pub(crate) entry: Entry,
+}
+
+impl Drop for Element {
+    /// A number and a short text hold nothing.
+    #[cycle(dropping)]
+    #[inline(always)]
+    fn drop(self) {
+        let Element { entry } = self;
+        match entry {
+            Entry::Number(_) | Entry::Short(_) => {}
+            entry => drop(entry),
+        }
+    }
 }
 
 /// What is kept of an element.
@@ -195,8 +207,21 @@ impl Element {
         }
     }
 
-    /// A value of the same text. What is kept is shared.
+    /// A value of the same text. What is kept is shared; a number and a short text are copied in place.
+    #[inline(always)]
     pub fn copy(&self) -> Result<Value, AllocError>
+        ensures { IfOk result (λ v. v ≡ self.now.text) }
+    {
+        let held = match &self.entry {
+            Entry::Short(short) => Held::Short(*short),
+            Entry::Number(n) => Held::Number(*n),
+            _ => return self.shared(),
+        };
+        Ok(Value { held })
+    }
+
+    // The same of any element, by a call.
+    fn shared(&self) -> Result<Value, AllocError>
         ensures { IfOk result (λ v. v ≡ self.now.text) }
     {
         let held = match &self.entry {

@@ -1,6 +1,6 @@
 //! Elements that are gathered one behind the other, to be a list.
 
-ghost use Rattle.std.specs.Prelude.{◌≡◌, ◌≤◌, ◌++◌, [], drop, max, take, reverse, IfOk, IfSome, OnOk};
+ghost use Rattle.std.specs.Prelude.{◌≡◌, ◌≤◌, ◌+◌, ◌++◌, [], drop, max, take, reverse, IfOk, IfSome, OnOk};
 ghost use Rattle.tcl_list.specs.Written.{written};
 ghost use Rattle.tcl_pages.specs.Lists.{replaced, times};
 ghost use Rattle.tcl_values.specs.Kept.{texts, depth_over};
@@ -58,6 +58,24 @@ fn add_copies(items: &mut Vec<Element>, more: &[Element]) -> Result<(), AllocErr
     Ok(())
 }
 
+/// A value as an element, and how deep a list is at most of it and of elements of which one is no deeper than so much. What is kept is shared;
+/// a number and a short text are copied in place.
+#[inline(always)]
+fn element_within(alloc: Global, value: &Value, depth: u8) -> Result<(Element, u8), AllocError>
+    requires { depth ≤ 64 }
+    ensures text { IfOk result (λ e. e.0.text ≡ value.now) }
+    ensures others { IfOk result (λ e. depth ≤ e.1) }
+    ensures deeper { IfOk result (λ e. e.0.depth + 1 ≤ e.1) }
+    ensures limit { IfOk result (λ e. e.1 ≤ 64) }
+{
+    if let Some(element) = value.plain_element() {
+        return Ok((element, depth.max(1)));
+    }
+    let element = value.element(alloc)?;
+    let deeper = depth.max(element.depth() + 1);
+    Ok((element, deeper))
+}
+
 /// Adds values at the end of elements, of which a list is no deeper than so much, and answers how deep a list of all is at most.
 fn add_values(
     alloc: Global,
@@ -74,9 +92,9 @@ fn add_values(
     items.reserve(more.len())?;
     let mut deepest = depth;
     for value in more {
-        let element = value.element(alloc)?;
-        deepest = deepest.max(element.depth() + 1);
+        let (element, depth) = element_within(alloc, value, deepest)?;
         items.push(element)?;
+        deepest = depth;
     }
     Ok(deepest)
 }

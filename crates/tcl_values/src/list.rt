@@ -1,6 +1,6 @@
 //! Values read as lists, and changed as lists.
 
-ghost use Rattle.std.specs.Prelude.{◌≡◌, ◌<◌, ◌≤◌, slice_get, IfOk, OnOk, OnErr};
+ghost use Rattle.std.specs.Prelude.{◌≡◌, ◌<◌, ◌≤◌, slice_get, IfOk, IfSome, OnOk, OnErr};
 ghost use Rattle.tcl_list.specs.Elements.{elements_of};
 ghost use Rattle.tcl_list.specs.Texts.{Answers};
 ghost use Rattle.tcl_list.specs.Written.{written};
@@ -84,7 +84,21 @@ impl Value {
             Held::Short(short) => Ok(Element::of_short(short)),
             Held::Text(text) => Ok(Element::of_text(text)),
             Held::Ascii(text) => Ok(Element::of_text(text)),
+            Held::Name(name) => name.element(),
             held => Ok(Element::of_text(held.text(alloc)?)),
+        }
+    }
+
+    /// A number or a short text as an element, which it is as it stands.
+    #[inline(always)]
+    pub(crate) fn plain_element(&self) -> Option<Element>
+        ensures text { IfSome result (λ e. e.text ≡ self.now) }
+        ensures depth { IfSome result (λ e. e.depth ≡ 0) }
+    {
+        match &self.held {
+            Held::Number(n) => Some(Element::of_number(*n)),
+            Held::Short(short) => Some(Element::of_short(*short)),
+            _ => None,
         }
     }
 
@@ -96,6 +110,7 @@ impl Value {
         match &self.held {
             Held::Number(n) => Ok(Element::of_number(*n)),
             Held::Short(short) => Ok(Element::of_short(*short)),
+            Held::Name(name) => name.element(),
             Held::Row(row) => row_element(row.clone()?, alloc),
             Held::Dict(pairs) => dict_element(pairs.clone()?, alloc),
             Held::Text(text) => Ok(Element::of_text(text.clone()?)),

@@ -5,8 +5,10 @@ ghost use Rattle.std.specs.Str.{chars, IsAscii};
 ghost use Rattle.tcl_chars.specs.Texts.{text_of};
 ghost use Rattle.tcl_values.specs.Shape.{IsNamed};
 
+use crate::element::Element;
 use crate::literal::LONG;
 use crate::places::Places;
+use crate::short::Short;
 use crate::value::{Held, Value};
 use std::alloc::{AllocError, Global};
 use std::rc::{Rc, RcStr};
@@ -24,6 +26,8 @@ pub(crate) struct Named {
     command: Hint,
     /// Is it known to be ASCII?
     ascii: bool,
+    /// The same text in place, where it is short: as an element of a list nothing is shared then.
+    short: Option<Short>,
 }
 
 impl Named {
@@ -34,12 +38,26 @@ impl Named {
     {
         let key = NameKey::of(text.as_str());
         let ascii = text.as_str().is_ascii();
+        let short = Short::of(text.as_str());
         Named {
             text,
             key,
             variable: Hint::new(),
             command: Hint::new(),
             ascii,
+            short,
+        }
+    }
+
+    /// The element of a list that is this text.
+    pub(crate) fn element(&self) -> Result<Element, AllocError>
+        requires { IsNamed self.now }
+        ensures text { IfOk result (λ e. e.text ≡ text_of self.now.text) }
+        ensures depth { IfOk result (λ e. e.depth ≡ 0) }
+    {
+        match self.short {
+            Some(short) => Ok(Element::of_short(short)),
+            None => Ok(Element::of_text(self.text.clone()?)),
         }
     }
 
