@@ -1,6 +1,7 @@
 mod Acting
 mod Bracketing
 mod Calling
+mod Comparisons
 mod Counting
 mod Ending
 mod Finding

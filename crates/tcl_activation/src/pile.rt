@@ -157,7 +157,9 @@ impl<T: Drop> Pile<T> {
         ensures moved { other.new ≡ self.old }
         ensures left { self.new ≡ [] }
     {
-        other.items.clear();
+        if !other.items.is_empty() {
+            other.items.clear();
+        }
         mem::swap(&mut self.items, &mut other.items);
     }
 
