@@ -3,6 +3,7 @@ mod Bracketing
 mod Calling
 mod Comparisons
 mod Counting
+mod EachTurn
 mod Ending
 mod Finding
 mod Joining

@@ -8,6 +8,7 @@ mod calls;
 mod changing;
 mod comparing;
 mod composing;
+mod dealing;
 mod expressions;
 mod guards;
 mod inlined;

@@ -1,5 +1,6 @@
 //! Loops whose bodies run.
 ghost use Rattle.std.specs.Prelude.{◌≡◌, ◌≤◌, ◌<◌, ◌+◌, ◌^◌, Bool, [], ◌∷◌, true, false, length, reverse, take, OnOk};
+ghost use Rattle.tcl_activation.specs.Dealing.{DealsNewest};
 ghost use Rattle.tcl_activation.specs.Passing.{Passes};
 ghost use Rattle.tcl_activation.specs.Rounds.{IsOpen};
 ghost use Rattle.tcl_activation.specs.Saved.{loop_of};
@@ -11,6 +12,8 @@ use crate::results::Results;
 use crate::stack::Words;
 use std::alloc::{AllocError, Global};
 use std::marker::Model;
+use tcl_frames::Frames;
+use tcl_names::Sought;
 use tcl_values::Value;
 
 /// Loops whose bodies run. Contracts see a list, the newest first. One that is closed stays there with its room for the next one:
@@ -162,5 +165,16 @@ impl Loops {
         let newest = self.open - 1;
         self.open = newest;
         self.items[newest].restore(texts, lists, results)
+    }
+
+    /// The first word of the newest list that the newest has saved becomes a variable's, and the result that it has saved: tells whether that is done. Else
+    /// all is as it was.
+    #[inline(always)]
+    pub(crate) fn deal(&mut self, alloc: Global, frames: &mut Frames, name: &Sought<'_>) -> bool
+        requires { 1 ≤ length self.old }
+        ensures { DealsNewest result name.now frames.old frames.new self.old self.new }
+    {
+        let newest = self.open - 1;
+        self.items[newest].deal(alloc, frames, name)
     }
 }

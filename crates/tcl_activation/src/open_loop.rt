@@ -1,15 +1,20 @@
 //! A loop whose body runs, as it stands on the stack.
-ghost use Rattle.std.specs.Prelude.{◌≡◌, ◌+◌, ◌<◌, ◌^◌, [], ◌∷◌};
+ghost use Rattle.std.specs.Prelude.{◌≡◌, ◌+◌, ◌<◌, ◌^◌, [], ◌∷◌, drop, IfSome};
+ghost use Rattle.tcl_activation.specs.Dealing.{DealsIf};
 ghost use Rattle.tcl_activation.specs.Saved.{loop_of};
+ghost use Rattle.tcl_code.specs.Machine.{Texts};
 ghost use Rattle.tcl_meaning.specs.Completions.{nothing};
 
 use crate::loops::Open;
 use crate::pile::Pile;
-use crate::results::Results;
+use crate::results::{Last, Results};
 use crate::stack::Words;
 use std::alloc::{AllocError, Global};
 use std::marker::Model;
+use tcl_frames::Frames;
+use tcl_names::Sought;
 use tcl_values::Value;
+use tcl_vars::quick_set;
 
 /// A loop whose body runs: where the code goes on after `break`, one further where the body ends; whether `continue`
 /// passes it, or goes on there too; and what stands there then.
@@ -110,5 +115,36 @@ impl OpenLoop {
         self.lists.move_to(lists);
         self.results.move_to(results);
         (self.at, self.depth)
+    }
+
+    // The first word of the newest list that it has saved, if there is one.
+    #[inline(always)]
+    fn next_word(&self) -> Option<&Value>
+        ensures { IfSome result (λ word. (rest : Texts) × (self.now.lists ≡ (word.now ∷ rest) ∷ drop 1 self.now.lists)) }
+    {
+        if self.lists.is_empty() {
+            return None;
+        }
+        self.lists.newest().first()
+    }
+
+    /// The first word of the newest list that it has saved becomes a variable's, and the result that it has saved: tells whether that is done. Else all is
+    /// as it was.
+    #[inline(always)]
+    pub(crate) fn deal(&mut self, alloc: Global, frames: &mut Frames, name: &Sought<'_>) -> bool
+        ensures { DealsIf result name.now frames.old frames.new self.old self.new }
+    {
+        if self.results.is_empty() {
+            return false;
+        }
+        let Some(word) = self.next_word() else {
+            return false;
+        };
+        if !quick_set(alloc, frames, name, word) {
+            return false;
+        }
+        let word = self.lists.newest_mut().take();
+        self.results.replace(Last::of_value(word));
+        true
     }
 }

@@ -70,7 +70,10 @@ impl<T: Drop> Pile<T> {
     }
 
     /// Is nothing there?
-    pub(crate) fn is_empty(&self) -> bool {
+    #[inline(always)]
+    pub(crate) fn is_empty(&self) -> bool
+        ensures { result ≡ false → 1 ≤ length self.now }
+    {
         self.items.is_empty()
     }
 

@@ -1,5 +1,5 @@
 //! What stands where a code runs.
-ghost use Rattle.std.specs.Prelude.{◌≡◌, [], ◌∷◌, ◌++◌, ◌≤◌, Some, true, false, length, IfOk, OnOk};
+ghost use Rattle.std.specs.Prelude.{◌≡◌, [], ◌∷◌, ◌++◌, ◌≤◌, ◌<◌, ◌+◌, Some, true, false, drop, length, IfOk, IfSome, OnOk};
 ghost use Rattle.tcl_code.specs.Machine.{taken};
 ghost use Rattle.tcl_meaning.specs.Completions.{nothing};
 
@@ -80,13 +80,33 @@ impl Words {
         ensures some { IfOk result (λ word. 1 ≤ length self.old → self.old ≡ word ∷ self.new) }
         ensures none { IfOk result (λ word. self.old ≡ [] → (word ≡ []) × (self.new ≡ [])) }
     {
-        let taken = self.taken;
-        if taken == self.items.len() {
+        if self.is_empty() {
             let text = Value::of_str(alloc, "")?;
             return Ok(text);
         }
+        Ok(self.take())
+    }
+
+    /// The first word, if there is one.
+    #[inline(always)]
+    pub(crate) fn first(&self) -> Option<&Value>
+        ensures { IfSome result (λ word. self.now ≡ word.now ∷ drop 1 self.now) }
+    {
+        if self.is_empty() {
+            return None;
+        }
+        Some(&self.items[self.taken])
+    }
+
+    /// The first word is taken away.
+    #[inline(always)]
+    pub(crate) fn take(&mut self) -> Value
+        requires { 1 ≤ length self.old }
+        ensures { self.old ≡ result ∷ self.new }
+    {
+        let taken = self.taken;
         self.taken = taken + 1;
-        Ok(mem::replace(&mut self.items[taken], Value::of_int(0)))
+        mem::replace(&mut self.items[taken], Value::of_int(0))
     }
 
     /// The words.
@@ -130,6 +150,16 @@ impl Stack {
         self.loops.close_all();
         self.depth = depth;
         Ok(())
+    }
+
+    /// A loop's body begins anew, one deeper than the loop stands: how its last command has ended is let go.
+    #[inline(always)]
+    pub(crate) fn begin_turn(&mut self, depth: u32)
+        requires { depth < 1000 }
+        ensures { self.new ≡ record self.old { results = nothing ∷ []; depth = depth + 1 } }
+    {
+        self.results.restart();
+        self.depth = depth + 1;
     }
 
     /// Is nothing there but how last commands have ended?

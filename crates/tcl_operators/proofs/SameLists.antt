@@ -26,6 +26,9 @@ not_same a b differ = by (same_text a b) refl
     by true e = absurd (differ (text_is a b e))
     by false e = sym e
 
+pub same_as_itself : (a : Text) → same_text a a ≡ true
+same_as_itself a = (bytes_decides a a).1 refl
+
 -- lists of which one is longer
 pub others_by_length : (ks ls : List Kept) → (length ks ≡ length ls → ⊥) → false ≡ same_text (written (texts ks)) (written (texts ls))
 others_by_length ks ls differ =

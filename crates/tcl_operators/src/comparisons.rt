@@ -12,6 +12,7 @@ ghost use Rattle.tcl_operators.specs.Members as spec;
 ghost use Rattle.tcl_values.specs.Kept.{texts};
 ghost use Rattle.std.specs.Str.{chars};
 
+use crate::known::are_same_ready;
 use crate::lists::are_same;
 use crate::numbers::too_large;
 use std::alloc::{AllocError, Global};
@@ -117,8 +118,8 @@ pub(crate) fn same_texts(
     ensures left { left.new ≡ left.old }
     ensures right { right.new ≡ right.old }
 {
-    if let (Some(first), Some(second)) = (left.shown(), right.shown()) {
-        return Ok(is_text(first, second));
+    if let Some(same) = are_same_ready(&*left, &*right) {
+        return Ok(same);
     }
     if is_shown_empty(&*left) {
         return is_empty(alloc, right);

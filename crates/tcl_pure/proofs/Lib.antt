@@ -1,3 +1,4 @@
 pub mod Complete
 pub mod QuickLemmas
 pub mod Sentences
+mod Subcommands

@@ -18,4 +18,4 @@ pub use answers::pure_done;
 pub use messages::{subcommand_usage, unknown_subcommand};
 pub use page::pure_page;
 pub use quick::{is_worth_taking, quick_page};
-pub use tables::subcommand;
+pub use tables::{subcommand, subcommand_near};

@@ -2,5 +2,5 @@ use Rattle.std.proofs.Common.{◌∙◌}
 use Rattle.std.proofs.lemmas.Str.{chars-nil}
 use Rattle.tcl_activation.proofs.stack.Words.take_first.Goals as goal
 
-pub returns-then-taken-len-clause-none : goal.returns-then-taken-len-clause-none
-returns-then-taken-len-clause-none c = λ bare. (c.in_ok-text.ensures ∙ chars-nil, bare)
+pub returns-then-is_empty-clause-none : goal.returns-then-is_empty-clause-none
+returns-then-is_empty-clause-none c = λ bare. (c.in_ok-text.ensures ∙ chars-nil, bare)
