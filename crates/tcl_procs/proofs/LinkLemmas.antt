@@ -1,11 +1,9 @@
 -- Links that pages make, one after another: upvar(n), global(n).
-use Rattle.std.proofs.Common.{◌≡◌, ◌≢◌, ℕ, zero, suc, ◌-◌, ◌*◌, ◌/◌, ◌%◌, ◌≤◌, ◌<◌, ◌==◌, Bool, true, false, not, ◌||◌, List, [], ◌∷◌, length, get_or, take, drop, take_all, map as each, Option, None, Some, Result, Ok, Err, refl, sym, ap, subst, ◌∙◌, arith}
+use Rattle.std.proofs.Common.{◌≡◌, ◌≢◌, ℕ, zero, suc, ◌-◌, ◌*◌, ◌/◌, ◌%◌, ◌≤◌, ◌<◌, ◌==◌, Bool, true, false, not, ◌||◌, List, [], ◌∷◌, length, get_or, take, drop, take_all, Option, None, Some, Result, Ok, Err, refl, sym, ap, subst, ◌∙◌, arith}
 use Rattle.std.proofs.lemmas.Bool.{ne_eqb}
-use Rattle.std.proofs.lemmas.List.{length-map}
 use Rattle.std.proofs.lemmas.Option.{none-some}
 use Rattle.std.specs.Prelude.{if◌then◌else◌}
-use Rattle.std.specs.declared.rc.RcStr.{RcStr}
-use Rattle.tcl_chars.specs.Texts.{literal, text_of}
+use Rattle.tcl_chars.specs.Texts.{literal}
 use Rattle.tcl_frames.specs.Refusals.{RefusesLink}
 use Rattle.tcl_frames.specs.Standing.{Standing, store_of}
 use Rattle.tcl_frames.specs.declared.fault.LinkFault.{LinkFault}
@@ -14,16 +12,17 @@ use Rattle.tcl_meaning.specs.declared.refusal.LinkRefusal.{LinkRefusal}
 use Rattle.tcl_meaning.specs.declared.refusal.LinkRefusal.TheVariants.{BadName, Itself, Exists}
 use Rattle.tcl_meaning.specs.Asking.{Asks}
 use Rattle.tcl_meaning.specs.Completions.{Completion, nothing}
-use Rattle.tcl_meaning.specs.Effects.{Plain, does}
-use Rattle.tcl_meaning.specs.Frames.{Level, at, frame_of_level}
+use Rattle.tcl_meaning.specs.Effects.{does}
+use Rattle.tcl_meaning.specs.Frames.{Level, frame_of_level}
 use Rattle.tcl_meaning.specs.Links.{Linked, link, link_from, is_own, is_variable, spot_in}
-use Rattle.tcl_meaning.specs.Names.{divided_name, is_element, without_colons}
+use Rattle.tcl_meaning.specs.Names.{divided_name, is_element}
 use Rattle.tcl_meaning.specs.ProcedurePages.{cant_link, if_linked, link_name, link_pairs, link_all, link_globals, global_at, global_page, upvar_by, upvar_page}
 use Rattle.tcl_meaning.specs.Procedures.{is_odd}
 use Rattle.tcl_meaning.specs.State.{Commands, Store, active_frame, with_store, with_link}
 use Rattle.tcl_meaning.specs.Tasks.{Done}
-use Rattle.tcl_meaning.specs.Value.{Value, Has, Fails, ◌>>=◌}
+use Rattle.tcl_meaning.specs.Value.{Has, Fails}
 use Rattle.tcl_pages.specs.Texts.{Text}
+use Rattle.tcl_procs.specs.Linking.{global_link}
 use Rattle.tcl_steps.proofs.Endings.{has_on, fails_on, then_becomes}
 use Rattle.tcl_steps.specs.Comes.{Becomes, Comes, state_of}
 use Rattle.tcl_steps.specs.Ends.{Ends, EndsDone}
@@ -82,16 +81,14 @@ two_front (a ∷ b ∷ ys) x y h e k =
 
 -- ---- one after another
 
-module _ {Z : Type 0} (page : Asks) (word : Text) (level : Level) (left : List (RcStr Z)) (a b : RcStr Z) (other local : Text) (before f g : Standing)
-    (two : 2 ≤ length left) (first : a ≡ get_or left 0 a) (second : b ≡ get_or left 1 b) (other_is : other ≡ text_of a) (local_is : local ≡ text_of b)
-    (so_far : Becomes page before (link_pairs word level (each text_of left)) f) where
+module _ (page : Asks) (word : Text) (level : Level) (left : List Text) (other local : Text) (before f g : Standing)
+    (two : 2 ≤ length left) (first : other ≡ get_or left 0 other) (second : local ≡ get_or left 1 local)
+    (so_far : Becomes page before (link_pairs word level left) f) where
   abbrev pairs_left : List Text
-  pairs_left = each text_of (take (length left - 2) (drop 2 left))
+  pairs_left = take (length left - 2) (drop 2 left)
 
   pair_here : Becomes page before (link_pairs word level (other ∷ local ∷ pairs_left)) f
-  pair_here =
-      subst (λ (ts : List Text). Becomes page before (link_pairs word level ts) f)
-      (ap (each text_of) (two_front left a b two first second) ∙ ap (λ (t : Text). t ∷ text_of b ∷ pairs_left) (sym other_is) ∙ ap (λ (t : Text). other ∷ t ∷ pairs_left) (sym local_is)) so_far
+  pair_here = subst (λ (ts : List Text). Becomes page before (link_pairs word level ts) f) (two_front left other local two first second) so_far
 
   pub pair_linked : Comes (link_name word level other local) f (Has tt) g → Becomes page before (link_pairs word level pairs_left) g
   pair_linked h = then_becomes pair_here (has_on (link_name word level other local) (λ u. link_pairs word level pairs_left) f g tt h)
@@ -101,34 +98,26 @@ module _ {Z : Type 0} (page : Asks) (word : Text) (level : Level) (left : List (
   pair_stops stop.Memory h = tt
 
 -- no pair is left
-pub pairs_done : {Z : Type 0} (page : Asks) (word : Text) (level : Level) (left : List (RcStr Z)) (c : Completion) (before f : Standing) → length left < 2 → c ≡ nothing
-    → Becomes page before (link_pairs word level (each text_of left)) f → Comes page before (Has (Done c)) f
+pub pairs_done : (page : Asks) (word : Text) (level : Level) (left : List Text) (c : Completion) (before f : Standing) → length left < 2 → c ≡ nothing
+    → Becomes page before (link_pairs word level left) f → Comes page before (Has (Done c)) f
 pairs_done page word level [] c before f h e so_far = subst (λ d. Comes page before (Has (Done d)) f) (sym e) so_far
 pairs_done page word level (a ∷ []) c before f h e so_far = subst (λ d. Comes page before (Has (Done d)) f) (sym e) so_far
 pairs_done page word level (a ∷ b ∷ left) c before f h e so_far = absurd (omega arith)
 
-module _ {Z : Type 0} (page : Asks) (left : List (RcStr Z)) (a : RcStr Z) (other name : Text) (before f g : Standing)
-    (one : 1 ≤ length left) (first : a ≡ get_or left 0 a) (other_is : other ≡ text_of a) (name_is : name ≡ without_colons other)
-    (so_far : Becomes page before (link_globals (each text_of left)) f) where
+module _ (page : Asks) (left : List Text) (name : Text) (before f g : Standing)
+    (one : 1 ≤ length left) (first : name ≡ get_or left 0 name)
+    (so_far : Becomes page before (link_globals left) f) where
   abbrev names_left : List Text
-  names_left = each text_of (take (length left - 1) (drop 1 left))
+  names_left = take (length left - 1) (drop 1 left)
 
-  abbrev link_global : Text → Plain (Value (Unit {0}))
-  link_global t = link_name (literal "#0") (at 0) t t
+  global_here : Becomes page before (link_globals (name ∷ names_left)) f
+  global_here = subst (λ (ts : List Text). Becomes page before (link_globals ts) f) (one_front left name one first) so_far
 
-  begun : Becomes page before (link_globals (other ∷ names_left)) f
-  begun =
-      subst (λ (ts : List Text). Becomes page before (link_globals ts) f)
-      (ap (each text_of) (one_front left a one first) ∙ ap (λ (t : Text). t ∷ names_left) (sym other_is)) so_far
+  pub global_linked : Comes (global_link name) f (Has tt) g → Becomes page before (link_globals names_left) g
+  global_linked h = then_becomes global_here (has_on (global_link name) (λ u. link_globals names_left) f g tt h)
 
-  global_here : Becomes page before (link_global name >>= λ u. link_globals names_left) f
-  global_here = subst (λ (t : Text). Becomes page before (link_global t >>= λ u. link_globals names_left) f) (sym name_is) begun
-
-  pub global_linked : Comes (link_global name) f (Has tt) g → Becomes page before (link_globals names_left) g
-  global_linked h = then_becomes global_here (has_on (link_global name) (λ u. link_globals names_left) f g tt h)
-
-  pub global_stops : (s : Stop) → Ends (link_global name) f (Err s) g → EndsDone page before (Err s) g
-  global_stops (stop.Error c) h = then_becomes global_here (fails_on (link_global name) (λ u. link_globals names_left) f g c h)
+  pub global_stops : (s : Stop) → Ends (global_link name) f (Err s) g → EndsDone page before (Err s) g
+  global_stops (stop.Error c) h = then_becomes global_here (fails_on (global_link name) (λ u. link_globals names_left) f g c h)
   global_stops stop.Memory h = tt
 
 -- ---- pages
@@ -154,10 +143,10 @@ module _ (ts : List Text) (f : Standing) (n : ℕ) (is : (cs : Commands) → n �
   pub global_outside : n ≡ 0 → Comes (global_page ts) f (Has (Done nothing)) f
   global_outside e = then_becomes at_level (subst (λ (m : ℕ). Comes (on_level m ts) f (Has (Done nothing)) f) (sym e) (record { same = λ cs ch u. refl }))
 
-  pub global_inside : (us : List Text) (g : Standing) (r : Result Completion Stop) → n ≢ 0 → us ≡ ts → EndsDone (link_globals us) f r g → EndsDone (global_page ts) f r g
-  global_inside us g r e same h =
+  pub global_inside : (g : Standing) (r : Result Completion Stop) → n ≢ 0 → EndsDone (link_globals ts) f r g → EndsDone (global_page ts) f r g
+  global_inside g r e h =
       let inside : Becomes (global_page ts) f (link_globals ts) f = then_becomes at_level (record { same = λ cs ch u. ap (λ (b : Bool). does (global_at b ts) (state_of cs ch u f)) (ne_eqb n 0 e) }) in
-      as_page (global_page ts) (link_globals ts) f f g r inside (subst (λ (vs : List Text). EndsDone (link_globals vs) f r g) same h)
+      as_page (global_page ts) (link_globals ts) f f g r inside h
 
 -- upvar(n)
 
@@ -177,17 +166,14 @@ upvar_odd : (n : ℕ) (t : Text) (ts : List Text) → length ts ≡ 2 * n → up
 unfolding upvar_page
 upvar_odd n t ts h = ap (λ b. upvar_by (not b) (t ∷ ts)) (even_words n ts h)
 
-module _ {Z : Type 0} (xs : List (RcStr Z)) (f g : Standing) (r : Result Completion Stop) where
-  pub at_caller : length xs % 2 ≡ 0 → EndsDone (link_all (literal "1") (each text_of xs)) f r g → EndsDone (upvar_page (each text_of xs)) f r g
-  at_caller e h =
-      let n : length (each text_of xs) ≡ length xs = length-map xs text_of in
-      same_page (upvar_page (each text_of xs)) (link_all (literal "1") (each text_of xs)) f g r (upvar_even (length xs / 2) (each text_of xs) (omega (arith, n, e))) h
+module _ (ws : List Text) (f g : Standing) (r : Result Completion Stop) where
+  pub at_caller : length ws % 2 ≡ 0 → EndsDone (link_all (literal "1") ws) f r g → EndsDone (upvar_page ws) f r g
+  at_caller e h = same_page (upvar_page ws) (link_all (literal "1") ws) f g r (upvar_even (length ws / 2) ws (omega (arith, e))) h
 
-  pub at_named : (a : RcStr Z) (word : Text) → length xs % 2 ≢ 0 → 1 ≤ length xs → a ≡ get_or xs 0 a → word ≡ text_of a
-      → EndsDone (link_all word (each text_of (take (length xs - 1) (drop 1 xs)))) f r g → EndsDone (upvar_page (each text_of xs)) f r g
-  at_named a word odd one first word_is h =
-      let ts = each text_of (take (length xs - 1) (drop 1 xs)) in
-      let all : each text_of xs ≡ word ∷ ts = ap (each text_of) (one_front xs a one first) ∙ ap (λ (t : Text). t ∷ ts) (sym word_is) in
-      let n : length (each text_of xs) ≡ length xs = length-map xs text_of in
-      let m : length (each text_of xs) ≡ suc (length ts) = ap length all in
-      same_page (upvar_page (each text_of xs)) (link_all word ts) f g r (ap upvar_page all ∙ upvar_odd (length xs / 2) word ts (omega (arith, n, m, odd))) h
+  pub at_named : (word : Text) → length ws % 2 ≢ 0 → 1 ≤ length ws → word ≡ get_or ws 0 word
+      → EndsDone (link_all word (take (length ws - 1) (drop 1 ws))) f r g → EndsDone (upvar_page ws) f r g
+  at_named word odd one first h =
+      let ts = take (length ws - 1) (drop 1 ws) in
+      let all : ws ≡ word ∷ ts = one_front ws word one first in
+      let m : length ws ≡ suc (length ts) = ap length all in
+      same_page (upvar_page ws) (link_all word ts) f g r (ap upvar_page all ∙ upvar_odd (length ws / 2) word ts (omega (arith, m, odd))) h

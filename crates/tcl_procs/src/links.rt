@@ -1,15 +1,15 @@
 //! Links between variables of frames: upvar(n), global(n).
-ghost use Rattle.std.specs.Prelude.{◌≡◌, map as each, IfOk};
+ghost use Rattle.std.specs.Prelude.{◌≡◌, IfOk};
 ghost use Rattle.std.specs.Str.{chars};
 ghost use Rattle.tcl_chars.specs.Texts.{text_of};
 ghost use Rattle.tcl_frames.specs.Levels.{level_of};
 ghost use Rattle.tcl_meaning.specs.ProcedurePages as spec;
+ghost use Rattle.tcl_procs.specs.Linking.{global_link};
 ghost use Rattle.tcl_steps.specs.Ends.{Does, Ends, EndsDone};
 
-use crate::levels::{bad_level, find_level};
+use crate::levels::{bad_level, find_level, level_text};
 use std::alloc::{AllocError, Global};
 use std::rc::RcStr;
-use tcl_arguments::all_texts;
 use tcl_chars::message;
 use tcl_frames::{Frames, Level, LinkFault, without_colons};
 use tcl_meaning::LinkRefusal;
@@ -56,32 +56,59 @@ fn link_name(
     }
 }
 
+// The text of a word, asked of a copy of it.
+fn made_text(alloc: Global, word: &Value) -> Result<RcStr, AllocError>
+    ensures { IfOk result (λ t. text_of t ≡ word.now) }
+{
+    let mut copy = word.copy()?;
+    copy.text(alloc)
+}
+
+// The same as `link_name`, of names that are words. Where both texts stand ready they aren't copied.
+fn link_pair(
+    alloc: Global,
+    frames: &mut Frames,
+    word: &str,
+    level: Level,
+    other: &Value,
+    local: &Value,
+) -> Result<(), Stop>
+    ensures { Ends (spec.link_name (chars word.now) (level_of level) other.now local.now) frames.old result frames.new }
+{
+    if let (Some(other), Some(local)) = (other.shown(), local.shown()) {
+        return link_name(alloc, frames, word, level, other, local);
+    }
+    let other = made_text(alloc, other)?;
+    let local = made_text(alloc, local)?;
+    link_name(alloc, frames, word, level, other.as_str(), local.as_str())
+}
+
 // Makes links, from left to right: the names behind the level are other and local ones in turn.
 fn link_pairs(
     alloc: Global,
     frames: &mut Frames,
     word: &str,
     level: Level,
-    names: &[RcStr],
+    names: &[Value],
 ) -> Result<Completion, Stop>
-    ensures { EndsDone (spec.link_pairs (chars word.now) (level_of level) (each text_of names.now)) frames.old result frames.new }
+    ensures { EndsDone (spec.link_pairs (chars word.now) (level_of level) names.now) frames.old result frames.new }
 {
     let mut left = names;
     'pairs: while let [other, local, others @ ..] = left {
-        link_name(alloc, frames, word, level, other.as_str(), local.as_str())?;
+        link_pair(alloc, frames, word, level, other, local)?;
         left = others;
     }
     Ok(Completion::nothing(alloc)?)
 }
 
-// Makes links to names of the level that a word names.
+// Makes links to names of the level that a text names.
 fn link_all(
     alloc: Global,
     frames: &mut Frames,
     word: &str,
-    names: &[RcStr],
+    names: &[Value],
 ) -> Result<Completion, Stop>
-    ensures { EndsDone (spec.link_all (chars word.now) (each text_of names.now)) frames.old result frames.new }
+    ensures { EndsDone (spec.link_all (chars word.now) names.now) frames.old result frames.new }
 {
     if names.len() == 0 {
         let usage = "upvar ?level? otherVar localVar ?otherVar localVar ...?";
@@ -93,25 +120,33 @@ fn link_all(
     link_pairs(alloc, frames, word, level, names)
 }
 
-// The same as `upvar_page`, of words as texts.
-fn upvar_texts(alloc: Global, frames: &mut Frames, texts: &[RcStr]) -> Result<Completion, Stop>
-    ensures { EndsDone (spec.upvar_page (each text_of texts.now)) frames.old result frames.new }
+// The same as `link_all`, of the level that a word names.
+fn link_all_at(
+    alloc: Global,
+    frames: &mut Frames,
+    word: &Value,
+    names: &[Value],
+) -> Result<Completion, Stop>
+    ensures { EndsDone (spec.link_all word.now names.now) frames.old result frames.new }
 {
-    if texts.len() % 2 == 0 {
-        return link_all(alloc, frames, "1", texts);
+    if let Some(text) = level_text(word) {
+        return link_all(alloc, frames, text, names);
     }
-    match texts {
-        [word, names @ ..] => link_all(alloc, frames, word.as_str(), names),
-        [] => unreachable!(),
-    }
+    let text = made_text(alloc, word)?;
+    link_all(alloc, frames, text.as_str(), names)
 }
 
 // The same as `upvar_page`, where an error stops it.
-fn upvar_words(alloc: Global, frames: &mut Frames, words: &mut [Value]) -> Result<Completion, Stop>
-    ensures { EndsDone (spec.upvar_page words.old) frames.old result frames.new }
+fn upvar_words(alloc: Global, frames: &mut Frames, words: &[Value]) -> Result<Completion, Stop>
+    ensures { EndsDone (spec.upvar_page words.now) frames.old result frames.new }
 {
-    let texts = all_texts(alloc, words)?;
-    upvar_texts(alloc, frames, &texts)
+    if words.len() % 2 == 0 {
+        return link_all(alloc, frames, "1", words);
+    }
+    match words {
+        [word, names @ ..] => link_all_at(alloc, frames, word, names),
+        [] => unreachable!(),
+    }
 }
 
 /// `upvar ?level? otherVar localVar ?otherVar localVar ...?`: makes each local name a link to what the other one means at the level.
@@ -130,28 +165,45 @@ pub fn upvar_page(
     closed(upvar_words(alloc, frames, words))
 }
 
+// Makes a name a link to the global variable of that name.
+fn link_global(alloc: Global, frames: &mut Frames, text: &str) -> Result<(), Stop>
+    ensures { Ends (global_link (chars text.now)) frames.old result frames.new }
+{
+    let name = without_colons(text);
+    link_name(alloc, frames, "#0", Level::At(0), name, name)
+}
+
+// The same, of a name that is a word. A text that stands ready isn't copied.
+fn link_global_word(alloc: Global, frames: &mut Frames, word: &Value) -> Result<(), Stop>
+    ensures { Ends (global_link word.now) frames.old result frames.new }
+{
+    if let Some(text) = word.shown() {
+        return link_global(alloc, frames, text);
+    }
+    let text = made_text(alloc, word)?;
+    link_global(alloc, frames, text.as_str())
+}
+
 // Makes names links to global ones, from left to right.
-fn link_globals(alloc: Global, frames: &mut Frames, names: &[RcStr]) -> Result<Completion, Stop>
-    ensures { EndsDone (spec.link_globals (each text_of names.now)) frames.old result frames.new }
+fn link_globals(alloc: Global, frames: &mut Frames, names: &[Value]) -> Result<Completion, Stop>
+    ensures { EndsDone (spec.link_globals names.now) frames.old result frames.new }
 {
     let mut left = names;
-    'names: while let [text, others @ ..] = left {
-        let name = without_colons(text.as_str());
-        link_name(alloc, frames, "#0", Level::At(0), name, name)?;
+    'names: while let [name, others @ ..] = left {
+        link_global_word(alloc, frames, name)?;
         left = others;
     }
     Ok(Completion::nothing(alloc)?)
 }
 
 // The same as `global_page`, where an error stops it.
-fn global_words(alloc: Global, frames: &mut Frames, words: &mut [Value]) -> Result<Completion, Stop>
-    ensures { EndsDone (spec.global_page words.old) frames.old result frames.new }
+fn global_words(alloc: Global, frames: &mut Frames, words: &[Value]) -> Result<Completion, Stop>
+    ensures { EndsDone (spec.global_page words.now) frames.old result frames.new }
 {
     if frames.level() == 0 {
         return Ok(Completion::nothing(alloc)?);
     }
-    let texts = all_texts(alloc, words)?;
-    link_globals(alloc, frames, &texts)
+    link_globals(alloc, frames, words)
 }
 
 /// `global ?varName ...?`: makes each name a link to the global variable of that name. At level 0 it does nothing.
