@@ -9,7 +9,8 @@ use Rattle.tcl_pages.specs.Dictionaries.{pairs}
 use Rattle.tcl_pages.specs.Strings.{pair_for, key_begins}
 use Rattle.tcl_pages.specs.Texts.{Text}
 use Rattle.tcl_strings.specs.Taken.{taken_by}
-use Rattle.tcl_strings.specs.Grouped.{Pair, group_of, falls_into, Grouped, GroupedUpTo, put, put_by, with_pair, pair_among}
+use Rattle.tcl_strings.specs.Grouped.{Pair, group_of, falls_into, Grouped, GroupedUpTo, behind_others, put, put_by, with_pair, pair_among}
+use Rattle.tcl_values.specs.Kept.{Kept, texts}
 
 -- a key that doesn't fall into the group of a text's first character doesn't begin the text
 skipped : (n c : ℕ) (cs key : Text) → falls_into n (group_of n c) key ≡ false → key_begins key (c ∷ cs) ≡ false
@@ -115,6 +116,25 @@ pub next_two : (all : List Pair) (ts : List Text) (k v : Text) (key value : Text
 next_two all ts k v key value old new h e f s t n g =
     next_put all (pairs (take (length ts - 2) (drop 2 ts))) old new (k, v) (n ∙ ap (λ a. with_pair (a, value) old) s ∙ ap (λ b. with_pair (k, b) old) t) (subst (λ rest. GroupedUpTo all rest old) (two ts k v h e f) g)
 
--- the groups of the pairs of texts that are others
-pub grouped_by : (ts us vs : List Text) (groups : List (List Pair)) → ts ≡ us → us ≡ vs → Grouped (pairs ts) groups → Grouped (pairs vs) groups
-grouped_by ts us vs groups e f g = subst (λ xs. Grouped (pairs xs) groups) (e ∙ f) g
+-- ---- keys and values in turn in one group
+
+one_group : (c : ℕ) → group_of 1 c ≡ 0
+one_group c = omega arith
+
+in_one : (key : Text) (p : Pair) (g : List Pair) → (behind_others key p g ∷ []) ≡ put_by key p (g ∷ [])
+in_one [] p g = refl
+in_one (c ∷ cs) p g = sym (ap (λ k. put k p (g ∷ [])) (one_group c))
+
+two_kept : (ks : List Kept) (k v : Kept) → 2 ≤ length ks → k ≡ get_or ks 0 k → v ≡ get_or ks 1 v → pairs (texts ks) ≡ (k.text, v.text) ∷ pairs (texts (take (length ks - 2) (drop 2 ks)))
+two_kept [] k v h e f = absurd (omega arith)
+two_kept (a ∷ []) k v h e f = absurd (omega arith)
+two_kept (a ∷ b ∷ ks) k v h e f =
+    let rest : take (length (a ∷ b ∷ ks) - 2) ks ≡ ks = take_all _ ks (omega arith) in
+    ap (λ (x : Kept). (x.text, b.text) ∷ pairs (texts ks)) (sym e) ∙ ap (λ (y : Kept). (k.text, y.text) ∷ pairs (texts ks)) (sym f) ∙ ap (λ r. (k.text, v.text) ∷ pairs (texts r)) (sym rest)
+
+pub next_kept : (all : List Pair) (ks : List Kept) (k v : Kept) (key value : Text) (old new : List Pair) → 2 ≤ length ks → k ≡ get_or ks 0 k → v ≡ get_or ks 1 v → key ≡ k.text → value ≡ v.text
+    → new ≡ behind_others key (key, value) old → GroupedUpTo all (pairs (texts ks)) (old ∷ []) → GroupedUpTo all (pairs (texts (take (length ks - 2) (drop 2 ks)))) (new ∷ [])
+next_kept all ks k v key value old new h e f s t n g =
+    next_put all (pairs (texts (take (length ks - 2) (drop 2 ks)))) (old ∷ []) (new ∷ []) (k.text, v.text)
+    (ap (λ x. x ∷ []) n ∙ in_one key (key, value) old ∙ ap (λ a. with_pair (a, value) (old ∷ [])) s ∙ ap (λ b. with_pair (k.text, b) (old ∷ [])) t)
+    (subst (λ rest. GroupedUpTo all rest (old ∷ [])) (two_kept ks k v h e f) g)

@@ -26,6 +26,11 @@ pub record GroupedUpTo (all rest : List Pair) (groups : List (List Pair)) : Type
   pub grouped : Grouped front groups
   pub joined : front ++ rest ≡ all
 
+-- other pairs with one more behind them; a pair with an empty key is for no text
+abbrev pub behind_others : Text → Pair → List Pair → List Pair
+behind_others [] p ps = ps
+behind_others (c ∷ cs) p ps = ps ++ p ∷ []
+
 -- the groups with a pair at the end of the group k
 abbrev pub put : ℕ → Pair → List (List Pair) → List (List Pair)
 put k p groups = set groups k (get_or groups k [] ++ p ∷ [])

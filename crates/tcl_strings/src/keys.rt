@@ -1,17 +1,19 @@
 //! Keys that are sought by their first characters: string(n), map.
 
-ghost use Rattle.std.specs.Prelude.{◌≡◌, ◌<◌, ◌++◌, ◌∷◌, [], true, false, length, drop, option_map, MatchOption, IfOk, IfSome, OnOk};
+ghost use Rattle.std.specs.Prelude.{◌≡◌, ◌<◌, ◌≤◌, ◌∷◌, [], true, false, length, drop, get_or, option_map, MatchOption, IfOk, IfSome, OnOk};
 ghost use Rattle.std.specs.Str.{chars};
+ghost use Rattle.tcl_chars.specs.Truth.{is_beginning};
 ghost use Rattle.tcl_pages.specs.Dictionaries.{pairs};
 ghost use Rattle.tcl_pages.specs.Strings as spec;
-ghost use Rattle.tcl_strings.specs.Grouped.{Grouped, group_of, pair_among, with_pair};
+ghost use Rattle.tcl_strings.specs.Grouped.{Grouped, behind_others, group_of, pair_among, with_pair};
 ghost use Rattle.tcl_strings.specs.Taken.{taken_by};
+ghost use Rattle.tcl_values.specs.Kept.{texts};
 
 use crate::search::behind_front;
 use std::alloc::{AllocError, Global};
 use std::marker::Model;
 use tcl_chars::split_first;
-use tcl_values::ElementText;
+use tcl_values::{Element, ElementText};
 
 /// A list of keys and values makes one group if it has at most this number of elements.
 const FEW: usize = 16;
@@ -19,61 +21,74 @@ const FEW: usize = 16;
 /// The number of groups that the pairs of a longer list are put into.
 const GROUPS: usize = 128;
 
+/// A key that isn't empty, by its first character and what stands behind it, and its value.
+#[derive(Clone, Copy, Drop)]
+struct Pair<'a> {
+    first: char,
+    more: &'a str,
+    value: &'a str,
+}
+
+impl<'a> Pair<'a> {
+    /// What a text of a character and another text has left behind the key, if it begins with it.
+    #[inline(always)]
+    fn behind<'t>(&self, c: char, after: &'t str) -> Option<&'t str>
+        ensures begins { MatchOption result (is_beginning (self.now.first ∷ chars self.now.more.now) (c ∷ chars after.now) ≡ false)
+            (λ rest. is_beginning (self.now.first ∷ chars self.now.more.now) (c ∷ chars after.now) ≡ true) }
+        ensures rest { IfSome result (λ rest. chars rest.now ≡ drop (length (chars self.now.more.now)) (chars after.now)) }
+    {
+        if self.first != c {
+            return None;
+        }
+        behind_front(self.more, after)
+    }
+}
+
 /// Some pairs of keys and values, in the order of their list.
 #[derive(Drop)]
 pub(crate) struct Group<'a> {
-    pairs: Vec<(&'a str, &'a str)>,
+    pairs: Vec<Pair<'a>>,
 }
 
 impl<'a> Model for Group<'a> {
-    ghost use Rattle.std.specs.Prelude.{List, ℕ, map};
+    ghost use Rattle.std.specs.Prelude.{List, ◌∷◌, ℕ, map};
     ghost use Rattle.std.specs.Str.{chars};
 
     ghost Value = { List (List ℕ × List ℕ) };
 
-    ghost view = { λ g. map (λ p. (chars p.0.now, chars p.1.now)) g.pairs.items };
-}
-
-/// What the text has left behind a key that it begins with. An empty key begins no text.
-#[tactic(auto, using(crate::proofs::Pairs::key_shortens))]
-fn behind_key<'a>(key: &str, text: &'a str) -> Option<&'a str>
-    ensures begins { MatchOption result (spec.key_begins (chars key.now) (chars text.now) ≡ false)
-        (λ rest. spec.key_begins (chars key.now) (chars text.now) ≡ true) }
-    ensures rest { IfSome result (λ rest. chars rest.now ≡ drop (length (chars key.now)) (chars text.now)) }
-    ensures shorter { IfSome result (λ rest. length (chars rest.now) < length (chars text.now)) }
-{
-    split_first(key)?;
-    behind_front(key, text)
+    ghost view = { λ g. map (λ p. (p.first ∷ chars p.more.now, chars p.value.now)) g.pairs.items };
 }
 
 impl<'a> Group<'a> {
-    /// No pair.
-    fn new(alloc: Global) -> Group<'a>
-        ensures { result ≡ [] }
+    /// No pair, with room for some.
+    fn with_capacity(alloc: Global, count: usize) -> Result<Group<'a>, AllocError>
+        ensures { IfOk result (λ group. group ≡ []) }
     {
-        Group {
-            pairs: Vec::new(alloc),
-        }
+        Ok(Group {
+            pairs: Vec::with_capacity(alloc, count)?,
+        })
     }
 
-    /// Another pair behind the others.
-    fn push_pair(&mut self, key: &'a str, value: &'a str) -> Result<(), AllocError>
-        ensures { OnOk result (self.new ≡ self.old ++ (chars key.now, chars value.now) ∷ []) }
+    /// Another pair behind the others. One with an empty key is for no text.
+    fn put(&mut self, key: &'a str, value: &'a str) -> Result<(), AllocError>
+        ensures { OnOk result (self.new ≡ behind_others (chars key.now) (chars key.now, chars value.now) self.old) }
     {
-        self.pairs.push((key, value))?;
+        if let Some((first, more)) = split_first(key) {
+            self.pairs.push(Pair { first, more, value })?;
+        }
         Ok(())
     }
 
-    /// The value of the first key that the text begins with, and what follows the key.
-    fn first_pair<'t>(&self, text: &'t str) -> Option<(&'a str, &'t str)>
+    /// The value of the first key that a text of a character and another text begins with, and what follows the key.
+    fn first_pair<'t>(&self, c: char, after: &'t str) -> Option<(&'a str, &'t str)>
         ensures pair { option_map (λ p. (chars p.0.now, chars p.1.now)) result
-            ≡ taken_by (spec.pair_for self.now (chars text.now)) (chars text.now) }
-        ensures shorter { IfSome result (λ p. length (chars p.1.now) < length (chars text.now)) }
+            ≡ taken_by (spec.pair_for self.now (c ∷ chars after.now)) (c ∷ chars after.now) }
+        ensures shorter { IfSome result (λ p. length (chars p.1.now) ≤ length (chars after.now)) }
     {
         let mut left = self.pairs.as_slice();
-        while let [(key, value), more @ ..] = left {
-            if let Some(rest) = behind_key(key, text) {
-                return Some((value, rest));
+        while let [pair, more @ ..] = left {
+            if let Some(rest) = pair.behind(c, after) {
+                return Some((pair.value, rest));
             }
             left = more;
         }
@@ -97,7 +112,7 @@ fn empty_groups<'a>(alloc: Global, count: usize) -> Result<Vec<Group<'a>>, Alloc
 {
     let mut groups = Vec::with_capacity(alloc, count)?;
     while groups.len() < count {
-        groups.push(Group::new(alloc))?;
+        groups.push(Group::with_capacity(alloc, 0)?)?;
     }
     Ok(groups)
 }
@@ -109,9 +124,31 @@ fn put_pair<'a>(groups: &mut Vec<Group<'a>>, key: &'a str, value: &'a str) -> Re
 {
     if let Some((c, _)) = split_first(key) {
         let place = place_of(c, groups.len());
-        groups[place].push_pair(key, value)?;
+        groups[place].put(key, value)?;
     }
     Ok(())
+}
+
+/// Keys and values in turn in one group, where they are few and each text stands ready. Nothing but the group is allocated.
+pub(crate) fn group_of_few<'a>(
+    alloc: Global,
+    items: &'a [Element],
+) -> Result<Option<Group<'a>>, AllocError>
+    ensures { IfOk result (λ o. IfSome o (λ group. Grouped (pairs (texts items.now)) (group ∷ []))) }
+{
+    if items.len() > FEW {
+        return Ok(None);
+    }
+    let mut group = Group::with_capacity(alloc, items.len() / 2)?;
+    let mut left = items;
+    while let [key, value, more @ ..] = left {
+        let (Some(key), Some(value)) = (key.shown(), value.shown()) else {
+            return Ok(None);
+        };
+        group.put(key, value)?;
+        left = more;
+    }
+    Ok(Some(group))
 }
 
 /// Keys and values in turn, in groups by the first characters of the keys: one group where they are few.
@@ -131,14 +168,27 @@ pub(crate) fn grouped<'a>(
     Ok(groups)
 }
 
-/// The value of the first key that the text begins with, and what follows the key, sought in the group of the text's first
-/// character.
-pub(crate) fn pair_in<'a, 't>(groups: &[Group<'a>], text: &'t str) -> Option<(&'a str, &'t str)>
+/// The group in which the keys with this first character are.
+fn group_for<'g, 'a>(groups: &'g [Group<'a>], c: char) -> &'g Group<'a>
+    requires { 0 < length groups.now }
+    ensures { result.now ≡ get_or groups.now (group_of (length groups.now) c) [] }
+{
+    match groups {
+        [only] => only,
+        _ => &groups[place_of(c, groups.len())],
+    }
+}
+
+/// The value of the first key that a text of a character and another text begins with, and what follows the key.
+pub(crate) fn pair_in<'a, 't>(
+    groups: &[Group<'a>],
+    c: char,
+    after: &'t str,
+) -> Option<(&'a str, &'t str)>
     requires { 0 < length groups.now }
     ensures pair { option_map (λ p. (chars p.0.now, chars p.1.now)) result
-        ≡ taken_by (pair_among groups.now (chars text.now)) (chars text.now) }
-    ensures shorter { IfSome result (λ p. length (chars p.1.now) < length (chars text.now)) }
+        ≡ taken_by (pair_among groups.now (c ∷ chars after.now)) (c ∷ chars after.now) }
+    ensures shorter { IfSome result (λ p. length (chars p.1.now) ≤ length (chars after.now)) }
 {
-    let (c, _) = split_first(text)?;
-    groups[place_of(c, groups.len())].first_pair(text)
+    group_for(groups, c).first_pair(c, after)
 }
