@@ -1,7 +1,9 @@
 //! What stands where a code runs.
 ghost use Rattle.std.specs.Prelude.{◌≡◌, [], ◌∷◌, ◌++◌, ◌≤◌, ◌<◌, ◌+◌, Some, true, false, drop, length, IfOk, IfSome, OnOk};
+ghost use Rattle.tcl_chars.specs.Answers.{Answers};
 ghost use Rattle.tcl_code.specs.Machine.{taken};
 ghost use Rattle.tcl_meaning.specs.Completions.{nothing};
+ghost use Rattle.tcl_values.specs.Lists.{behind};
 
 use crate::loops::Loops;
 use crate::pile::Pile;
@@ -9,6 +11,7 @@ use crate::results::Results;
 use std::alloc::{AllocError, Global};
 use std::marker::Model;
 use std::mem;
+use tcl_chars::Fault;
 use tcl_values::Value;
 
 /// Words that are gathered for a command, or to be taken one after the other. Contracts see those that weren't taken.
@@ -67,11 +70,20 @@ impl Words {
         Ok(())
     }
 
-    /// More words.
-    pub fn append(&mut self, words: &mut Vec<Value>) -> Result<(), AllocError>
-        ensures { OnOk result (self.new ≡ self.old ++ words.old.items) }
+    /// The words, and behind them all elements of a list.
+    ///
+    /// # Errors
+    ///
+    /// `Fault::Error` with the list's fault, `Fault::Memory`.
+    pub fn with_list(self, alloc: Global, list: &mut Value) -> Result<Words, Fault>
+        ensures { Answers (λ words. words) result (behind self list.old) }
     {
-        self.items.append(words)
+        let mut items = self.items;
+        list.list_behind(alloc, &mut items)?;
+        Ok(Words {
+            items,
+            taken: self.taken,
+        })
     }
 
     /// The first word is taken away; where there is none, an empty text stands for it.

@@ -1,5 +1,5 @@
 //! Words that name a level: uplevel(n), upvar(n).
-ghost use Rattle.std.specs.Prelude.{◌≡◌, IfOk, IfSome};
+ghost use Rattle.std.specs.Prelude.{◌≡◌, IfOk};
 ghost use Rattle.std.specs.Str.{chars};
 ghost use Rattle.tcl_frames.specs.Standing.{store_of};
 ghost use Rattle.tcl_meaning.specs.Completions.{failure};
@@ -11,7 +11,6 @@ use std::alloc::{AllocError, Global};
 use tcl_chars::{Decimal, read_decimal, split_first};
 use tcl_frames::{Frames, Level};
 use tcl_steps::Completion;
-use tcl_values::Value;
 
 /// Is a first word meant as a level?
 pub(crate) fn is_level(word: &str) -> bool
@@ -21,18 +20,6 @@ pub(crate) fn is_level(word: &str) -> bool
         Some((c, _)) => c.is_ascii_digit() || c == '#',
         None => false,
     }
-}
-
-/// The text of a word that names a level, where it stands ready. That of the number 1, the caller's level, always does.
-pub(crate) fn level_text(word: &Value) -> Option<&str>
-    ensures { IfSome result (λ t. chars t.now ≡ word.now) }
-{
-    if let Some(number) = word.number() {
-        if number == 1 {
-            return Some("1");
-        }
-    }
-    word.shown()
 }
 
 // The number that digits write, where 63 bits hold it.

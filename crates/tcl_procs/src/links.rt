@@ -1,15 +1,13 @@
 //! Links between variables of frames: upvar(n), global(n).
 ghost use Rattle.std.specs.Prelude.{◌≡◌, IfOk};
 ghost use Rattle.std.specs.Str.{chars};
-ghost use Rattle.tcl_chars.specs.Texts.{text_of};
 ghost use Rattle.tcl_frames.specs.Levels.{level_of};
 ghost use Rattle.tcl_meaning.specs.ProcedurePages as spec;
 ghost use Rattle.tcl_procs.specs.Linking.{global_link};
 ghost use Rattle.tcl_steps.specs.Ends.{Does, Ends, EndsDone};
 
-use crate::levels::{bad_level, find_level, level_text};
+use crate::levels::{bad_level, find_level};
 use std::alloc::{AllocError, Global};
-use std::rc::RcStr;
 use tcl_chars::message;
 use tcl_frames::{Frames, Level, LinkFault, without_colons};
 use tcl_meaning::LinkRefusal;
@@ -56,15 +54,7 @@ fn link_name(
     }
 }
 
-// The text of a word, asked of a copy of it.
-fn made_text(alloc: Global, word: &Value) -> Result<RcStr, AllocError>
-    ensures { IfOk result (λ t. text_of t ≡ word.now) }
-{
-    let mut copy = word.copy()?;
-    copy.text(alloc)
-}
-
-// The same as `link_name`, of names that are words. Where both texts stand ready they aren't copied.
+// The same as `link_name`, of names that are words. A text that stands ready isn't copied.
 fn link_pair(
     alloc: Global,
     frames: &mut Frames,
@@ -75,11 +65,8 @@ fn link_pair(
 ) -> Result<(), Stop>
     ensures { Ends (spec.link_name (chars word.now) (level_of level) other.now local.now) frames.old result frames.new }
 {
-    if let (Some(other), Some(local)) = (other.shown(), local.shown()) {
-        return link_name(alloc, frames, word, level, other, local);
-    }
-    let other = made_text(alloc, other)?;
-    let local = made_text(alloc, local)?;
+    let other = other.spelled(alloc)?;
+    let local = local.spelled(alloc)?;
     link_name(alloc, frames, word, level, other.as_str(), local.as_str())
 }
 
@@ -129,10 +116,7 @@ fn link_all_at(
 ) -> Result<Completion, Stop>
     ensures { EndsDone (spec.link_all word.now names.now) frames.old result frames.new }
 {
-    if let Some(text) = level_text(word) {
-        return link_all(alloc, frames, text, names);
-    }
-    let text = made_text(alloc, word)?;
+    let text = word.spelled(alloc)?;
     link_all(alloc, frames, text.as_str(), names)
 }
 
@@ -177,10 +161,7 @@ fn link_global(alloc: Global, frames: &mut Frames, text: &str) -> Result<(), Sto
 fn link_global_word(alloc: Global, frames: &mut Frames, word: &Value) -> Result<(), Stop>
     ensures { Ends (global_link word.now) frames.old result frames.new }
 {
-    if let Some(text) = word.shown() {
-        return link_global(alloc, frames, text);
-    }
-    let text = made_text(alloc, word)?;
+    let text = word.spelled(alloc)?;
     link_global(alloc, frames, text.as_str())
 }
 

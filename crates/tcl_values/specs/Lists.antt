@@ -14,6 +14,10 @@ count_of t = elements_of t >>= λ es. Ok (length es)
 abbrev pub item_of : List ℕ → ℕ → Result (Option (List ℕ)) (List ℕ)
 item_of t i = elements_of t >>= λ es. Ok (slice_get es i)
 
+-- texts, and behind them the elements of a list: {*} (Tcl(n))
+abbrev pub behind : List (List ℕ) → List ℕ → Result (List (List ℕ)) (List ℕ)
+behind ts t = elements_of t >>= λ es. Ok (ts ++ es)
+
 -- the text of a list with one element more: lappend(n)
 abbrev pub pushed : List ℕ → List ℕ → Result (List ℕ) (List ℕ)
 pushed t x = elements_of t >>= λ es. Ok (written (es ++ x ∷ []))

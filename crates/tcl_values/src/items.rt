@@ -296,6 +296,10 @@ pub(crate) fn splice_elements(
     ensures same { OnErr result (elements.new.items ≡ elements.old.items) }
 {
     let size = elements.len();
+    if inserted.is_empty() && count == 1 && first < size {
+        elements.remove(first);
+        return Ok(());
+    }
     let first = first.min(size);
     let count = count.min(size - first);
     let between = first + inserted.len();

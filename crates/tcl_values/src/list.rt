@@ -1,11 +1,11 @@
 //! Values read as lists, and changed as lists.
 
-ghost use Rattle.std.specs.Prelude.{◌≡◌, ◌<◌, ◌≤◌, slice_get, IfOk, IfSome, OnOk, OnErr};
+ghost use Rattle.std.specs.Prelude.{◌≡◌, ◌<◌, ◌≤◌, ◌++◌, slice_get, IfOk, IfSome, OnOk, OnErr};
 ghost use Rattle.tcl_list.specs.Elements.{elements_of};
 ghost use Rattle.tcl_list.specs.Texts.{Answers};
 ghost use Rattle.tcl_list.specs.Written.{written};
 ghost use Rattle.tcl_values.specs.Kept.{texts, depth_over};
-ghost use Rattle.tcl_values.specs.Lists.{count_of, item_of, part_of, pushed, spliced, with_item, Leaves};
+ghost use Rattle.tcl_values.specs.Lists.{behind, count_of, item_of, part_of, pushed, spliced, with_item, Leaves};
 ghost use Rattle.tcl_values.specs.Shape.{items_text, AreKept};
 
 use crate::element::{Element, Entry, Items};
@@ -46,15 +46,15 @@ fn into_elements(alloc: Global, values: Vec<Value>) -> Result<Vec<Element>, Allo
     Ok(elements)
 }
 
-/// Elements as values. What is kept is shared.
-fn copy_values(alloc: Global, elements: &[Element]) -> Result<Vec<Value>, AllocError>
-    ensures { IfOk result (λ v. v.items ≡ texts elements.now) }
+/// Adds elements, as values, at the end of others, and leaves room for a few more. What is kept is shared.
+fn add_elements(values: &mut Vec<Value>, elements: &[Element]) -> Result<(), AllocError>
+    ensures { OnOk result (values.new.items ≡ values.old.items ++ texts elements.now) }
 {
-    let mut values = Vec::with_capacity(alloc, elements.len())?;
+    values.reserve(elements.len().saturating_add(4))?;
     for element in elements {
         values.push(element.copy()?)?;
     }
-    Ok(values)
+    Ok(())
 }
 
 /// The element at a place, as a value; none where there is no such place.
@@ -219,12 +219,27 @@ impl Value {
         ensures list { Answers (λ v. v.items) result (elements_of self.old) }
         ensures same { self.new ≡ self.old }
     {
+        let mut values = Vec::new(alloc);
+        self.list_behind(alloc, &mut values)?;
+        Ok(values)
+    }
+
+    /// The elements of the list that the text is read as come behind values, as values. What is kept of them is shared.
+    ///
+    /// # Errors
+    ///
+    /// `Fault::Error` with the list's fault, `Fault::Memory`.
+    pub fn list_behind(&mut self, alloc: Global, values: &mut Vec<Value>) -> Result<(), Fault>
+        ensures list { Answers (λ u. values.new.items) result (behind values.old.items self.old) }
+        ensures same { self.new ≡ self.old }
+    {
         if self.held.is_single() {
-            return Ok(vec![in alloc; self.copy()?]?);
+            values.push(self.copy()?)?;
+            return Ok(());
         }
         read_row(&mut self.held, alloc)?;
         match &self.held {
-            Held::Row(row) => Ok(copy_values(alloc, &row.items)?),
+            Held::Row(row) => Ok(add_elements(values, &row.items)?),
             _ => unreachable!(),
         }
     }
