@@ -351,6 +351,7 @@ impl Value {
     }
 
     /// A value of the same text, with what is kept of this one.
+    #[inline(always)]
     fn share(&self) -> Result<Value, AllocError>
         ensures { IfOk result (λ v. v ≡ self.now) }
     {
