@@ -228,7 +228,7 @@ impl Value {
     ///
     /// # Errors
     ///
-    /// `Fault::Error` with the list's fault, `Fault::Memory`.
+    /// `Fault::Error` with the list's fault, `Fault::Memory`. What `values` holds then isn't said.
     pub fn list_behind(&mut self, alloc: Global, values: &mut Vec<Value>) -> Result<(), Fault>
         ensures list { Answers (λ u. values.new.items) result (behind values.old.items self.old) }
         ensures same { self.new ≡ self.old }
