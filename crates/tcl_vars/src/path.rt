@@ -1,6 +1,6 @@
 //! An element of lists in lists, changed in its place: lset(n).
 
-ghost use Rattle.std.specs.Prelude.{◌≡◌, ◌<◌, ◌≤◌, length, take, Ok, IfOk, OnErr};
+ghost use Rattle.std.specs.Prelude.{◌≡◌, ◌<◌, ◌≤◌, ◌∷◌, [], true, false, length, take, Ok, IfOk, OnErr};
 ghost use Rattle.tcl_arguments.specs.WordAt.{word};
 ghost use Rattle.tcl_chars.specs.Answers.{Answers};
 ghost use Rattle.tcl_pages.specs.Lists.{element_set};
@@ -8,7 +8,7 @@ ghost use Rattle.tcl_vars.specs.Way as way;
 ghost use Rattle.tcl_values.specs.Lists.{Leaves};
 
 use crate::words::empty;
-use std::alloc::Global;
+use std::alloc::{AllocError, Global};
 use tcl_arguments::position_at;
 use tcl_chars::{Dialect, Fault, message, place_of};
 use tcl_values::Value;
@@ -63,6 +63,32 @@ fn put(alloc: Global, list: &mut Value, place: usize, element: Value) -> Result<
         return Ok(());
     }
     list.push(alloc, element)
+}
+
+/// Puts a new element at the place that a number says, where the list has an element there: tells whether it does. Else nothing is changed.
+fn put_near(
+    alloc: Global,
+    list: &mut Value,
+    index: &Value,
+    new: &Value,
+    dialect: Dialect,
+) -> Result<bool, AllocError>
+    ensures done { IfOk result (λ done. done ≡ true → element_set dialect list.old (index.now ∷ []) new.now ≡ Ok list.new) }
+    ensures same { IfOk result (λ done. done ≡ false → list.new ≡ list.old) }
+    ensures refused { OnErr result (list.new ≡ list.old) }
+{
+    let Some(number) = index.known_number(dialect) else {
+        return Ok(false);
+    };
+    if number < 0 {
+        return Ok(false);
+    }
+    match list.replace_item(alloc, number as usize, new.copy()?) {
+        Ok(Some(_)) => Ok(true),
+        Ok(None) => Ok(false),
+        Err(Fault::Error(_)) => Ok(false),
+        Err(Fault::Memory) => Err(AllocError),
+    }
 }
 
 /// The places that the first `count` indices say: `first` in the list, and each one behind it in the list that the element at the place
@@ -172,10 +198,14 @@ pub(crate) fn put_at(
         *value = new;
         return Ok(());
     }
-    let place = place_by(alloc, value, indices, 0, dialect)?;
     if count == 1 {
+        if put_near(alloc, value, &indices[0], &new, dialect)? {
+            return Ok(());
+        }
+        let place = place_by(alloc, value, indices, 0, dialect)?;
         return put(alloc, value, place, new);
     }
+    let place = place_by(alloc, value, indices, 0, dialect)?;
     let places = places_of(alloc, value, place, indices, count, dialect)?;
     value.put_item_under(alloc, places, new)
 }
