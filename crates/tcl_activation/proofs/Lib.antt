@@ -19,6 +19,7 @@ mod Resuming
 mod Rounding
 mod Runs
 mod Spelling
+pub mod Spoken
 mod Standing
 mod Stepping
 mod Storing

@@ -19,3 +19,4 @@ pub mod Behind
 pub mod Brackets
 pub mod Together
 pub mod Rounds
+pub mod Ready

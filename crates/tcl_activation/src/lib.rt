@@ -23,6 +23,7 @@ mod quick;
 mod quick_list;
 mod quick_pairs;
 mod quick_step;
+mod ready;
 mod results;
 mod rounds;
 mod stack;

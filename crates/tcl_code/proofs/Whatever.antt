@@ -20,9 +20,11 @@ module _ (ts us : CodeTexts) where
   same_ways (instr.ReadElement n) s = refl
   same_ways (instr.Join n) s = refl
   same_ways instr.Spend s = refl
+  same_ways (instr.Begin n) s = refl
   same_ways instr.Enter s = refl
   same_ways instr.Leave s = refl
   same_ways (instr.Call n) s = refl
+  same_ways (instr.CallSlow n) s = refl
   same_ways instr.Gather s = refl
   same_ways instr.Add s = refl
   same_ways instr.AddAll s = refl
@@ -67,9 +69,11 @@ module _ (ts us : CodeTexts) where
   same_fine (instr.ReadElement n) s h = h
   same_fine (instr.Join n) s h = h
   same_fine instr.Spend s h = h
+  same_fine (instr.Begin n) s h = h
   same_fine instr.Enter s h = h
   same_fine instr.Leave s h = h
   same_fine (instr.Call n) s h = h
+  same_fine (instr.CallSlow n) s h = h
   same_fine instr.Gather s h = h
   same_fine instr.Add s h = h
   same_fine instr.AddAll s h = h

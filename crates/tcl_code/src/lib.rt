@@ -23,5 +23,5 @@ mod texts;
 pub use builder::{CodeBuilder, CodeFault};
 pub use code::Code;
 pub use inlined::{Change, Inlined};
-pub use instr::{Instr, TextInstr};
+pub use instr::{Instr, Preference, TextInstr};
 pub use shape::Shape;

@@ -176,7 +176,7 @@ impl Shape {
                 depth: self.depth.saturating_sub(1),
                 ..self
             }),
-            Instr::Spend => Ok(Shape {
+            Instr::Spend | Instr::Begin(_) => Ok(Shape {
                 paid: one_more(self.paid)?,
                 ..self
             }),
@@ -193,7 +193,7 @@ impl Shape {
                 depth: self.depth.saturating_sub(1),
                 ..self
             }),
-            Instr::Call(n) => Ok(Shape {
+            Instr::Call(n) | Instr::CallSlow(n) => Ok(Shape {
                 height: self.height.saturating_sub(n),
                 paid: self.paid.saturating_sub(1),
                 ..self
@@ -227,6 +227,7 @@ impl Shape {
             | Instr::ReadPairs(_)
             | Instr::ReadList(_)
             | Instr::Spend
+            | Instr::Begin(_)
             | Instr::Enter
             | Instr::Gather
             | Instr::Raise(_)
@@ -250,7 +251,7 @@ impl Shape {
             Instr::Rare(instr, _) => self.suits_text(instr),
             Instr::Join(n) | Instr::Apply(_, n) | Instr::Deal(n) => self.height >= n,
             Instr::Leave | Instr::Become => self.depth >= 1,
-            Instr::Call(n) => self.height >= n && self.paid >= 1,
+            Instr::Call(n) | Instr::CallSlow(n) => self.height >= n && self.paid >= 1,
             Instr::Add | Instr::AddAll => self.height >= 1 && self.lists >= 1,
             Instr::CallGathered => self.lists >= 1 && self.paid >= 1,
             Instr::Binary(op) => self.height >= 2 && is_eager(op),

@@ -23,7 +23,7 @@ use crate::each::{each_of, emit_each};
 use crate::inlining::{Form, command_of, form_of, inlined_by};
 use crate::literals::literals;
 use crate::pages::emit_page;
-use crate::reading::prefer_reading;
+use crate::reading::prefer_ways;
 use crate::skips::lead_here;
 use std::alloc::{AllocError, Global};
 use tcl_chars::push;
@@ -256,8 +256,9 @@ fn emit_plain(
     'words: for word in words {
         emit_word(code, context, whole, word)?;
     }
-    prefer_reading(code, words, start);
-    emit_call(code, words.len())
+    emit_call(code, words.len())?;
+    prefer_ways(code, words, start);
+    Ok(())
 }
 
 // A word that is there, or all elements of its text.

@@ -4,5 +4,6 @@ pub mod Landing
 mod Hurrying
 pub mod Leading
 pub mod Owing
+mod Readily
 mod Quickly
 pub mod Scoping

@@ -5,3 +5,4 @@ pub mod Hurried
 pub mod Kinds
 pub mod Leaving
 pub mod Undoing
+pub mod Ready

@@ -16,6 +16,7 @@ mod lifts;
 mod looking;
 mod owed;
 mod pages;
+mod ready;
 mod rooms;
 mod scopes;
 mod stride;

@@ -9,6 +9,7 @@ use std::marker::Model;
 use std::rc::Rc;
 use tcl_activation::Activation;
 use tcl_code::Code;
+use tcl_values::Value;
 
 /// A code that runs, or waits for a command that it has called, at a place of its own. Contracts see it as its activation.
 #[derive(Drop)]
@@ -50,6 +51,8 @@ pub struct Rooms {
     // The code that began first, whose script is run as long as there are rooms: one that is left holds on to no other code.
     first: Option<Rc<Code>>,
     pub(crate) elements: LastElements,
+    // The words of a command that is done where it begins, while it is done.
+    pub(crate) words: Vec<Value>,
 }
 
 impl Rooms {
@@ -59,6 +62,7 @@ impl Rooms {
             left: Vec::new(alloc),
             first: None,
             elements: LastElements::new(alloc),
+            words: Vec::new(alloc),
         }
     }
 

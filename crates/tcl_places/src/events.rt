@@ -14,7 +14,7 @@ fn ends_script(instr: Option<Instr>) -> bool {
 // Does a command begin at a place, a malformed one among them?
 fn begins_at(code: &Code, place: usize) -> bool {
     match code.instr(place) {
-        Some(Instr::Spend) => true,
+        Some(Instr::Spend | Instr::Begin(_)) => true,
         Some(Instr::Raise(_) | Instr::Rare(TextInstr::Raise, _)) => ends_script(code.instr(
             place.saturating_add(1),
         )),
@@ -82,7 +82,9 @@ pub(crate) fn guard_behind(code: &Code, begin: usize) -> Option<Inlined> {
         }
         match instr {
             Some(Instr::Guard(page, _)) if depth == 0 => return Some(page),
-            Some(Instr::Call(_) | Instr::CallGathered) if depth == 0 => return None,
+            Some(Instr::Call(_) | Instr::CallSlow(_) | Instr::CallGathered) if depth == 0 => {
+                return None;
+            }
             _ => {}
         }
     }

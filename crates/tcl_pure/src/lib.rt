@@ -17,5 +17,5 @@ mod tables;
 pub use answers::pure_done;
 pub use messages::{subcommand_usage, unknown_subcommand};
 pub use page::pure_page;
-pub use quick::{is_worth_taking, quick_page};
+pub use quick::{is_worth_taking, quick_element, quick_page};
 pub use tables::{subcommand, subcommand_near};

@@ -25,7 +25,7 @@ mod words;
 pub use assigning::lassign;
 pub use catching::after_catch;
 pub use quick::{quick_incr, quick_set};
-pub use quick_updating::quick_update;
+pub use quick_updating::{quick_update, quick_update_of};
 pub use setting::set;
 pub use unsetting::unset;
 pub use updating::update;

@@ -135,7 +135,7 @@ pub script::emit_plain-returns : goal.script::emit_plain-returns
 script::emit_plain-returns t c =
     let ws = map shape_of c.args.words.now in
     let n = length-map c.args.words.now shape_of in
-    on_ok_weaker c.emit_call.result (λ h. grown_command c.args.context.dialect ws c.words.word-index _ _ c.words.code _ (omega (arith, n)) (sym n) c.words.invariant.leads (h ∙ ap (λ is. is ++ Call (length c.args.words.now) ∷ []) c.prefer_reading.ensures)) c.emit_call.ensures
+    grown_command c.args.context.dialect ws c.words.word-index _ _ c.words.code _ (omega (arith, n)) (sym n) c.words.invariant.leads (c.prefer_ways.ensures ∙ c.in_ok-emit_call.ensures)
 
 pub script::emit_gathered-words-init : goal.script::emit_gathered-words-init
 script::emit_gathered-words-init t c = record {

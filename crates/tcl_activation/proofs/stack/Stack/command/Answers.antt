@@ -1,11 +1,12 @@
-use Rattle.std.proofs.Common.{Ok}
+use Rattle.std.proofs.Common.{Ok, subst, sym}
 use Rattle.tcl_code.specs.declared.instr.Instr.TheVariants as instr
-use Rattle.tcl_activation.proofs.Topics.{acts_as, goes_as}
+use Rattle.tcl_activation.specs.Moves.{Acts}
+use Rattle.tcl_activation.proofs.Topics.{acts_as, called_as, goes_as}
 use Rattle.tcl_activation.proofs.stack.Stack.command.Goals as goal
 use Rattle.tcl_activation.proofs.stack.Stack.command.Goals.{in-Leave+in_ok-leave-in-Leave, in-Gather+in_ok-gather-in-Gather, in-Add+in_ok-add-in-Add, in-TakeFirst+in_ok-take_first-in-TakeFirst, in-DropList, in-Answer, in-Become}
 
 pub returns-in-Call : goal.returns-in-Call
-returns-in-Call c ts = acts_as c.args.dialect ts c.args.instr (instr.Call c.in-Call.count) c.args.self.now c.call.new.self (Ok c.call.result) c.in-Call.is (c.call.ensures c.args.dialect)
+returns-in-Call c ts = subst (λ i. Acts c.args.dialect i c.args.self.now c.call.new.self (Ok c.call.result)) (sym (called_as ts c.args.instr c.in-Call.count c.in-Call.is)) (c.call.ensures c.args.dialect)
 
 pub returns-in-AddAll : goal.returns-in-AddAll
 returns-in-AddAll c ts = acts_as c.args.dialect ts c.args.instr instr.AddAll c.args.self.now c.add_all.new.self c.add_all.result c.in-AddAll.is (c.add_all.ensures c.args.dialect)
