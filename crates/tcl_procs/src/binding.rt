@@ -2,11 +2,12 @@
 ghost use Rattle.std.specs.Prelude.{◌≡◌, Some, map as each, drop, IfOk};
 ghost use Rattle.std.specs.FinMap as map;
 ghost use Rattle.tcl_meaning.specs.Procedures as spec;
+ghost use Rattle.tcl_chars.specs.Texts.{text_of};
 ghost use Rattle.tcl_procs.specs.Binding.{argument_of, takes_rest};
 ghost use Rattle.tcl_table.specs.Procedures.{formal_of};
 
 use std::alloc::{AllocError, Global};
-use std::rc::Rc;
+use std::rc::{Rc, RcStr};
 use tcl_chars::is_text;
 use tcl_frames::Variable;
 use tcl_lists::list;
@@ -24,6 +25,16 @@ pub(crate) fn takes_rest(formals: &[Formal]) -> bool
     }
 }
 
+// A default as a value: a number where it is the decimal text of one, so that the body need not read it.
+fn default_value(text: &RcStr) -> Result<Value, AllocError>
+    ensures { IfOk result (λ value. value ≡ text_of text.now) }
+{
+    match Value::of_decimal(text.as_str()) {
+        Some(number) => Ok(number),
+        None => Ok(Value::of_text(text.clone()?)),
+    }
+}
+
 // What a formal is given: the first word, or its default.
 fn argument(formal: &Formal, words: &[Value]) -> Result<Option<Value>, AllocError>
     ensures { IfOk result (λ value. value ≡ argument_of (formal_of formal.now) words.now) }
@@ -31,7 +42,7 @@ fn argument(formal: &Formal, words: &[Value]) -> Result<Option<Value>, AllocErro
     match words {
         [word, ..] => Ok(Some(word.copy()?)),
         [] => match &formal.default {
-            Some(text) => Ok(Some(Value::of_text(text.clone()?))),
+            Some(text) => Ok(Some(default_value(text)?)),
             None => Ok(None),
         },
     }
