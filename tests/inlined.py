@@ -20,7 +20,7 @@ sys.dont_write_bytecode = True
 from batches import TOGETHER, Run, judge_all, number_behind, run_all, run_by_tclsh
 from program import Wrong, check
 
-NAMES = ("set", "incr", "expr", "if", "while", "for", "foreach", "break", "continue")
+NAMES = ("set", "incr", "expr", "if", "while", "for", "foreach", "switch", "return", "break", "continue")
 OTHERS = [name for name in NAMES if name != "foreach"]  # words of a foreach that change its own name: PLACES_IN_WORDS
 COMMAND = re.compile(r"(?<![\w$:@])(" + "|".join(NAMES) + r")(?=@)")
 # What tclsh says beyond the message of a malformed expression.
@@ -43,7 +43,7 @@ class Script:
     def lines(self):
         yield "catch {rename unknown {}}; set@ a 0; set@ b 3; set@ l {1 2 3}; set@ n 0"
         if self.random.random() < 0.5:
-            yield f"proc p {{}} {{{self.body(1, True)}; return@ $a}}".replace("return@", "return")
+            yield f"proc p {{}} {{{self.body(1, True)}; return@ $a}}"
             yield "proc q {x args} {upvar 1 a y; set@ y $x; return -code [lindex {ok break continue error} [expr@ {$x % 4}]] r$x}"
         for _ in range(self.random.randint(3, 8)):
             yield self.command(0, False)
@@ -99,6 +99,14 @@ class Script:
             text += f" elseif {{{self.condition()}}} {self.braced(depth, inner)}"
         return text + self.pick("", lambda: f" else {self.braced(depth, inner)}", lambda: f" {self.braced(depth, inner)}")
 
+    def arms(self, depth, inner):
+        """A `switch` of a list, some of which is called the general way."""
+        patterns = ["0", "1", "3", "$a", "{}", "12", "x"]
+        self.random.shuffle(patterns)
+        arms = " ".join(f"{pattern} {self.pick('-', lambda: '{' + self.body(depth + 1, inner) + '}')}" for pattern in patterns[: self.random.randint(1, 4)])
+        last = f"{self.pick('default', '7')} {{{self.body(depth + 1, inner)}}}"
+        return f"switch@ {self.pick('', '-- ', '-- ', '-exact -- ', '-glob -- ')}{self.number()} {{{arms} {last}}}"
+
     def changed(self, names=NAMES):
         """A name that is renamed, replaced or put back."""
         name = self.pick(*names)
@@ -121,6 +129,7 @@ class Script:
             lambda: f"puts [set@ b {self.number()}]",
             "puts $a/$b/$n",
             lambda: f"catch {{{self.changed()}}}",
+            lambda: f"puts [catch {{return@ {self.number()}}} r]$r",
             "catch {q [incr@ n]}",
         ]
         if inner:
@@ -128,9 +137,9 @@ class Script:
             simple += [lambda: self.pick("break@", "continue@"), "q [incr@ n]", ends]
         if depth >= 4 or self.random.random() < 0.45:
             return self.pick(*simple)
-        loop, choice = lambda: self.loop(depth), lambda: self.choice(depth, inner)
+        loop, choice, arms = lambda: self.loop(depth), lambda: self.choice(depth, inner), lambda: self.arms(depth, inner)
         return self.pick(
-            *(loop, loop, choice, choice),
+            *(loop, loop, choice, choice, arms, arms),
             lambda: f"puts \"caught [catch {{{self.body(depth + 1, inner)}}} r]:$r\"",
             lambda: f"eval {{{self.body(depth + 1, inner)}}}",
             "puts [catch p]",
@@ -139,13 +148,13 @@ class Script:
 
 # ---- each name, changed in each place
 
-# What a change of a name does as it is called the third time, and later.
+# What a change of a name does as it is called the third time, and then.
 CHANGES = [
-    "3 {rename NAME@ kept}",
-    "3 {rename NAME@ {}}",
-    "3 {rename NAME@ kept; proc NAME@ args {puts {own NAME}; uplevel 1 [list kept {*}$args]}}",
-    "3 {rename NAME@ kept} 4 {rename kept NAME@}",
-    "3 {rename NAME@ kept; proc NAME@ args {puts {own NAME}; return 1}} 5 {rename NAME@ {}; rename kept NAME@}",
+    "{rename NAME@ kept}",
+    "{rename NAME@ {}}",
+    "{rename NAME@ kept; proc NAME@ args {puts {own NAME}; uplevel 1 [list kept {*}$args]}}",
+    "{rename NAME@ kept} {rename kept NAME@}",
+    "{rename NAME@ kept; proc NAME@ args {puts {own NAME}; format 1}} {} {rename NAME@ {}; rename kept NAME@}",
 ]
 # Where it is called, in each of four turns twice; more answers 1 four times.
 PLACES = [
@@ -162,6 +171,7 @@ PLACES = [
     "foreach@ i {1 2 3 4} {if@ {0} {puts no} elseif {[change; change]} {USES}}",
     "foreach@ i {1 2 3 4} {if@ {$i} {change; change; USES}; USES}",
     "foreach@ i {1 2 3 4} {if@ [change; change] {USES}}",
+    "foreach@ i {1 2 3 4} {switch@ -- $i {1 {change; change; USES} 2 {USES; change} default {change; change; USES}}}",
     "foreach@ i {1 2 3 4} {puts [expr@ {$i + [change; change]}]; USES}",
     "foreach@ i {1 2 3 4} {foreach@ x {1 2 3} {if@ {$x == 2} {change; change; continue@}; puts $x; change; break@}; USES}",
 ]
@@ -170,12 +180,15 @@ PLACES_IN_WORDS = [
     "foreach@ o {1 2 3 4} {foreach@ i [change; change] {USES}}",
     "foreach@ i {1 2 3 4} {set@ v [change; change]; USES}",
     "foreach@ i {1 2 3 4} {incr@ v [change; change]; USES}",
+    "foreach@ i {1 2 3 4} {switch@ -- [change; change] {1 {USES}}}",
+    "foreach@ i {1 2 3 4} {puts [catch {return@ [change; change]}]; USES}",
 ]
 USES = (
     "set@ a $n; puts [expr@ {$a * 2}]; if@ {$n > 3} {puts big} else {puts small}; "
     "foreach@ x {1 2 3} {if@ {$x == 2} {continue@}; puts $x; incr@ n}; "
     "for@ {set@ k 0} {$k < 9} {incr@ k} {if@ {$k == 1} {break@}; puts k$k}; "
-    "set@ k {}; while@ {$k eq {}} {append k .; incr@ n}; foreach@ x {1 2} y {a b} {puts $x$y}"
+    "set@ k {}; while@ {$k eq {}} {append k .; incr@ n}; foreach@ x {1 2} y {a b} {puts $x$y}; "
+    "switch@ -- $x {1 {puts one} 2 {incr@ n} default {puts other}}; puts [catch {return@ $x} r]$r"
 )
 BEGIN = "catch {rename unknown {}}; proc more {} {string match {[1-4]} [llength [lappend ::passed x]]}; "
 
@@ -183,7 +196,7 @@ BEGIN = "catch {rename unknown {}}; proc more {} {string match {[1-4]} [llength 
 def changed(name, places):
     """Scripts in which a name is changed in each of the places, at the top and in a procedure."""
     for change in CHANGES:
-        begin = f"{BEGIN}proc change {{}} {{switch [llength [lappend ::turns x]] {{{change.replace('NAME', name)}}}; return 1}}\n"
+        begin = f"{BEGIN}proc change {{}} {{eval [lindex {{{{}} {{}} {{}} {change.replace('NAME', name)}}} [llength [lappend ::turns x]]]; format 1}}\n"
         for place in places:
             text = f"set@ n 0; {place.replace('USES', USES)}; puts [list $n $k]"
             yield f"{name}: {change}: {place}: at the top", begin + text

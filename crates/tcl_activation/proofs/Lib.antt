@@ -1,4 +1,5 @@
 mod Acting
+mod Arms
 mod Bracketing
 mod Calling
 mod Comparisons

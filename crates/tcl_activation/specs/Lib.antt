@@ -20,3 +20,4 @@ pub mod Brackets
 pub mod Together
 pub mod Rounds
 pub mod Ready
+pub mod Choosing

@@ -6,6 +6,7 @@ mod bodies;
 mod brackets;
 mod calls;
 mod changing;
+mod choosing;
 mod comparing;
 mod composing;
 mod dealing;

@@ -13,7 +13,7 @@ use Rattle.tcl_code.specs.declared.inlined.Inlined.TheVariants as inlined
 use Rattle.tcl_code.specs.Guards.{name_of, page_of, which, number_of, is_same, stands_for, stands}
 
 numbered : ℕ → Inlined
-numbered n = get_or (inlined.Set ∷ inlined.Incr ∷ inlined.Expr ∷ inlined.If ∷ inlined.While ∷ inlined.For ∷ inlined.Foreach ∷ inlined.Break ∷ inlined.Continue ∷ []) n inlined.Set
+numbered n = get_or (inlined.Set ∷ inlined.Incr ∷ inlined.Expr ∷ inlined.If ∷ inlined.While ∷ inlined.For ∷ inlined.Foreach ∷ inlined.Switch ∷ inlined.Return ∷ inlined.Break ∷ inlined.Continue ∷ []) n inlined.Set
 
 by_number : (p : Inlined) → numbered (number_of p) ≡ p
 unfolding numbered
@@ -24,6 +24,8 @@ by_number inlined.If = refl
 by_number inlined.While = refl
 by_number inlined.For = refl
 by_number inlined.Foreach = refl
+by_number inlined.Switch = refl
+by_number inlined.Return = refl
 by_number inlined.Break = refl
 by_number inlined.Continue = refl
 
@@ -60,11 +62,11 @@ which_is page.For p e = let f : inlined.For ≡ p = cc in ap page_of f
 which_is page.Foreach p e = let f : inlined.Foreach ≡ p = cc in ap page_of f
 which_is page.Lmap p e = absurd (cc)
 which_is page.DictFor p e = absurd (cc)
-which_is page.Switch p e = absurd (cc)
+which_is page.Switch p e = let f : inlined.Switch ≡ p = cc in ap page_of f
 which_is page.Eval p e = absurd (cc)
 which_is page.Expr p e = let f : inlined.Expr ≡ p = cc in ap page_of f
 which_is page.Catch p e = absurd (cc)
-which_is page.Return p e = absurd (cc)
+which_is page.Return p e = let f : inlined.Return ≡ p = cc in ap page_of f
 which_is page.Throw p e = absurd (cc)
 which_is page.Try p e = absurd (cc)
 which_is page.Error p e = absurd (cc)

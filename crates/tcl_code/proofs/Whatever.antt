@@ -31,6 +31,7 @@ module _ (ts us : CodeTexts) where
   same_ways instr.CallGathered s = refl
   same_ways (instr.Deal n) s = refl
   same_ways instr.TakeFirst s = refl
+  same_ways instr.Duplicate s = refl
   same_ways (instr.SkipEmpty n) s = refl
   same_ways instr.DropList s = refl
   same_ways (instr.Raise n) s = refl
@@ -42,6 +43,7 @@ module _ (ts us : CodeTexts) where
   same_ways (instr.Body b n) s = refl
   same_ways instr.Again s = refl
   same_ways instr.Break s = refl
+  same_ways instr.Return s = refl
   same_ways instr.Continue s = refl
   same_ways (instr.Skip n) s = refl
   same_ways (instr.SkipWhen b n) s = refl
@@ -80,6 +82,7 @@ module _ (ts us : CodeTexts) where
   same_fine instr.CallGathered s h = h
   same_fine (instr.Deal n) s h = h
   same_fine instr.TakeFirst s h = h
+  same_fine instr.Duplicate s h = h
   same_fine (instr.SkipEmpty n) s h = h
   same_fine instr.DropList s h = h
   same_fine (instr.Raise n) s h = h
@@ -91,6 +94,7 @@ module _ (ts us : CodeTexts) where
   same_fine (instr.Body b n) s h = h
   same_fine instr.Again s h = h
   same_fine instr.Break s h = h
+  same_fine instr.Return s h = h
   same_fine instr.Continue s h = h
   same_fine (instr.Skip n) s h = h
   same_fine (instr.SkipWhen b n) s h = h

@@ -13,6 +13,8 @@ pub enum Inlined {
     While,
     For,
     Foreach,
+    Switch,
+    Return,
     Break,
     Continue,
 }
@@ -30,6 +32,8 @@ impl Inlined {
             Inlined::While => "while",
             Inlined::For => "for",
             Inlined::Foreach => "foreach",
+            Inlined::Switch => "switch",
+            Inlined::Return => "return",
             Inlined::Break => "break",
             Inlined::Continue => "continue",
         }

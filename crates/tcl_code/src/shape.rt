@@ -152,7 +152,9 @@ impl Shape {
             | Instr::Write(_)
             | Instr::Bump(_)
             | Instr::Rare(TextInstr::Write | TextInstr::Bump, _) => self.with_texts(1, 0),
-            Instr::Under(_) | Instr::Rare(TextInstr::Under, _) => self.with_texts(1, 2),
+            Instr::Duplicate | Instr::Under(_) | Instr::Rare(TextInstr::Under, _) => {
+                self.with_texts(1, 2)
+            }
             Instr::Raise(_)
             | Instr::Rare(TextInstr::Raise, _)
             | Instr::Skip(_)
@@ -161,6 +163,7 @@ impl Shape {
             | Instr::SkipEmpty(_)
             | Instr::Body(_, _)
             | Instr::Again
+            | Instr::Return
             | Instr::Break
             | Instr::Continue => Ok(self),
             Instr::Deal(n) => Ok(Shape {
@@ -240,6 +243,8 @@ impl Shape {
             Instr::Guard(_, _) => self.paid >= 1,
             Instr::Again => self.loops >= 1 && self.has_nothing(),
             Instr::ReadElement(_)
+            | Instr::Duplicate
+            | Instr::Return
             | Instr::SkipWhen(_, _)
             | Instr::Unary(_)
             | Instr::Truth
@@ -286,6 +291,7 @@ pub(crate) fn leads_to(place: usize, count: usize, instr: Instr) -> Reached
         Instr::Raise(_)
         | Instr::Rare(TextInstr::Raise, _)
         | Instr::Again
+        | Instr::Return
         | Instr::Break
         | Instr::Continue => Reached {
             first: None,

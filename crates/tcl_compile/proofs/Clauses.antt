@@ -9,6 +9,7 @@ use Rattle.tcl_meaning.specs.Shapes.{is_word, with_clause, last_body, at_conditi
 use Rattle.tcl_meaning.specs.Tasks.{Others}
 use Rattle.tcl_compile.specs.declared.inlining.Joint.TheVariants as joint
 use Rattle.tcl_compile.specs.Forms.{HasClause, IsJoint, ClausesAreShort, OtherwiseIsShort}
+use Rattle.tcl_compile.specs.Within.{TextsAreShort}
 
 abbrev pub others : List (Text × Text) → Option Text → Others
 others cs o = record { clauses = cs; otherwise = o }
@@ -57,10 +58,6 @@ behind_else ts rest cs c body w t is has f g h =
     h (others ((c, body) ∷ []) (Some t)) (ap if_shape is ∙ elsed c body w t then_no f g)
 
 -- ---- texts of at most n characters
-
-abbrev pub TextsAreShort : ℕ → List Text → Type 0
-TextsAreShort n [] = Unit {0}
-TextsAreShort n (t ∷ ts) = (length t ≤ n) × TextsAreShort n ts
 
 abbrev OthersAreShort : ℕ → Others → Type 0
 OthersAreShort n o = ClausesAreShort n o.clauses × OtherwiseIsShort n o.otherwise

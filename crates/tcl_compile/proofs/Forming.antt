@@ -19,10 +19,10 @@ use Rattle.tcl_compile.specs.Emitted.{CommandCode, WordCode}
 use Rattle.tcl_compile.specs.Forms.{clause_of, command_of, IsForm, HasForm, PageCode, InlinedCode, FormIsShort}
 use Rattle.tcl_compile.specs.Fragments.{Grown, Plain}
 use Rattle.tcl_compile.specs.Literals.{spelled, AllLiteral}
-use Rattle.tcl_compile.specs.Within.{WordsAreShort, ArgumentsAreShort}
+use Rattle.tcl_compile.specs.Within.{WordsAreShort, ArgumentsAreShort, TextsAreShort}
 use Rattle.tcl_compile.specs.declared.inlining.Form.{Form}
 use Rattle.tcl_compile.specs.declared.inlining.Form.TheVariants as form
-use Rattle.tcl_compile.proofs.Clauses.{TextsAreShort, others, shape_short}
+use Rattle.tcl_compile.proofs.Clauses.{others, shape_short}
 use Rattle.tcl_compile.proofs.Emits.{Code, ext, join}
 use Rattle.tcl_compile.proofs.Forks.{LedHere, forked}
 use Rattle.tcl_compile.proofs.Guarded.{command_said, guarded, guarded_runs}

@@ -122,7 +122,7 @@ module _ (dialect : Dialect) where
 
   -- ---- break, continue
 
-  broken : (next : Next) (os : List Loop) (to : Completion → Spot) (c : Completion) (u : State) → (code_now c ≡ ending.Ok → ⊥) → follow dialect next os (M.Fails c u) ≡ landed next os to (Gives c u)
+  pub broken : (next : Next) (os : List Loop) (to : Completion → Spot) (c : Completion) (u : State) → (code_now c ≡ ending.Ok → ⊥) → follow dialect next os (M.Fails c u) ≡ landed next os to (Gives c u)
   broken next os to c u h = sym (landed_stops next os to (code_now c) c u h)
 
   break_is : (d : ℕ) (s : State) → exec (Run dialect) (page_does dialect inlined.Break [] d) s ≡ Gives (ended ending.Break []) s
@@ -161,7 +161,7 @@ module _ (dialect : Dialect) where
 
   -- ---- if
 
-  clauses_are : (cs : List (Text × Text)) (o : Option Text) (d : ℕ) (s : State) → exec (Run dialect) (page_in dialect d (next_clause cs o)) s ≡ exec (Run dialect) (asking dialect (suc (length cs)) (next_clause cs o) d) s
+  pub clauses_are : (cs : List (Text × Text)) (o : Option Text) (d : ℕ) (s : State) → exec (Run dialect) (page_in dialect d (next_clause cs o)) s ≡ exec (Run dialect) (asking dialect (suc (length cs)) (next_clause cs o) d) s
   unfolding asked all_answered answered
   clauses_are [] None d s = refl
   clauses_are [] (Some body) d s = refl

@@ -26,8 +26,10 @@ pub mod Operators
 pub mod Paging
 pub mod Parsing
 pub mod Pieces
+pub mod ReturnLemmas
 pub mod Scripts
 pub mod Shorter
+pub mod SwitchLemmas
 pub mod TreeEmits
 pub mod Turns
 pub mod Views

@@ -23,6 +23,9 @@ use Rattle.tcl_code.specs.declared.inlined.Change.TheVariants as change
 use Rattle.tcl_code.specs.declared.inlined.Inlined.{Inlined}
 use Rattle.tcl_code.specs.declared.inlined.Inlined.TheVariants as inlined
 use Rattle.tcl_compile.specs.Changes.{IsChange}
+use Rattle.tcl_compile.specs.Returns.{IsReturn}
+use Rattle.tcl_compile.specs.Switches.{IsMarked, IsSwitch}
+use Rattle.tcl_compile.specs.declared.switching.SwitchForm.{SwitchForm}
 use Rattle.tcl_compile.specs.Eaches.{AreEachWords}
 use Rattle.tcl_compile.specs.Fragments.{Plain}
 use Rattle.tcl_compile.specs.Literals.{spelled, IsStretch, IsLiteral, AllLiteral}
@@ -129,6 +132,8 @@ name_alone inlined.If e = absurd (differs (codes "if") refl refl e)
 name_alone inlined.While e = refl
 name_alone inlined.For e = absurd (differs (codes "for") refl refl e)
 name_alone inlined.Foreach e = absurd (differs (codes "foreach") refl refl e)
+name_alone inlined.Switch e = absurd (differs (codes "switch") refl refl e)
+name_alone inlined.Return e = absurd (differs (codes "return") refl refl e)
 name_alone inlined.Break e = absurd (differs (codes "break") refl refl e)
 name_alone inlined.Continue e = absurd (differs (codes "continue") refl refl e)
 
@@ -153,6 +158,34 @@ no_change k name (w0 ∷ w1 ∷ w2 ∷ w ∷ ws) c h = c
 pub no_each : (names : List Text) (body : Text) (ws : List Shape) → AreEachWords names body ws → IsWhile ws → ⊥
 no_each names body [] e h = e
 no_each names body (w ∷ ws) e h = each_no_loop (loop_named inlined.Foreach w ws e.0 h)
+
+return_no_loop : inlined.Return ≡ inlined.While → ⊥
+return_no_loop e = cc
+
+pub no_return : (ws : List Shape) → IsReturn ws → IsWhile ws → ⊥
+no_return [] r h = r
+no_return (w0 ∷ []) r h = r
+no_return (w0 ∷ w ∷ []) r h = return_no_loop (loop_named inlined.Return w0 (w ∷ []) r.0 h)
+no_return (w0 ∷ w ∷ x ∷ ws) r h = r
+
+switch_no_loop : inlined.Switch ≡ inlined.While → ⊥
+switch_no_loop e = cc
+
+pub no_switch : (f : SwitchForm) (ws : List Shape) → IsSwitch f ws → IsWhile ws → ⊥
+no_switch f ws is h = go f.marked ws is.0 h
+  where
+    go : (marked : Bool) (ws : List Shape) → IsMarked marked ws → IsWhile ws → ⊥
+    go false [] m h = m
+    go false (w0 ∷ []) m h = m
+    go false (w0 ∷ w ∷ []) m h = m
+    go false (w0 ∷ w ∷ w1 ∷ []) m h = switch_no_loop (loop_named inlined.Switch w0 (w ∷ w1 ∷ []) m.0 h)
+    go false (w0 ∷ w ∷ w1 ∷ x ∷ ws) m h = m
+    go true [] m h = m
+    go true (w0 ∷ []) m h = m
+    go true (w0 ∷ k ∷ []) m h = m
+    go true (w0 ∷ k ∷ w ∷ []) m h = m
+    go true (w0 ∷ k ∷ w ∷ w1 ∷ []) m h = switch_no_loop (loop_named inlined.Switch w0 (k ∷ w ∷ w1 ∷ []) m.0 h)
+    go true (w0 ∷ k ∷ w ∷ w1 ∷ x ∷ ws) m h = m
 
 all_long : (ws : List Shape) (ts : List Text) → AllLiteral ws ts → length ts ≡ length ws
 all_long [] [] h = refl

@@ -6,6 +6,8 @@ pub mod Fragments
 pub mod Inlining
 pub mod Kept
 pub mod Literals
+pub mod Returns
+pub mod Switches
 pub mod Trees
 pub mod Whiles
 pub mod Within

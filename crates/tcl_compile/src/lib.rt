@@ -13,12 +13,14 @@ mod context;
 mod each;
 mod inlining;
 mod kept;
+mod leaving;
 mod literals;
 mod long;
 mod pages;
 mod reading;
 mod script;
 mod skips;
+mod switching;
 mod tree;
 
 pub use codes::Codes;

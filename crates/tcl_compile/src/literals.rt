@@ -1,6 +1,6 @@
 //! Words that are literal.
 
-ghost use Rattle.std.specs.Prelude.{◌≡◌, ◌∷◌, [], IfOk, IfSome, IsSome, List, Some, ℕ, map, option_map};
+ghost use Rattle.std.specs.Prelude.{◌≡◌, ◌∷◌, [], true, IfOk, IfSome, IsSome, List, Some, ℕ, map, option_map};
 ghost use Rattle.std.specs.Str.{chars};
 ghost use Rattle.std.specs.String.{string_bytes};
 ghost use Rattle.tcl_words.specs.Parts.{Stretch, part_of, shape_of, text};
@@ -8,7 +8,7 @@ ghost use Rattle.tcl_compile.specs.Literals as literals;
 ghost use Rattle.tcl_compile.specs.Literals.{AllLiteral, IsLiteral, IsStretch, text_of};
 
 use std::alloc::{AllocError, Global};
-use tcl_chars::{push, push_text};
+use tcl_chars::{is_text, push, push_text};
 use tcl_words::{Piece, Word};
 
 /// The text of a literal word.
@@ -55,6 +55,16 @@ pub(crate) fn stretch<'a>(word: &Word<'a>) -> Option<&'a str>
         0 => Some(""),
         1 => verbatim(&word.pieces[0]),
         _ => None,
+    }
+}
+
+// Is a word this stretch of characters?
+pub(crate) fn is_stretch(word: &Word<'_>, text: &str) -> bool
+    ensures { result ≡ true → IsLiteral (shape_of word.now) (chars text.now) }
+{
+    match stretch(word) {
+        Some(found) => is_text(found, text),
+        None => false,
     }
 }
 

@@ -53,7 +53,11 @@ pub(crate) fn emit_nothing(code: &mut CodeBuilder) -> Result<(), AllocError>
 
 // A body, whose completion is that of its command.
 #[cycle(emitting)]
-fn emit_body(code: &mut CodeBuilder, context: Context, text: &str) -> Result<(), AllocError>
+pub(crate) fn emit_body(
+    code: &mut CodeBuilder,
+    context: Context,
+    text: &str,
+) -> Result<(), AllocError>
     ensures { OnOk result (Grown (BodyCode context.dialect (chars text.now)) code.old code.new) }
 {
     code.emit(Instr::Enter)?;

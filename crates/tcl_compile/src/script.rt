@@ -21,10 +21,12 @@ use crate::change::{change_of, emit_change};
 use crate::context::Context;
 use crate::each::{each_of, emit_each};
 use crate::inlining::{Form, command_of, form_of, inlined_by};
+use crate::leaving::{emit_returned, is_return};
 use crate::literals::literals;
 use crate::pages::emit_page;
 use crate::reading::prefer_ways;
 use crate::skips::lead_here;
+use crate::switching::{emit_switch, switch_of};
 use std::alloc::{AllocError, Global};
 use tcl_chars::push;
 use tcl_code::{Change, CodeBuilder, Inlined, Instr};
@@ -111,12 +113,19 @@ fn emit_command(
     if any_expands(words) {
         return emit_gathered(code, context, whole, words);
     }
+    if is_return(words) {
+        return emit_returned(code, context, whole, words);
+    }
     if let Some((change, name)) = change_of(words) {
         return emit_changed(code, context, whole, change, name, words);
     }
     if let Some(each) = each_of(context, words)? {
         foresee_body(code, words)?;
         return emit_each(code, context, whole, &each, words);
+    }
+    if let Some(form) = switch_of(context, words)? {
+        foresee_body(code, words)?;
+        return emit_switch(code, context, whole, &form, words);
     }
     match inlined_by(words) {
         Some(command) => emit_named(code, context, whole, command, words),

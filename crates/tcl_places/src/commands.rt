@@ -1,8 +1,11 @@
 //! Commands of a text, in the order in which their code is emitted.
 
 use crate::events::guard_behind;
+use crate::finding::{find_within, place_behind};
 use std::alloc::{AllocError, Global};
+use tcl_chars::Fault;
 use tcl_code::{Code, Inlined};
+use tcl_list::split;
 use tcl_words::{Operand, Parsed, Piece, Word, begins_operand, parse_first, parse_operand};
 
 // Brackets and array indices may stand in one another this deep.
@@ -179,6 +182,50 @@ fn clauses<'a>(
     Ok(parts)
 }
 
+// The script of a text that stands between these places of a part.
+fn script_between<'a>(part: &Part<'a>, from: usize, to: usize) -> Option<Part<'a>> {
+    Some(Part {
+        text: part.text.get(from..to)?,
+        base: part.base.saturating_add(from),
+        is_script: true,
+    })
+}
+
+// The bodies in the list of a `switch` that is inlined: every second element.
+fn arms<'a>(
+    alloc: Global,
+    part: &Part<'a>,
+    list: &Word<'a>,
+) -> Result<Vec<Option<Part<'a>>>, AllocError> {
+    let mut bodies = Vec::new(alloc);
+    let Some(whole) = literal(part, list, false) else {
+        return Ok(bodies);
+    };
+    let elements = match split(alloc, whole.text) {
+        Ok(elements) => elements,
+        Err(Fault::Error(_)) => return Ok(bodies),
+        Err(Fault::Memory) => return Err(AllocError),
+    };
+    let mut place = whole.base.saturating_sub(part.base);
+    let end = place.saturating_add(whole.text.len());
+    let mut is_body = false;
+    'elements: for element in elements.as_slice() {
+        let element = element.as_str();
+        let Some(begin) = find_within(part.text, place, end, element) else {
+            return Ok(bodies);
+        };
+        let Some(behind) = place_behind(part.text, begin, element) else {
+            return Ok(bodies);
+        };
+        if is_body {
+            bodies.push(script_between(part, begin, behind))?;
+        }
+        is_body = !is_body;
+        place = behind;
+    }
+    Ok(bodies)
+}
+
 // The parts that stand in a command, in the order of its code.
 fn inside<'a>(
     alloc: Global,
@@ -205,6 +252,7 @@ fn inside<'a>(
             ]?
         }
         (Some(Inlined::Foreach), [.., body]) => vec![in alloc; literal(part, body, true)]?,
+        (Some(Inlined::Switch), [.., list]) => arms(alloc, part, list)?,
         _ => Vec::new(alloc),
     };
     add_parts(&mut parts, bodies.as_slice())?;

@@ -16,6 +16,7 @@ use Rattle.tcl_meaning.specs.declared.refusal.Refusal.{Refusal}
 use Rattle.tcl_meaning.specs.declared.code.Code.TheVariants as how
 use Rattle.tcl_meaning.specs.Asking.{Asks, value_step}
 use Rattle.tcl_meaning.specs.Beginnings.{IsFree}
+use Rattle.tcl_meaning.specs.Codes.{return_completion}
 use Rattle.tcl_meaning.specs.Completions.{Completion, nothing, normal, ended, failure, too_deep, code_now}
 use Rattle.tcl_meaning.specs.Effects.{Got, Gives, Broke, Exits, Untold, does}
 use Rattle.tcl_meaning.specs.Expressions.{is_same}
@@ -31,7 +32,7 @@ use Rattle.tcl_pages.specs.declared.pages.UpdatePage.TheVariants as update
 use Rattle.tcl_code.specs.Caught.{caught}
 use Rattle.tcl_code.specs.Guards.{stands}
 use Rattle.tcl_code.specs.Dealing.{dealt_of}
-use Rattle.tcl_code.specs.Instructions.{Instruction, Push, Read, ReadElement, Join, Spend, Enter, Leave, Call, Gather, Add, AddAll, CallGathered, Deal, TakeFirst, SkipEmpty, DropList, Raise, Guard, Under, Write, Bump, Become, Body, Again, Break, Continue, Skip, SkipWhen, Turn, Unary, Binary, Power, Apply, Truth, Final, Answer as AnswerTop}
+use Rattle.tcl_code.specs.Instructions.{Instruction, Push, Read, ReadElement, Duplicate, Join, Spend, Enter, Leave, Call, Gather, Add, AddAll, CallGathered, Deal, TakeFirst, SkipEmpty, DropList, Raise, Guard, Under, Write, Bump, Become, Body, Again, Return, Break, Continue, Skip, SkipWhen, Turn, Unary, Binary, Power, Apply, Truth, Final, Answer as AnswerTop}
 use Rattle.tcl_code.specs.Machine.{Loop, Texts, Taken, taken, on_taken, on_read, on_answer, on_operator, on_step, on_page, spend, Spot, spot, stack_of, behind_loop, Move, To, Fails, Ends, Calls, Wrong, move}
 use Rattle.tcl_code.specs.Open.{IsShaped, LoopFits, LoopsFit}
 use Rattle.tcl_code.specs.Running.{running}
@@ -247,6 +248,8 @@ module _ (dialect : Dialect) (code : List Instruction) (shape : Shape) (at d p :
       guard_fits : (b : Bool) → GoesOn (Guard g n) (To (spot (cond b (at + 1) (at + 1 + n)) (stack_of ts ls rs os) d) s)
       guard_fits true = next_fits (Guard g n) e (record shape { paid = shape.paid - 1 }) (inr (inl (refl, refl))) ts ls rs d (record { texts = h.texts; lists = h.lists; results = h.results; brackets = h.brackets }) deep loops (omega arith)
       guard_fits false = ahead_fits (Guard g n) e n shape (inl (refl, refl)) (at + 1 + n) refl ts ls rs d h deep loops paid_for s refl
+  move_fits Duplicate [] ls rs e f h = absurd (let q = h.texts in omega arith)
+  move_fits Duplicate (u ∷ ts) ls rs e f h = texts_fit Duplicate e 1 2 (inl (refl, refl)) (u ∷ ts) (u ∷ u ∷ ts) ls rs h (let q = h.texts in omega arith)
   move_fits (Under t) [] ls rs e f h = absurd (let q = h.texts in omega arith)
   move_fits (Under t) (u ∷ ts) ls rs e f h = texts_fit (Under t) e 1 2 (inl (refl, refl)) (u ∷ ts) (u ∷ t ∷ ts) ls rs h (let q = h.texts in omega arith)
   move_fits (Write name) [] ls rs e f h = absurd (let q = h.texts in omega arith)
@@ -287,6 +290,8 @@ module _ (dialect : Dialect) (code : List Instruction) (shape : Shape) (at d p :
       again_fits qs [] [] (r ∷ r' ∷ rs) o a b c h = absurd (let q = h.results in omega arith)
       again_fits [] [] [] (r ∷ []) o a b c h = absurd (let q = subst (λ x. LoopsFit code x shape.loops outer) o loops in let g = f.1 in omega arith)
       again_fits (q ∷ qs) [] [] (r ∷ []) o a b c h = loop_goes Again s refl 1 q [] qs (omega arith) o
+  move_fits Return [] ls rs e f h = absurd (let q = h.texts in omega arith)
+  move_fits Return (t ∷ ts) ls rs e f h = fails_fits Return (return_completion how.Ok 1 t []) s refl
   move_fits Break ts ls rs e f h = fails_fits Break (ended how.Break []) s refl
   move_fits Continue ts ls rs e f h = fails_fits Continue (ended how.Continue []) s refl
   move_fits (Skip n) ts ls rs e f h = ahead_fits (Skip n) e n shape (inl (refl, refl)) (at + 1 + n) refl ts ls rs d h deep loops paid_for s refl

@@ -28,7 +28,7 @@ use Rattle.tcl_meaning.specs.Variables.{get}
 use Rattle.tcl_pages.specs.declared.pages.UpdatePage.TheVariants as update
 use Rattle.tcl_code.specs.Caught.{caught, caught_by}
 use Rattle.tcl_code.specs.Dealing.{dealt_of}
-use Rattle.tcl_code.specs.Instructions.{Instruction, Push, Read, ReadElement, Join, Spend, Enter, Leave, Call as CallWords, Gather, Add, AddAll, CallGathered, Deal, TakeFirst, SkipEmpty, DropList, Raise, Guard, Under, Write as WriteName, Bump, Become, Body, Again, Break, Continue, Skip, SkipWhen, Turn, Unary, Binary, Power, Apply, Truth, Final, Answer as AnswerTop}
+use Rattle.tcl_code.specs.Instructions.{Instruction, Push, Read, ReadElement, Duplicate, Join, Spend, Enter, Leave, Call as CallWords, Gather, Add, AddAll, CallGathered, Deal, TakeFirst, SkipEmpty, DropList, Raise, Guard, Under, Write as WriteName, Bump, Become, Body, Again, Return, Break, Continue, Skip, SkipWhen, Turn, Unary, Binary, Power, Apply, Truth, Final, Answer as AnswerTop}
 use Rattle.tcl_code.specs.Machine.{Loop, Texts, Taken, taken, on_taken, on_read, on_answer, on_operator, on_code, on_step, on_page, spend, Spot, Move, To, Fails, Ends, Calls, Wrong, move}
 use Rattle.std.specs.Prelude.{slice_get}
 use Rattle.tcl_vm.specs.Engines.{Views, Answers, Position, IsFree, PaysHere, TurnsHere, MovesOn, CallsOn, LeadsOn, WalksIn, Walks, Spent}
@@ -189,6 +189,8 @@ module _ (b : ℕ) where
     so os (Some DropList) at ts (l ∷ ls) rs d = refl
     so os (Some (Raise message)) at ts ls rs d = refl
     so os (Some (Guard p n)) at ts ls rs d = refl
+    so os (Some Duplicate) at [] ls rs d = refl
+    so os (Some Duplicate) at (u ∷ ts) ls rs d = refl
     so os (Some (Under t)) at [] ls rs d = refl
     so os (Some (Under t)) at (u ∷ ts) ls rs d = refl
     so os (Some (WriteName name)) at [] ls rs d = refl
@@ -203,6 +205,8 @@ module _ (b : ℕ) where
     so os (Some Become) at ts ls (r ∷ below ∷ rs) (suc d) = refl
     so os (Some (Body x n)) at ts ls rs d = both_cond MovesSo (nat_lt most_depth (suc d)) _ _ _ _ refl refl
     so os (Some Again) at ts ls rs d = so_again os ts ls rs at d
+    so os (Some Return) at [] ls rs d = refl
+    so os (Some Return) at (t ∷ ts) ls rs d = refl
     so os (Some Break) at ts ls rs d = refl
     so os (Some Continue) at ts ls rs d = refl
     so os (Some (Skip n)) at ts ls rs d = refl

@@ -1,10 +1,9 @@
-use Rattle.std.proofs.Common.{rules, [], ◌∷◌, ◌++◌, get_or, subst, ◌≤◌, ◌≡◌, ◌<◌, ◌+◌, ◌-◌, ◌*◌, length, map, sym, ap, ◌∙◌, arith, ℕ}
+use Rattle.std.proofs.Common.{rules, [], ◌++◌, get_or, take, drop, length-drop, subst, ◌≤◌, ◌≡◌, ◌<◌, ◌+◌, ◌-◌, ◌*◌, length, map, sym, ap, ◌∙◌, arith, ℕ}
 use Rattle.std.proofs.lemmas.Result.{on_ok_weaker}
 use Rattle.std.proofs.lemmas.List.{length-map}
 use Rattle.std.specs.Str.{chars}
 use Rattle.std.specs.String.{string_bytes}
 use Rattle.tcl_list.specs.Texts as texts
-use Rattle.tcl_code.specs.Instructions.{Call}
 use Rattle.tcl_words.specs.Parts.{shape_of, part_of, parts_of, stretch_of}
 use Rattle.tcl_meaning.specs.Nesting.{PartNests, PartsNest, WordsNest}
 use Rattle.tcl_words.specs.First.{most_levels}
@@ -30,7 +29,7 @@ use Rattle.tcl_compile.specs.Whiles.{IsWhile}
 use Rattle.tcl_compile.specs.Forms.{FormIsShort, ClausesAreShort, ClausesCode, OtherwiseIsShort, clause_of, most_clauses}
 use Rattle.tcl_compile.specs.Fragments.{Grown, call_of_list}
 use Rattle.tcl_compile.specs.declared.inlining.Clause.{Clause}
-use Rattle.tcl_compile.specs.Within.{ArgumentsAreShort}
+use Rattle.tcl_compile.specs.Within.{ArgumentsAreShort, TextsAreShort}
 use Rattle.tcl_compile.proofs.Scripts.{made_code, made_without, script_leads, script_ends, script_fails}
 use Rattle.tcl_compile.proofs.Shorter.{first_short}
 use Rattle.tcl_compile.specs.Changes.{IsChange}
@@ -38,7 +37,11 @@ use Rattle.tcl_compile.specs.Eaches.{IsEach}
 use Rattle.tcl_compile.specs.Literals.{AllLiteral, IsListOf, text_of}
 use Rattle.tcl_compile.proofs.LiteralWords.{of_some}
 use Rattle.tcl_compile.proofs.ListCalls.{grown_list}
-use Rattle.tcl_compile.proofs.Whiles.{loop_long, loop_plain, no_change, no_each}
+use Rattle.tcl_compile.proofs.Whiles.{loop_long, loop_plain, no_change, no_each, no_return, no_switch}
+use Rattle.tcl_compile.proofs.ReturnLemmas.{grown_return}
+use Rattle.tcl_compile.specs.Switches.{AreArms, ArmCode, ArmsCode, IsSwitch, most_arm_texts, testing}
+use Rattle.tcl_compile.proofs.SwitchLemmas.{arms_behind, grown_arm, grown_default, grown_no_arms, grown_switch, grown_tested, short_at, short_behind, switch_short}
+use Rattle.tcl_compile.proofs.Clauses.{rest_is}
 use Rattle.tcl_compile.proofs.Weights.{reach, reach_more, reach_le, weight, weight_args, weight_rest, light, argument_lighter, step_lighter}
 use Rattle.tcl_compile.proofs.Expressions.{tree_some, grown_value, grown_fault}
 use Rattle.tcl_compile.proofs.Leaves.{tree_is_read}
@@ -193,7 +196,7 @@ script::emit_script-emit_command-requires t c =
     let less = short.less in
     let shorter = c.commands.invariant.1.shorter in
     let some : 0 < length now = omega arith in
-    let falls : reach (length now) + 503 < reach (length (chars c.args.text.now)) + 900 = omega (arith, reach_le (length now) (length (chars c.args.text.now)) shorter) in
+    let falls : reach (length now) + 603 < reach (length (chars c.args.text.now)) + 900 = omega (arith, reach_le (length now) (length (chars c.args.text.now)) shorter) in
     let nests : WordsNest most_levels (map shape_of c.as_slice.result.now) = rw c.as_slice.ensures.value (first_nests most_levels now _ e.rest e.is) in
     let within : WordsWithin (length now - 1) (map shape_of c.as_slice.result.now) = rw c.as_slice.ensures.value short.within in
     let arguments : ArgumentsAreShort (length now - 1) (map shape_of c.as_slice.result.now) = rw c.as_slice.ensures.value (first_short most_levels now _ e.rest e.is) in
@@ -615,3 +618,109 @@ script::emit_named-returns-in-Some t c =
     let two : IsWhile (map shape_of c.args.words.now) → length c.as_slice.result.now ≡ 2 = λ w. ap length c.as_slice.ensures.value ∙ sym (length-map c.in-Some.literals.items text_of) ∙ loop_long shape_of c.args.words.now (map text_of c.in-Some.literals.items) w all in
     on_ok_weaker c.emit_plain.result
     (λ g. made_without c.args.context.dialect c.args.context.outermost (map shape_of c.args.words.now) _ _ (λ o w. false≢true (subst (λ r. IsSome r) c.in-None-2.is (c.in_ok-form-in-Some.ensures.whiles o (c.requires.1.1.1.0 w) (two w)))) g) c.emit_plain.ensures
+
+pub script::emit_command-returns-in-Some-3 : goal.script::emit_command-returns-in-Some-3
+script::emit_command-returns-in-Some-3 t c =
+    let ws = map shape_of c.args.words.now in
+    let is = of_some (λ f. IsSwitch f ws) c.in_ok-form.field-0 c.in-Some-3.form c.in-Some-3.is c.in_ok-form.ensures in
+    on_ok_weaker c.emit_switch.result (λ g. made_without c.args.context.dialect c.args.context.outermost ws _ _ (λ o. no_switch c.in-Some-3.form ws is) g) (rw c.in_ok-foresee_body-2.ensures at c.emit_switch.ensures)
+
+pub switching::emit_arm-returns : goal.switching::emit_arm-returns
+switching::emit_arm-returns t c = on_ok_weaker c.emit_body.result (λ g. grown_arm c.args.context.dialect _ _ _ (chars c.args.body.now) c.in_ok-emit.ensures.done g) c.emit_body.ensures
+
+pub switching::emit_arms-returns-then-arms-lt2 : goal.switching::emit_arms-returns-then-arms-lt2
+switching::emit_arms-returns-then-arms-lt2 t c =
+    let arms = map texts.text_of c.args.arms.now in
+    let few : length arms < 2 = omega (arith, length-map c.args.arms.now texts.text_of, c.if-arms-lt2.true) in
+    on_ok_weaker c.emit_nothing.result (λ h. grown_no_arms c.args.context.dialect _ _ _ arms few c.requires.1.1.1.1.0 c.in_ok-emit.ensures.done h) c.emit_nothing.ensures
+
+pub switching::emit_arms-emit_arm-requires : goal.switching::emit_arms-emit_arm-requires
+switching::emit_arms-emit_arm-requires t c =
+    let xs = c.args.arms.now in
+    let whole = length (chars c.args.whole.now) in
+    let some = c.requires.1.1.0 in
+    let long : 2 ≤ length xs = omega (arith, c.if-arms-lt2.false) in
+    let short = short_at texts.text_of (whole - 1) xs c.index-arms-1.result long c.index-arms-1.is c.requires.1.1.1.1.1 in
+    let body = chars c.as_str.result.now in
+    let within : length body < whole = omega (arith, some, short, ap (λ b. length (chars b)) c.as_str.ensures.value) in
+    let falls : reach (length body) + 902 < reach whole + (405 + length xs) = omega (arith, reach_more (length body) whole within) in
+    search rules
+
+pub switching::emit_arms-emit_arm-requires-2 : goal.switching::emit_arms-emit_arm-requires-2
+switching::emit_arms-emit_arm-requires-2 t c =
+    let xs = c.args.arms.now in
+    let whole = length (chars c.args.whole.now) in
+    let some = c.requires.1.1.0 in
+    let long : 2 ≤ length xs = omega (arith, c.if-arms-lt2.false) in
+    let short = short_at texts.text_of (whole - 1) xs c.index-arms-1-2.result long c.index-arms-1-2.is c.requires.1.1.1.1.1 in
+    let body = chars c.as_str-3.result.now in
+    let within : length body < whole = omega (arith, some, short, ap (λ b. length (chars b)) c.as_str-3.ensures.value) in
+    let falls : reach (length body) + 902 < reach whole + (405 + length xs) = omega (arith, reach_more (length body) whole within) in
+    search rules
+
+pub switching::emit_arms-returns-then-is_default : goal.switching::emit_arms-returns-then-is_default
+switching::emit_arms-returns-then-is_default t c =
+    let xs = c.args.arms.now in
+    let long : 2 ≤ length xs = omega (arith, c.if-arms-lt2.false) in
+    on_ok_weaker c.emit_arm.result
+    (λ g. grown_default c.args.context.dialect texts.text_of xs c.index-arms-1.result _ _ long c.index-arms-1.is c.requires.1.1.1.1.0 (sym c.is_default.ensures ∙ c.if-is_default.true)
+    (subst (λ b. Grown (ArmCode c.args.context.dialect (chars b)) c.args.code.now c.emit_arm.new.code) c.as_str.ensures.value g)) c.emit_arm.ensures
+
+pub switching::emit_arms-emit_arms-requires : goal.switching::emit_arms-emit_arms-requires
+switching::emit_arms-emit_arms-requires t c =
+    let xs = c.args.arms.now in
+    let whole = length (chars c.args.whole.now) in
+    let long : 2 ≤ length xs = omega (arith, c.if-arms-lt2.false) in
+    let few = c.requires.1.1.1.0 in
+    let arms : AreArms (map texts.text_of (take (length xs - 2) (drop 2 xs))) = subst (λ l. AreArms (map texts.text_of l)) (sym (rest_is 2 xs)) (arms_behind texts.text_of xs long c.requires.1.1.1.1.0) in
+    let short : TextsAreShort (whole - 1) (map texts.text_of (take (length xs - 2) (drop 2 xs))) = subst (λ l. TextsAreShort (whole - 1) (map texts.text_of l)) (sym (rest_is 2 xs)) (short_behind texts.text_of (whole - 1) xs c.requires.1.1.1.1.1) in
+    let less : length (take (length xs - 2) (drop 2 xs)) < length xs = omega (arith, long, ap length (rest_is 2 xs), length-drop 2 xs) in
+    let falls : reach whole + (405 + length (take (length xs - 2) (drop 2 xs))) < reach whole + (405 + length xs) = omega (arith, less) in
+    let fewer : length (take (length xs - 2) (drop 2 xs)) ≤ most_arm_texts = omega (arith, less, few) in
+    (search rules, (c.requires.1.1.0, (fewer, (arms, short))))
+
+pub switching::emit_arms-returns : goal.switching::emit_arms-returns
+switching::emit_arms-returns t c =
+    let xs = c.args.arms.now in
+    let long : 2 ≤ length xs = omega (arith, c.if-arms-lt2.false) in
+    on_ok_weaker c.lead_here-2.result
+    (λ h. grown_tested c.args.context.dialect texts.text_of xs c.index-arms-0.result c.index-arms-1-2.result _ _ _ _ _ _ _ _ long c.index-arms-0.is c.index-arms-1-2.is c.requires.1.1.1.1.0 (sym c.is_default.ensures ∙ c.if-is_default.false)
+    (c.in_ok-emit_test.ensures ∙ ap (λ b. c.args.code.now ++ testing (chars b)) c.as_str-2.ensures.value) c.in_ok-emit-2.ensures.done (subst (λ b. Grown (ArmCode c.args.context.dialect (chars b)) c.emit-2.new.self c.emit_arm-2.new.code) c.as_str-3.ensures.value c.in_ok-emit_arm.ensures) c.in_ok-emit-3.ensures.done
+    (λ front back i e p. c.in_ok-lead_here.ensures front back i e (c.len-unless.ensures ∙ p)) (subst (λ l. Grown (ArmsCode c.args.context.dialect (map texts.text_of l)) c.lead_here.new.code c.emit_arms.new.code) (rest_is 2 xs) c.in_ok-emit_arms.ensures)
+    (λ front back i e p. h front back i e (c.len-past.ensures ∙ p))) c.lead_here-2.ensures
+
+pub switching::emit_switch-emit_arms-requires : goal.switching::emit_switch-emit_arms-requires
+switching::emit_switch-emit_arms-requires t c =
+    let f = c.args.form.now in
+    let ws = map shape_of c.args.words.now in
+    let whole = length (chars c.args.whole.now) in
+    let is = c.requires.1.1.0 in
+    let value = c.as_slice.ensures.value in
+    let few : length f.arms.items ≤ most_arm_texts = omega (arith, is.2.2, length-map f.arms.items texts.text_of) in
+    let fewer : length c.as_slice.result.now ≤ most_arm_texts = rw value few in
+    let arms : AreArms (map texts.text_of c.as_slice.result.now) = rw value is.2.1 in
+    let short : TextsAreShort (whole - 1) (map texts.text_of c.as_slice.result.now) = rw value (switch_short (whole - 1) f ws is c.requires.1.1.1.1.1.1) in
+    let falls : reach whole + (405 + length c.as_slice.result.now) < reach whole + 602 = omega (arith, fewer) in
+    (search rules, (c.requires.1.1.1.0, (fewer, (arms, short))))
+
+pub switching::emit_switch-returns : goal.switching::emit_switch-returns
+switching::emit_switch-returns t c =
+    let ws = map shape_of c.args.words.now in
+    let w = shape_of c.index-words-words.result in
+    let at = map_at shape_of c.args.words.now (length c.args.words.now - 2) c.index-words-words.result c.index-words-words.is in
+    let there : w ≡ get_or ws (length ws - 2) w = subst (λ n. w ≡ get_or ws (n - 2) w) (sym (length-map c.args.words.now shape_of)) at in
+    on_ok_weaker c.lead_here-2.result
+    (λ h. grown_switch c.args.context.dialect c.args.form.now ws w _ _ _ _ _ _ _ _ c.requires.1.1.0 there c.in_ok-emit_word.ensures c.in_ok-emit.ensures.done (rw c.as_slice.ensures.value at c.in_ok-emit_arms.ensures) c.in_ok-emit-2.ensures.done
+    (λ front back i e p. c.in_ok-lead_here.ensures front back i e (c.len-guard.ensures ∙ p)) (rw c.as_str.ensures at c.in_ok-emit_general.ensures) (λ front back i e p. h front back i e (c.len-past.ensures ∙ p))) c.lead_here-2.ensures
+
+pub script::emit_command-returns-then-is_return : goal.script::emit_command-returns-then-is_return
+script::emit_command-returns-then-is_return t c =
+    let ws = map shape_of c.args.words.now in
+    let is = c.is_return.ensures c.if-is_return.true in
+    on_ok_weaker c.emit_returned.result (λ g. made_without c.args.context.dialect c.args.context.outermost ws _ _ (λ o. no_return ws is) g) c.emit_returned.ensures
+
+pub leaving::emit_returned-returns : goal.leaving::emit_returned-returns
+leaving::emit_returned-returns t c =
+    let ws = map shape_of c.args.words.now in
+    let at = map_at shape_of c.args.words.now 1 c.index-words-1.result c.index-words-1.is in
+    on_ok_weaker c.emit_return.result (λ h. grown_return c.args.context.dialect ws (shape_of c.index-words-1.result) _ _ _ c.requires.1.1.0 at c.in_ok-emit_word.ensures h) c.emit_return.ensures

@@ -72,11 +72,23 @@ decreases-each::emit_each l = reach (length (chars l.whole.now)) + 404
 abbrev pub decreases-each::emit_turns : goal.decreases-each::emit_turns
 decreases-each::emit_turns l = reach (length (text_of l.each.now.body)) + 902
 
+abbrev pub decreases-leaving::emit_returned : goal.decreases-leaving::emit_returned
+decreases-leaving::emit_returned l = reach (length (chars l.whole.now)) + 404
+
+abbrev pub decreases-switching::emit_switch : goal.decreases-switching::emit_switch
+decreases-switching::emit_switch l = reach (length (chars l.whole.now)) + 602
+
+abbrev pub decreases-switching::emit_arms : goal.decreases-switching::emit_arms
+decreases-switching::emit_arms l = reach (length (chars l.whole.now)) + (405 + length l.arms.now)
+
+abbrev pub decreases-switching::emit_arm : goal.decreases-switching::emit_arm
+decreases-switching::emit_arm l = reach (length (chars l.body.now)) + 902
+
 abbrev pub decreases-script::emit_inlined : goal.decreases-script::emit_inlined
 decreases-script::emit_inlined l = reach (length (chars l.whole.now)) + 501
 
 abbrev pub decreases-script::emit_command : goal.decreases-script::emit_command
-decreases-script::emit_command l = reach (length (chars l.whole.now)) + 503
+decreases-script::emit_command l = reach (length (chars l.whole.now)) + 603
 
 abbrev pub decreases-script::emit_named : goal.decreases-script::emit_named
 decreases-script::emit_named l = reach (length (chars l.whole.now)) + 502
