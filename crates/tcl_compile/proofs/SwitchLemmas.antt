@@ -1,7 +1,7 @@
 -- `switch`, inlined.
-use Rattle.std.proofs.Common.{◌≡◌, ℕ, suc, ◌+◌, ◌-◌, ◌<◌, ◌≤◌, Bool, true, false, ◌||◌, ◌&&◌, List, [], ◌∷◌, ◌++◌, length, get_or, drop, map, Some, None, Ok, Err, cond, refl, sym, ap, ◌∙◌, subst, arith, length-append, length-drop, inl, inr}
+use Rattle.std.proofs.Common.{◌≡◌, ℕ, suc, ◌+◌, ◌-◌, ◌<◌, ◌≤◌, Bool, true, false, ◌||◌, ◌&&◌, List, [], ◌∷◌, ◌++◌, length, get_or, drop, map, Some, None, Ok, Err, cond, refl, sym, ap, ◌∙◌, subst, arith, length-append, length-drop}
 use Rattle.std.specs.Prelude.{codes, if◌then◌else◌}
-use Rattle.std.proofs.lemmas.Bool.{cases_Bool, eq-eqb, false≢true}
+use Rattle.std.proofs.lemmas.Bool.{false≢true}
 use Rattle.tcl_chars.specs.Characters.{close_brace, quote}
 use Rattle.tcl_chars.specs.Escape.{escape}
 use Rattle.tcl_chars.specs.Messages.{truth_value}
@@ -11,13 +11,15 @@ use Rattle.tcl_chars.specs.declared.numbers.Dialect.{Dialect}
 use Rattle.tcl_chars.specs.declared.numbers.Dialect.TheVariants as dialects
 use Rattle.tcl_chars.proofs.EscapesLemmas.{escape_takes}
 use Rattle.tcl_chars.proofs.Literals.{literal_chars}
-use Rattle.tcl_chars.proofs.Same.{text_is}
+use Rattle.tcl_chars.proofs.Same.{same_symm}
 use Rattle.tcl_expr.specs.declared.token.BinaryOp.TheVariants as binary
 use Rattle.tcl_list.specs.Elements.{elements_of}
 use Rattle.tcl_list.specs.Spelling.{Letters, Spells, Reads}
 use Rattle.tcl_list.specs.Texts as texts
 use Rattle.tcl_list.proofs.OneList.{reading_is_spelling}
+use Rattle.tcl_names.proofs.Apart.{alike}
 use Rattle.tcl_words.specs.Parts.{Shape}
+use Rattle.tcl_pages.specs.Dictionaries.{pairs}
 use Rattle.tcl_pages.specs.Results.{truth_text}
 use Rattle.tcl_pages.specs.Texts.{Text, same_text}
 use Rattle.tcl_meaning.specs.Asking.{ask}
@@ -48,7 +50,7 @@ use Rattle.tcl_compile.specs.Forms.{BodyCode, page_does}
 use Rattle.tcl_compile.specs.Fragments.{Grown, words_value}
 use Rattle.tcl_compile.specs.Inlining.{Makes, Says, Uses, asking}
 use Rattle.tcl_compile.specs.Literals.{IsLiteral, spelled, text_of}
-use Rattle.tcl_compile.specs.Switches.{AreArms, IsMarked, EndsIn, IsSwitch, ArmCode, ArmsCode, called_by, is_last_default, pairs, testing}
+use Rattle.tcl_compile.specs.Switches.{AreArms, IsMarked, EndsIn, IsSwitch, ArmCode, ArmsCode, called_by, is_last_default, testing}
 use Rattle.tcl_compile.specs.Within.{WordsAreShort, ArgumentsAreShort, TextsAreShort}
 use Rattle.tcl_compile.specs.declared.switching.SwitchForm.{SwitchForm}
 use Rattle.tcl_compile.proofs.Commands.{words_one, command_is}
@@ -85,20 +87,6 @@ truth_is dialects.Tcl86 true = ap (truth_value dialects.Tcl86) (literal_chars (c
 truth_is dialects.Tcl86 false = ap (truth_value dialects.Tcl86) (literal_chars (codes "0") refl)
 truth_is dialects.Tcl9 true = ap (truth_value dialects.Tcl9) (literal_chars (codes "1") refl)
 truth_is dialects.Tcl9 false = ap (truth_value dialects.Tcl9) (literal_chars (codes "0") refl)
-
-itself : (t : Text) → same_text t t ≡ true
-itself [] = refl
-itself (c ∷ cs) = ap (λ b. b && same_text cs cs) (eq-eqb c c refl) ∙ itself cs
-
--- in either order
-same_swap : (a b : Text) → same_text a b ≡ same_text b a
-same_swap a b = elim (cases_Bool (same_text a b)) [
-  | inl y ↦ let e = text_is a b y in ap (λ x. same_text x b) e ∙ ap (λ x. same_text b x) (sym e)
-  | inr n ↦ elim (cases_Bool (same_text b a)) [
-    | inl y ↦ absurd (false≢true (sym n ∙ ap (λ x. same_text a x) (text_is b a y) ∙ itself a))
-    | inr m ↦ n ∙ sym m
-  ]
-]
 
 or_true : (x y : Bool) → y ≡ true → (x || y) ≡ true
 or_true true y e = refl
@@ -211,7 +199,7 @@ module _ (dialect : Dialect) where
   page_is : (marked : Bool) (list t : Text) (ts : List Text) → elements_of list ≡ Ok ts → AreArms ts → switch_page (switch_texts marked list t) ≡ body_asks (chosen false t (pairs ts))
   unfolding switch_page
   page_is false list t ts e h = of_list list t ts e h
-  page_is true list t ts e h = rw (itself (literal "--")) (of_list list t ts e h)
+  page_is true list t ts e h = rw (alike (literal "--")) (of_list list t ts e h)
 
   does_is : (marked : Bool) (list t : Text) (ts : List Text) (d : ℕ) (s : State) → elements_of list ≡ Ok ts → AreArms ts → exec (Run dialect) (page_does dialect inlined.Switch (switch_texts marked list t) d) s ≡ exec (Run dialect) (asking dialect 1 (body_asks (chosen false t (pairs ts))) d) s
   unfolding page_asks
@@ -383,7 +371,7 @@ module _ (dialect : Dialect) where
 
   tested_is : (p b : Text) (ts : List Text) (a g : Code) → AreArms (p ∷ b ∷ ts) → is_last_default (p ∷ b ∷ ts) ≡ false → ArmCode dialect b a → ArmsCode dialect ts g → ArmsCode dialect (p ∷ b ∷ ts) (test_code p a g)
   tested_is p b ts a g h k x y =
-      let found : (t : Text) (z : Bool) → same_text t p ≡ z → chosen false t (pairs (p ∷ b ∷ ts)) ≡ (if z then Some b else chosen false t (pairs ts)) = λ t z e. first_is p b ts t z h.0 (or_false (same_text p t) (is_default p (pairs ts)) (not_default p b ts h.1 k) ∙ same_swap p t ∙ e) in
+      let found : (t : Text) (z : Bool) → same_text t p ≡ z → chosen false t (pairs (p ∷ b ∷ ts)) ≡ (if z then Some b else chosen false t (pairs ts)) = λ t z e. first_is p b ts t z h.0 (or_false (same_text p t) (is_default p (pairs ts)) (not_default p b ts h.1 k) ∙ same_symm p t ∙ e) in
       tested p a g (λ d t. asking dialect 1 (body_asks (Some b)) d) (λ d t. asking dialect 1 (body_asks (chosen false t (pairs ts))) d) (λ d t. asking dialect 1 (body_asks (chosen false t (pairs (p ∷ b ∷ ts)))) d)
       (λ d t s e. ap (λ o. exec (Run dialect) (asking dialect 1 (body_asks o) d) s) (sym (found t true e)))
       (λ d t s e. ap (λ o. exec (Run dialect) (asking dialect 1 (body_asks o) d) s) (sym (found t false e))) (x 0) y

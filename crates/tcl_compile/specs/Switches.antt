@@ -6,6 +6,7 @@ use Rattle.tcl_expr.specs.declared.token.BinaryOp.TheVariants as binary
 use Rattle.tcl_list.specs.Elements.{elements_of}
 use Rattle.tcl_list.specs.Texts as texts
 use Rattle.tcl_words.specs.Parts.{Shape}
+use Rattle.tcl_pages.specs.Dictionaries.{pairs}
 use Rattle.tcl_pages.specs.Texts.{Text}
 use Rattle.tcl_meaning.specs.Asking.{ask}
 use Rattle.tcl_meaning.specs.Control.{body_asks}
@@ -50,12 +51,6 @@ abbrev pub IsSwitch : SwitchForm → List Shape → Type 0
 IsSwitch f ws = IsMarked f.marked ws × EndsIn (text_of f.list) ws × IsArmList (text_of f.list) (map texts.text_of f.arms.items)
 
 -- ---- arms
-
--- the patterns with their bodies
-abbrev pub pairs : List Text → List (Text × Text)
-pairs [] = []
-pairs (pattern ∷ []) = []
-pairs (pattern ∷ body ∷ ts) = (pattern, body) ∷ pairs ts
 
 -- there is one pattern, and it is `default`
 abbrev pub is_last_default : List Text → Bool

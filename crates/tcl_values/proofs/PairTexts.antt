@@ -1,23 +1,18 @@
 -- Dictionaries that are written read as their pairs (dict(n)).
 use Rattle.std.proofs.Common.{◌≡◌, Bool, true, false, List, [], ◌∷◌, ◌++◌, Ok, Err, refl, sym, ap, ◌∙◌, append_assoc, subst}
-use Rattle.std.specs.Cmp.Lexicographic.{bytes_decides}
 use Rattle.std.proofs.lemmas.Bool.{cond-true, cond-false, or_from, or_parts}
 use Rattle.std.proofs.lemmas.List.{append-nil}
-use Rattle.tcl_chars.proofs.Same.{text_is}
+use Rattle.tcl_chars.proofs.Same.{text_is, same_symm}
 use Rattle.tcl_chars.specs.Texts.{same_text}
 use Rattle.tcl_list.specs.Elements.{elements_of}
 use Rattle.tcl_pages.specs.Answers.{Answer, ◌>>=◌}
 use Rattle.tcl_pages.specs.Dictionaries.{Pairs, put_key, put_keys, in_pairs, pairs_of}
 use Rattle.tcl_pages.specs.DictPages.{flat, dictionary, without_key}
-use Rattle.tcl_pages.proofs.Glob.{same_truth}
 use Rattle.tcl_pages.proofs.InPairs.{with_pair, pair_ahead}
 use Rattle.tcl_pages.specs.Texts.{Text}
 use Rattle.tcl_values.specs.Kept.{Kept, texts}
 use Rattle.tcl_values.specs.Paired.{has_key, AreDistinct, read_pairs}
 use Rattle.tcl_values.proofs.Joined.{reads_written}
-
-same_symm : (a b : Text) → same_text a b ≡ same_text b a
-same_symm a b = same_truth (same_text a b) (same_text b a) (λ e. (bytes_decides b a).1 (sym (text_is a b e))) (λ e. (bytes_decides a b).1 (sym (text_is b a e)))
 
 -- ---- no key stands twice
 
