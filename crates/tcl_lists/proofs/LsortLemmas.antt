@@ -1,47 +1,47 @@
 -- lsort(n), of the elements with their numbers.
-use Rattle.std.proofs.Common.{◌≡◌, ◌≢◌, ℕ, zero, suc, ◌+◌, ◌-◌, ℤ, pos, Bool, true, false, List, [], ◌∷◌, map, length, take, drop, Ok, sym, ap, ◌∙◌, refl, arith}
+use Rattle.std.proofs.Common.{◌≡◌, ◌≢◌, ℕ, zero, suc, ◌+◌, ◌-◌, ℤ, Bool, true, false, List, [], ◌∷◌, map, length, take, drop, Ok, Bor, FitsSigned, sym, ap, ◌∙◌, refl, arith}
 use Rattle.std.specs.Prelude.{cond, int_lt}
-use Rattle.std.specs.Cmp.Lexicographic.{slice_cmp}
-use Rattle.std.specs.Ordering.{is_lt, int_cmp, nat_cmp}
+use Rattle.std.specs.Fmt.{signed_decimal}
+use Rattle.std.specs.Int.{w64}
+use Rattle.std.specs.Ordering.{is_lt, int_cmp}
 use Rattle.std.specs.declared.cmp.Ordering.TheVariants.{Less, Equal, Greater}
+use Rattle.std.proofs.lemmas.Simd.{map-map}
 use Rattle.tcl_chars.specs.Answers.{Stops}
 use Rattle.tcl_chars.specs.declared.fault.Fault.{Fault}
-use Rattle.tcl_chars.specs.Messages.{number}
 use Rattle.tcl_chars.specs.declared.numbers.Dialect.{Dialect}
+use Rattle.tcl_chars.specs.Messages.{number, whole_or, expected_integer}
 use Rattle.tcl_chars.specs.Texts.{literal}
 use Rattle.tcl_list.specs.Elements.{elements_of}
 use Rattle.tcl_list.specs.Written.{written}
 use Rattle.tcl_lists.specs.Options.{with_options}
-use Rattle.tcl_lists.specs.Sorted.{is_less, is_before, items_of, kept_of, sorted_list}
+use Rattle.tcl_lists.specs.Sorted.{its_text, with_number, with_text, twice, less_number, less_text, is_before, sorted_list}
 use Rattle.tcl_lists.specs.WordAt.{word}
+use Rattle.tcl_lists.specs.declared.sort.Item.{Item}
 use Rattle.tcl_lists.proofs.IndexLemmas.{stops_same, stops_first, in_steps}
 use Rattle.tcl_lists.proofs.SortLemmas.{seen_in_order}
 use Rattle.tcl_pages.specs.Answers.{Answer, ◌>>=◌}
-use Rattle.tcl_pages.proofs.Answers.{same_steps}
-use Rattle.tcl_pages.specs.Sorting.{in_order, directed, number_before, stands_before, numbered, sorted, sorted_elements, with_sort_option, plain_sort, sort_with, lsort}
+use Rattle.tcl_pages.specs.Sorting.{in_order, directed, number_before, stands_before, numbered, sorted_elements, with_sort_option, plain_sort, sort_with, lsort}
 use Rattle.tcl_pages.specs.Texts.{Text}
 use Rattle.tcl_pages.specs.Usage.{usage}
 use Rattle.tcl_pages.specs.declared.lists.SortOptions.{SortOptions}
+use Rattle.tcl_values.proofs.Decimals.{reads_decimal}
+use Rattle.tcl_values.specs.Kept.{Kept, texts}
 
-abbrev pub its_text : ℤ × Text → Text
-its_text x = x.1
+-- the number of a text that is kept as one
+pub number_kept : (d : Dialect) (n : ℤ) (t : Text) → FitsSigned w64 n → t ≡ signed_decimal n → number d t ≡ Ok n
+number_kept d n t f h = ap (number d) h ∙ ap (whole_or (expected_integer (signed_decimal n))) (reads_decimal d n f)
 
-abbrev in_turn : SortOptions → List (ℤ × Text) → Answer (List Text)
-in_turn o ps = Ok (map its_text (in_order o (is_before o) ps))
+-- the text behind what it is sorted by
+abbrev behind_number : ℤ × Text → Text
+behind_number p = p.1
 
-abbrev by_numbers : SortOptions → List (ℤ × Text) → Answer (List Text)
-by_numbers o ps = Ok (map its_text (in_order o (directed o.decreasing number_before) ps))
+abbrev behind_text : Text × Text → Text
+behind_text p = p.1
 
-abbrev plain : Text → ℤ × Text
-plain e = (pos 0, e)
-
-map_same : {A : Type 0} (xs : List A) → map (λ (x : A). x) xs ≡ xs
-map_same [] = refl
-map_same (x ∷ xs) = ap (λ ys. x ∷ ys) (map_same xs)
-
-texts_of_plain : (es : List Text) → map its_text (map plain es) ≡ es
-texts_of_plain [] = refl
-texts_of_plain (e ∷ es) = ap (λ ys. e ∷ ys) (texts_of_plain es)
+-- a direction of two orders that say the same
+by_way : {A B : Type 0} (f : A → B) (way : Bool) (lt : A → A → Bool) (before : B → B → Bool) → ((x y : A) → lt x y ≡ before (f x) (f y)) → (x y : A) → directed way lt x y ≡ directed way before (f x) (f y)
+by_way f true lt before h x y = h y x
+by_way f false lt before h x y = h x y
 
 int_order : (x y : ℤ) → is_lt (int_cmp x y) ≡ int_lt x y
 int_order x y = by_test (int_lt x y) (int_lt y x)
@@ -51,60 +51,49 @@ int_order x y = by_test (int_lt x y) (int_lt y x)
     by_test false true = refl
     by_test false false = refl
 
-by_way : {A B : Type 0} (f : A → B) (way : Bool) (lt : A → A → Bool) (before : B → B → Bool) → ((x y : A) → lt x y ≡ before (f x) (f y)) → (x y : A) → directed way lt x y ≡ directed way before (f x) (f y)
-by_way f true lt before h x y = h y x
-by_way f false lt before h x y = h x y
+module _ (o : SortOptions) where
+  numbers_in_order : (xs : List (Item ℤ)) → map its_text (in_order o (is_before less_number o) xs) ≡ map behind_number (in_order o (directed o.decreasing number_before) (map with_number xs))
+  numbers_in_order xs =
+      sym (map-map behind_number with_number (in_order o (is_before less_number o) xs))
+      ∙ ap (map behind_number) (seen_in_order with_number (is_before less_number o) (directed o.decreasing number_before)
+      (by_way with_number o.decreasing (λ x y. less_number x.key y.key) number_before (λ x y. int_order x.key y.key)) o xs)
 
-module _ (d : Dialect) (o : SortOptions) where
-  items_numbered : o.integer ≡ true → (es : List Text) → items_of d o es ≡ numbered d es
-  items_numbered h [] = refl
-  items_numbered h (e ∷ es) =
-      ap (λ b. cond b (number d e) (Ok (pos 0)) >>= λ n. items_of d o es >>= λ rest. Ok ((n, e) ∷ rest)) h
-      ∙ same_steps (number d e) _ _ (λ n. ap (λ r. r >>= λ rest. Ok ((n, e) ∷ rest)) (items_numbered h es))
+  abbrev first_before : Text × Text → Text × Text → Bool
+  first_before p q = stands_before p.0 q.0
 
-  items_plain : o.integer ≡ false → (es : List Text) → items_of d o es ≡ Ok (map plain es)
-  items_plain h [] = refl
-  items_plain h (e ∷ es) =
-      ap (λ b. cond b (number d e) (Ok (pos 0)) >>= λ n. items_of d o es >>= λ rest. Ok ((n, e) ∷ rest)) h
-      ∙ ap (λ r. r >>= λ rest. Ok ((pos 0, e) ∷ rest)) (items_plain h es)
+  abbrev its_text_before : Kept → Kept → Bool
+  its_text_before j k = stands_before j.text k.text
 
-  less_numbers : o.integer ≡ true → (x y : ℤ × Text) → is_less o x y ≡ number_before x y
-  less_numbers h x y = ap (λ b. cond b (is_lt (int_cmp x.0 y.0)) (is_lt (slice_cmp nat_cmp x.1 y.1))) h ∙ int_order x.0 y.0
+  texts_in_order : (xs : List (Item (Bor (List ℕ)))) (ks : List Kept) → map with_text xs ≡ map twice ks → map its_text (in_order o (is_before less_text o) xs) ≡ in_order o (directed o.decreasing stands_before) (texts ks)
+  texts_in_order xs ks h =
+      sym (map-map behind_text with_text (in_order o (is_before less_text o) xs))
+      ∙ ap (map behind_text) (seen_in_order with_text (is_before less_text o) (directed o.decreasing first_before) (by_way with_text o.decreasing (λ x y. less_text x.key y.key) first_before (λ x y. refl)) o xs
+      ∙ ap (in_order o (directed o.decreasing first_before)) h
+      ∙ sym (seen_in_order twice (directed o.decreasing its_text_before) (directed o.decreasing first_before) (by_way twice o.decreasing its_text_before first_before (λ j k. refl)) o ks))
+      ∙ map-map behind_text twice (in_order o (directed o.decreasing its_text_before) ks)
+      ∙ seen_in_order (λ (k : Kept). k.text) (directed o.decreasing its_text_before) (directed o.decreasing stands_before) (by_way (λ (k : Kept). k.text) o.decreasing its_text_before stands_before (λ j k. refl)) o ks
 
-  less_texts : o.integer ≡ false → (x y : ℤ × Text) → is_less o x y ≡ stands_before x.1 y.1
-  less_texts h x y = ap (λ b. cond b (is_lt (int_cmp x.0 y.0)) (is_lt (slice_cmp nat_cmp x.1 y.1))) h
+  module _ (d : Dialect) (ks : List Kept) where
+    abbrev by_kind : Bool → Answer (List Text)
+    by_kind true = numbered d (texts ks) >>= λ ps. Ok (map behind_number (in_order o (directed o.decreasing number_before) ps))
+    by_kind false = Ok (in_order o (directed o.decreasing stands_before) (texts ks))
 
-  numbers_in_order : o.integer ≡ true → (ps : List (ℤ × Text)) → by_numbers o ps ≡ in_turn o ps
-  numbers_in_order h ps =
-      ap Ok (ap (map its_text) (sym (sym (map_same (in_order o (is_before o) ps))
-      ∙ seen_in_order (λ x. x) (is_before o) (directed o.decreasing number_before) (by_way (λ x. x) o.decreasing (is_less o) number_before (less_numbers h)) o ps
-      ∙ ap (in_order o (directed o.decreasing number_before)) (map_same ps))))
+    elements_by_kind : sorted_elements d o (texts ks) ≡ by_kind o.integer
+    elements_by_kind = either o.integer
+      where
+        either : (b : Bool) → cond b (by_kind true) (by_kind false) ≡ by_kind b
+        either true = refl
+        either false = refl
 
-  texts_in_order : o.integer ≡ false → (es : List Text) → Ok (in_order o (directed o.decreasing stands_before) es) ≡ in_turn o (map plain es)
-  texts_in_order h es =
-      ap Ok (sym (seen_in_order its_text (is_before o) (directed o.decreasing stands_before) (by_way its_text o.decreasing (is_less o) stands_before (less_texts h)) o (map plain es)
-      ∙ ap (in_order o (directed o.decreasing stands_before)) (texts_of_plain es)))
+    pub numbers_are : (xs : List (Item ℤ)) (vs : List Text) → o.integer ≡ true → numbered d (texts ks) ≡ Ok (map with_number xs) → vs ≡ map its_text (in_order o (is_before less_number o) xs) → sorted_elements d o (texts ks) ≡ Ok vs
+    numbers_are xs vs h hx hv =
+        elements_by_kind ∙ ap by_kind h ∙ ap (λ r. r >>= λ ps. Ok (map behind_number (in_order o (directed o.decreasing number_before) ps))) hx ∙ ap Ok (sym (hv ∙ numbers_in_order xs))
 
-  by_kind : (b : Bool) → o.integer ≡ b → (es : List Text) → sorted_elements d o es ≡ (items_of d o es >>= in_turn o)
-  by_kind true h es =
-      ap (λ b. cond b (numbered d es >>= by_numbers o) (Ok (in_order o (directed o.decreasing stands_before) es))) h
-      ∙ ap (λ r. r >>= by_numbers o) (sym (items_numbered h es)) ∙ same_steps (items_of d o es) (by_numbers o) (in_turn o) (numbers_in_order h)
-  by_kind false h es =
-      ap (λ b. cond b (numbered d es >>= by_numbers o) (Ok (in_order o (directed o.decreasing stands_before) es))) h
-      ∙ texts_in_order h es ∙ ap (λ r. r >>= in_turn o) (sym (items_plain h es))
+    pub texts_are : (xs : List (Item (Bor (List ℕ)))) (vs : List Text) → o.integer ≡ false → map with_text xs ≡ map twice ks → vs ≡ map its_text (in_order o (is_before less_text o) xs) → sorted_elements d o (texts ks) ≡ Ok vs
+    texts_are xs vs h hx hv = elements_by_kind ∙ ap by_kind h ∙ ap Ok (sym (hv ∙ texts_in_order xs ks hx))
 
-  elements_by_items : (es : List Text) → sorted_elements d o es ≡ (items_of d o es >>= in_turn o)
-  elements_by_items es = by_kind o.integer refl es
-
-  pub sorted_is : (es : List Text) (ps qs : List (ℤ × Text)) (vs : List Text) (v : Text) → items_of d o es ≡ Ok ps → qs ≡ sorted (is_before o) ps → vs ≡ map its_text (kept_of o qs) → v ≡ written vs → sorted_list d o es ≡ Ok v
-  sorted_is es ps qs vs v hp hq hv hw =
-      ap (λ r. r >>= λ ordered. Ok (written ordered)) (elements_by_items es ∙ ap (λ r. r >>= in_turn o) hp)
-      ∙ ap Ok (sym (hw ∙ ap written (hv ∙ ap (λ zs. map its_text (kept_of o zs)) hq)))
-
-  pub sorted_stops : (f : Fault) (es : List Text) → Stops f (items_of d o es) → Stops f (sorted_list d o es)
-  sorted_stops f es s =
-      stops_same f _ _ (sym (ap (λ r. r >>= λ ordered. Ok (written ordered)) (elements_by_items es)))
-      (stops_first f _ (λ ordered. Ok (written ordered)) (stops_first f (items_of d o es) (in_turn o) s))
+    pub sorted_is : (vs : List Text) (v : Text) → sorted_elements d o (texts ks) ≡ Ok vs → v ≡ written vs → sorted_list d o (texts ks) ≡ Ok v
+    sorted_is vs v h hw = ap (λ r. r >>= λ ordered. Ok (written ordered)) h ∙ ap Ok (sym hw)
 
 -- ---- the command
 

@@ -1,27 +1,23 @@
 -- Elements in order, with what they are sorted by.
-use Rattle.std.proofs.Common.{◌≡◌, ℕ, zero, suc, ◌+◌, ◌<◌, ◌≤◌, ℤ, Bool, true, false, not, ◌&&◌, List, [], ◌∷◌, ◌++◌, map, length, drop, get_or, Ok, Err, sym, ap, ◌∙◌, refl, arith, append_assoc}
+use Rattle.std.proofs.Common.{◌≡◌, ℕ, zero, suc, ◌+◌, ◌<◌, ◌≤◌, ℤ, Bool, true, false, not, ◌&&◌, List, [], ◌∷◌, ◌++◌, map, length, drop, get_or, Ok, Err, Bor, sym, ap, ◌∙◌, refl, arith, append_assoc}
 use Rattle.std.specs.Prelude.{cond}
 use Rattle.std.specs.Cmp.{IsStrictWeakOrder}
-use Rattle.std.specs.Cmp.Lexicographic.{slice_cmp}
-use Rattle.std.specs.List.Sorted.{IsSortedBy, IsStableBy, ties}
-use Rattle.std.specs.Ordering.{is_lt, int_cmp, nat_cmp}
-use Rattle.std.proofs.lemmas.Cmp.{nat_list_cmp_total}
-use Rattle.std.specs.Cmp.{int_cmp_total}
-use Rattle.std.proofs.lemmas.List.{drop_all, append-nil}
-use Rattle.std.proofs.lemmas.List.Sorted.{ranks_by, IsStrictWeakOrder-flip}
+use Rattle.std.specs.Fn.{ComparesAs, Mut}
+use Rattle.std.specs.List.Sorted.{IsSortedByClosure, IsStableByClosure, ties}
+use Rattle.std.specs.declared.cmp.Ordering.{Ordering}
+use Rattle.std.proofs.lemmas.List.Sorted.{IsStrictWeakOrder-flip}
 use Rattle.tcl_chars.specs.Answers.{Stops}
 use Rattle.tcl_chars.specs.declared.fault.Fault.{Fault}
 use Rattle.tcl_chars.specs.declared.numbers.Dialect.{Dialect}
-use Rattle.tcl_chars.specs.Texts.{text_of}
-use Rattle.tcl_lists.specs.Sorted.{seen, all_seen, is_less, is_before, number_of, items_of, ties_with_next, is_kept, kept_of}
+use Rattle.tcl_chars.specs.Messages.{number}
+use Rattle.tcl_lists.specs.Sorted.{is_before, ties_with_next}
 use Rattle.tcl_lists.specs.declared.sort.Item.{Item}
-use Rattle.tcl_lists.proofs.IndexLemmas.{texts_at, seen_at, stops_same, stops_first}
+use Rattle.tcl_lists.proofs.IndexLemmas.{texts_at, stops_same, stops_first}
 use Rattle.tcl_pages.proofs.Sorting.{one_stable}
 use Rattle.tcl_pages.specs.Answers.{Answer, ◌>>=◌}
-use Rattle.tcl_pages.specs.Sorting.{inserted, sorted, last_of_ties, in_order, directed}
+use Rattle.tcl_pages.specs.Sorting.{inserted, sorted, last_of_ties, in_order, directed, numbered}
 use Rattle.tcl_pages.specs.Texts.{Text}
 use Rattle.tcl_pages.specs.declared.lists.SortOptions.{SortOptions}
-use Rattle.tcl_values.proofs.ElementPlaces.{length_texts}
 use Rattle.tcl_values.specs.Kept.{Kept, texts}
 
 -- ---- the order
@@ -30,44 +26,21 @@ flipped_or_not : {A : Type 0} (way : Bool) (lt : A → A → Bool) → IsStrictW
 flipped_or_not true lt o = IsStrictWeakOrder-flip lt o
 flipped_or_not false lt o = o
 
-abbrev less : Bool → ℤ × Text → ℤ × Text → Bool
-less true x y = is_lt (int_cmp x.0 y.0)
-less false x y = is_lt (slice_cmp nat_cmp x.1 y.1)
+orders_items : {K : Type 0} (less : K → K → Bool) → IsStrictWeakOrder less → (o : SortOptions) → IsStrictWeakOrder (is_before less o)
+orders_items {K} less w o =
+    flipped_or_not o.decreasing (λ (x y : Item K). less x.key y.key)
+    (record {
+      one_way = λ x y h. w.one_way x.key y.key h;
+      chain = λ x y z h k. w.chain x.key y.key z.key h k;
+    })
 
-less_orders : (whole : Bool) → IsStrictWeakOrder (λ (a b : Item). less whole (seen a) (seen b))
-less_orders true = ranks_by int_cmp_total (λ (a : Item). a.number)
-less_orders false = ranks_by nat_list_cmp_total (λ (a : Item). text_of a.text)
-
-less_is : (o : SortOptions) (x y : ℤ × Text) → less o.integer x y ≡ is_less o x y
-less_is o x y = by_kind o.integer
-  where
-    by_kind : (whole : Bool) → less whole x y ≡ cond whole (is_lt (int_cmp x.0 y.0)) (is_lt (slice_cmp nat_cmp x.1 y.1))
-    by_kind true = refl
-    by_kind false = refl
-
-abbrev pub item_before : SortOptions → Item → Item → Bool
-item_before o a b = is_before o (seen a) (seen b)
-
-less_orders_items : (o : SortOptions) → IsStrictWeakOrder (λ (a b : Item). is_less o (seen a) (seen b))
-less_orders_items o =
-    let w = less_orders o.integer in
-    record {
-      one_way = λ a b h. sym (less_is o (seen b) (seen a)) ∙ w.one_way a b (less_is o (seen a) (seen b) ∙ h);
-      chain = λ a b c h k. sym (less_is o (seen a) (seen c)) ∙ w.chain a b c (less_is o (seen a) (seen b) ∙ h) (less_is o (seen b) (seen c) ∙ k);
-    }
-
-directed_is : {A B : Type 0} (f : A → B) (way : Bool) (lt : B → B → Bool) (x y : A) → directed way (λ a b. lt (f a) (f b)) x y ≡ directed way lt (f x) (f y)
-directed_is f true lt x y = refl
-directed_is f false lt x y = refl
-
-pub orders_items : (o : SortOptions) → IsStrictWeakOrder (item_before o)
-orders_items o =
-    let w = flipped_or_not o.decreasing (λ (a b : Item). is_less o (seen a) (seen b)) (less_orders_items o) in
-    let same = directed_is seen o.decreasing (is_less o) in
-    record {
-      one_way = λ a b h. sym (same b a) ∙ w.one_way a b (same a b ∙ h);
-      chain = λ a b c h k. sym (same a c) ∙ w.chain a b c (same a b ∙ h) (same b c ∙ k);
-    }
+-- what `sort_by` leaves, where its closure answers by the order
+pub items_sorted : {K F : Type 0} (less : K → K → Bool) → IsStrictWeakOrder less → (o : SortOptions) (g : Mut F (Bor (Item K) × (Bor (Item K) × Unit {0})) Ordering) (f : F) (xs ys : List (Item K)) → ComparesAs g (is_before less o) f
+    → IsSortedByClosure g f ys → IsStableByClosure g f xs ys → ys ≡ sorted (is_before less o) xs
+items_sorted less w o g f xs ys h up stable =
+    let before = is_before less o in
+    let orders = orders_items less w o in
+    sym (one_stable before orders xs ys (up before orders h) (stable before orders h))
 
 -- ---- sorting what is seen of items
 
@@ -80,7 +53,7 @@ module _ {A B : Type 0} (f : A → B) (over : A → A → Bool) (before : B → 
       by_test true e = ap (λ zs. f y ∷ zs) e
       by_test false e = refl
 
-  pub seen_sorted : (xs : List A) → map f (sorted over xs) ≡ sorted before (map f xs)
+  seen_sorted : (xs : List A) → map f (sorted over xs) ≡ sorted before (map f xs)
   seen_sorted [] = refl
   seen_sorted (x ∷ xs) = seen_inserted x (sorted over xs) ∙ ap (inserted before (f x)) (seen_sorted xs)
 
@@ -103,104 +76,34 @@ module _ {A B : Type 0} (f : A → B) (over : A → A → Bool) (before : B → 
       by_option true = seen_last (sorted over xs) ∙ ap (last_of_ties before) (seen_sorted xs)
       by_option false = seen_sorted xs
 
-pub items_sorted : (o : SortOptions) (xs ys : List Item) → IsSortedBy (item_before o) ys → IsStableBy (item_before o) xs ys → all_seen ys ≡ sorted (is_before o) (all_seen xs)
-items_sorted o xs ys up stable =
-    ap all_seen (sym (one_stable (item_before o) (orders_items o) xs ys up stable)) ∙ seen_sorted seen (item_before o) (is_before o) (λ x y. refl) xs
-
 -- ---- each element with its number
 
-pub numbers_go_on : (d : Dialect) (o : SortOptions) (ks : List Kept) (i : ℕ) (k : Kept) (done : List (ℤ × Text)) (n : ℤ) (t : Text) (more : List (ℤ × Text)) → more ≡ done ++ (n, t) ∷ [] → i < length ks → k ≡ get_or ks i k → number_of d o k.text ≡ Ok n → t ≡ k.text
-    → (items_of d o (drop (i + 1) (texts ks)) >>= λ rest. Ok (more ++ rest)) ≡ (items_of d o (drop i (texts ks)) >>= λ rest. Ok (done ++ rest))
-numbers_go_on d o ks i k done n t more em h e is et =
-    ap (λ us. items_of d o R >>= λ rest. Ok (us ++ rest)) em ∙ sym (ap (λ es. items_of d o es >>= λ rest. Ok (done ++ rest)) (texts_at ks i k h e)
-    ∙ ap (λ r. (r >>= λ m. items_of d o R >>= λ rest. Ok ((m, k.text) ∷ rest)) >>= λ rest. Ok (done ++ rest)) is ∙ joined (items_of d o R))
-  where
-    R : List Text
-    R = drop (i + 1) (texts ks)
+module _ (d : Dialect) (ks : List Kept) where
+  pub numbers_go_on : (i : ℕ) (k : Kept) (done : List (ℤ × Text)) (n : ℤ) (more : List (ℤ × Text)) → more ≡ done ++ (n, k.text) ∷ [] → i < length ks → k ≡ get_or ks i k → number d k.text ≡ Ok n
+      → (numbered d (drop (i + 1) (texts ks)) >>= λ rest. Ok (more ++ rest)) ≡ (numbered d (drop i (texts ks)) >>= λ rest. Ok (done ++ rest))
+  numbers_go_on i k done n more em h e is =
+      ap (λ us. numbered d R >>= λ rest. Ok (us ++ rest)) em ∙ sym (ap (λ es. numbered d es >>= λ rest. Ok (done ++ rest)) (texts_at ks i k h e)
+      ∙ ap (λ r. (r >>= λ m. numbered d R >>= λ rest. Ok ((m, k.text) ∷ rest)) >>= λ rest. Ok (done ++ rest)) is ∙ joined (numbered d R))
+    where
+      R : List Text
+      R = drop (i + 1) (texts ks)
 
-    joined : (r : Answer (List (ℤ × Text))) → ((r >>= λ rest. Ok ((n, k.text) ∷ rest)) >>= λ rest. Ok (done ++ rest)) ≡ (r >>= λ rest. Ok ((done ++ (n, t) ∷ []) ++ rest))
-    joined (Ok rest) = ap Ok (ap (λ u. done ++ (n, u) ∷ rest) (sym et) ∙ sym (append_assoc done ((n, t) ∷ []) rest))
-    joined (Err m) = refl
+      joined : (r : Answer (List (ℤ × Text))) → ((r >>= λ rest. Ok ((n, k.text) ∷ rest)) >>= λ rest. Ok (done ++ rest)) ≡ (r >>= λ rest. Ok ((done ++ (n, k.text) ∷ []) ++ rest))
+      joined (Ok rest) = ap Ok (sym (append_assoc done ((n, k.text) ∷ []) rest))
+      joined (Err m) = refl
 
-pub numbers_stop : (f : Fault) (d : Dialect) (o : SortOptions) (ks : List Kept) (i : ℕ) (k : Kept) (done : List (ℤ × Text)) (all : Answer (List (ℤ × Text))) → i < length ks → k ≡ get_or ks i k → Stops f (number_of d o k.text)
-    → (items_of d o (drop i (texts ks)) >>= λ rest. Ok (done ++ rest)) ≡ all → Stops f all
-numbers_stop f d o ks i k done all h e s so_far =
-    stops_same f _ _ (sym (ap (λ es. items_of d o es >>= λ rest. Ok (done ++ rest)) (texts_at ks i k h e)) ∙ so_far)
-    (stops_first f _ (λ rest. Ok (done ++ rest)) (stops_first f (number_of d o k.text) (λ m. items_of d o (drop (i + 1) (texts ks)) >>= λ rest. Ok ((m, k.text) ∷ rest)) s))
-
-pub numbers_end : (d : Dialect) (o : SortOptions) (ks : List Kept) (i : ℕ) (done : List (ℤ × Text)) (all : Answer (List (ℤ × Text))) → length ks ≤ i → (items_of d o (drop i (texts ks)) >>= λ rest. Ok (done ++ rest)) ≡ all → all ≡ Ok done
-numbers_end d o ks i done all h so_far =
-    sym so_far ∙ ap (λ es. items_of d o es >>= λ rest. Ok (done ++ rest)) (drop_all i (texts ks) (let e = length_texts ks in omega (arith, e))) ∙ ap Ok (append-nil done)
-
-pub numbers_begin : (d : Dialect) (o : SortOptions) (es : List Text) → (items_of d o es >>= λ rest. Ok ([] ++ rest)) ≡ items_of d o es
-numbers_begin d o es = whole (items_of d o es)
-  where
-    whole : (r : Answer (List (ℤ × Text))) → (r >>= λ rest. Ok ([] ++ rest)) ≡ r
-    whole (Ok rest) = refl
-    whole (Err m) = refl
-
-all_seen_at : (xs : List Item) (i : ℕ) (x : Item) → i < length xs → x ≡ get_or xs i x → drop i (all_seen xs) ≡ seen x ∷ drop (i + 1) (all_seen xs)
-all_seen_at xs i x h e = seen_at seen xs i x h e
+  pub numbers_stop : (f : Fault) (i : ℕ) (k : Kept) (done : List (ℤ × Text)) (all : Answer (List (ℤ × Text))) → i < length ks → k ≡ get_or ks i k → Stops f (number d k.text)
+      → (numbered d (drop i (texts ks)) >>= λ rest. Ok (done ++ rest)) ≡ all → Stops f all
+  numbers_stop f i k done all h e s so_far =
+      stops_same f _ _ (sym (ap (λ es. numbered d es >>= λ rest. Ok (done ++ rest)) (texts_at ks i k h e)) ∙ so_far)
+      (stops_first f _ (λ rest. Ok (done ++ rest)) (stops_first f (number d k.text) (λ m. numbered d (drop (i + 1) (texts ks)) >>= λ rest. Ok ((m, k.text) ∷ rest)) s))
 
 -- ---- ties
 
-pub next_ties : (o : SortOptions) (xs : List Item) (i : ℕ) (x y : Item) → i + 1 < length xs → x ≡ get_or xs i x → y ≡ get_or xs (i + 1) y → ties_with_next o (drop i (all_seen xs)) ≡ ties (is_before o) (seen x) (seen y)
-next_ties o xs i x y h e k = ap (ties_with_next o) (all_seen_at xs i x (omega arith) e ∙ ap (λ zs. seen x ∷ zs) (all_seen_at xs (i + 1) y h k))
-
-pub last_ties : (o : SortOptions) (xs : List Item) (i : ℕ) → length xs ≤ i + 1 → ties_with_next o (drop i (all_seen xs)) ≡ false
-last_ties o [] zero k = refl
-last_ties o [] (suc i) k = refl
-last_ties o (x ∷ []) zero k = refl
-last_ties o (x ∷ y ∷ xs) zero k = absurd (omega arith)
-last_ties o (x ∷ xs) (suc i) k = last_ties o xs i (omega arith)
-
-length_seen : (xs : List Item) → length (all_seen xs) ≡ length xs
-length_seen [] = refl
-length_seen (x ∷ xs) = ap suc (length_seen xs)
-
-abbrev kept_texts : SortOptions → List (ℤ × Text) → List Text
-kept_texts o xs = map (λ (x : ℤ × Text). x.1) (kept_of o xs)
-
-kept_step : (o : SortOptions) (x : ℤ × Text) (xs : List (ℤ × Text)) → kept_of o (x ∷ xs) ≡ cond (is_kept o (x ∷ xs)) (x ∷ kept_of o xs) (kept_of o xs)
-kept_step o x xs = by_option o.unique xs
-  where
-    by_tie : (b : Bool) (us vs : List (ℤ × Text)) → cond b us vs ≡ cond (not b) vs us
-    by_tie true us vs = refl
-    by_tie false us vs = refl
-
-    by_option : (b : Bool) (xs : List (ℤ × Text)) → cond b (last_of_ties (is_before o) (x ∷ xs)) (x ∷ xs)
-        ≡ cond (not (b && ties_with_next o (x ∷ xs))) (x ∷ cond b (last_of_ties (is_before o) xs) xs) (cond b (last_of_ties (is_before o) xs) xs)
-    by_option false xs = refl
-    by_option true [] = refl
-    by_option true (y ∷ ys) = by_tie (ties (is_before o) x y) _ _
-
-pub keeps_at : (o : SortOptions) (xs : List Item) (i : ℕ) (x : Item) (done all more : List Text) (t : Text) → more ≡ done ++ t ∷ [] → i < length xs → x ≡ get_or xs i x → is_kept o (drop i (all_seen xs)) ≡ true → t ≡ text_of x.text
-    → done ++ kept_texts o (drop i (all_seen xs)) ≡ all → more ++ kept_texts o (drop (i + 1) (all_seen xs)) ≡ all
-keeps_at o xs i x done all more t em h e k et so_far =
-    ap (λ us. us ++ kept_texts o R) em ∙ append_assoc done (t ∷ []) (kept_texts o R) ∙ ap (λ u. done ++ u ∷ kept_texts o R) et
-    ∙ sym (ap (λ zs. done ++ kept_texts o zs) (all_seen_at xs i x h e) ∙ ap (λ zs. done ++ map (λ (z : ℤ × Text). z.1) zs) (kept_step o (seen x) R ∙ ap (λ b. cond b (seen x ∷ kept_of o R) (kept_of o R)) here)) ∙ so_far
-  where
-    R : List (ℤ × Text)
-    R = drop (i + 1) (all_seen xs)
-
-    here : is_kept o (seen x ∷ R) ≡ true
-    here = sym (ap (is_kept o) (all_seen_at xs i x h e)) ∙ k
-
-pub drops_at : (o : SortOptions) (xs : List Item) (i : ℕ) (x : Item) (done all more : List Text) → more ≡ done → i < length xs → x ≡ get_or xs i x → is_kept o (drop i (all_seen xs)) ≡ false
-    → done ++ kept_texts o (drop i (all_seen xs)) ≡ all → more ++ kept_texts o (drop (i + 1) (all_seen xs)) ≡ all
-drops_at o xs i x done all more em h e k so_far =
-    ap (λ us. us ++ kept_texts o R) em ∙ sym (ap (λ zs. done ++ kept_texts o zs) (all_seen_at xs i x h e) ∙ ap (λ zs. done ++ map (λ (z : ℤ × Text). z.1) zs) (kept_step o (seen x) R ∙ ap (λ b. cond b (seen x ∷ kept_of o R) (kept_of o R)) here)) ∙ so_far
-  where
-    R : List (ℤ × Text)
-    R = drop (i + 1) (all_seen xs)
-
-    here : is_kept o (seen x ∷ R) ≡ false
-    here = sym (ap (is_kept o) (all_seen_at xs i x h e)) ∙ k
-
-pub kept_end : (o : SortOptions) (xs : List Item) (i : ℕ) (done all : List Text) → length xs ≤ i → done ++ kept_texts o (drop i (all_seen xs)) ≡ all → done ≡ all
-kept_end o xs i done all h so_far =
-    sym (append-nil done) ∙ sym (ap (λ zs. done ++ kept_texts o zs) (drop_all i (all_seen xs) (let l = length_seen xs in omega (arith, l))) ∙ none o.unique) ∙ so_far
-  where
-    none : (b : Bool) → done ++ map (λ (x : ℤ × Text). x.1) (cond b (last_of_ties (is_before o) []) []) ≡ done ++ []
-    none true = refl
-    none false = refl
+module _ {A : Type 0} (before : A → A → Bool) where
+  pub last_ties : (xs : List A) (i : ℕ) → length xs ≤ i + 1 → ties_with_next before (drop i xs) ≡ false
+  last_ties [] zero k = refl
+  last_ties [] (suc i) k = refl
+  last_ties (x ∷ []) zero k = refl
+  last_ties (x ∷ y ∷ xs) zero k = absurd (omega arith)
+  last_ties (x ∷ xs) (suc i) k = last_ties xs i (omega arith)

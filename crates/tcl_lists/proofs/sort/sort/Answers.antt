@@ -1,13 +1,10 @@
 use Rattle.std.proofs.Common.{rules}
 use Rattle.std.proofs.lemmas.Fn.{always_returns_same}
 use Rattle.std.proofs.lemmas.Result.{on_ok_weaker}
-use Rattle.tcl_lists.proofs.SortLemmas.{item_before, orders_items, items_sorted}
+use Rattle.tcl_lists.proofs.SortLemmas.{items_sorted}
 use Rattle.tcl_lists.proofs.sort.sort.Goals as goal
 
 pub returns : goal.returns
-returns c =
-    let before = item_before c.args.options in
+returns g c =
     on_ok_weaker c.sort_by.result
-    (λ up. items_sorted c.args.options c.args.items.now.items c.sort_by.new.self.items
-    (up before (orders_items c.args.options) (always_returns_same _ _ _ (λ a r f k. search rules)))
-    (c.sort_by.ensures.stable before (orders_items c.args.options) (always_returns_same _ _ _ (λ a r f k. search rules)))) c.sort_by.ensures.sorted
+    (λ up. items_sorted g.K.Key.is_less g.met.K.Key.orders c.args.options _ _ c.args.items.now.items c.sort_by.new.self.items (always_returns_same _ _ _ (λ a r f k. search rules)) up c.sort_by.ensures.stable) c.sort_by.ensures.sorted

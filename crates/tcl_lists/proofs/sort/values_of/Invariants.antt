@@ -1,6 +1,6 @@
 use Rattle.std.proofs.Common.{◌≡◌, ◌++◌, map, drop}
-use Rattle.tcl_lists.specs.Sorted.{all_seen, kept_of}
+use Rattle.tcl_lists.specs.Sorted.{its_text, is_before, kept_of}
 use Rattle.tcl_lists.proofs.sort.values_of.Given as goal
 
 abbrev pub invariant-loop-place : goal.invariant-loop-place
-invariant-loop-place l = l.values.items ++ map (λ x. x.1) (kept_of l.options (drop l.place (all_seen l.items))) ≡ map (λ x. x.1) (kept_of l.options (all_seen l.items))
+invariant-loop-place g l = l.values.items ++ map its_text (kept_of l.options (is_before g.K.Key.is_less l.options) (drop l.place l.items)) ≡ map its_text (kept_of l.options (is_before g.K.Key.is_less l.options) l.items)
