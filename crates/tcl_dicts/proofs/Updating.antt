@@ -1,6 +1,7 @@
 -- A value under a key, changed and put back.
-use Rattle.std.proofs.Common.{◌≡◌, Bool, true, false, ◌==◌, ℕ, zero, suc, ◌+◌, ◌<◌, ◌≤◌, List, [], ◌∷◌, ◌++◌, length, drop, take, Ok, Err, refl, sym, ap, ◌∙◌, arith}
-use Rattle.std.proofs.lemmas.List.{length-take}
+use Rattle.std.proofs.Common.{◌≡◌, Bool, true, false, ◌==◌, ℕ, zero, suc, ◌+◌, ◌-◌, ◌<◌, ◌≤◌, List, [], ◌∷◌, ◌++◌, length, drop, take, Ok, Err, refl, sym, ap, ◌∙◌, arith}
+use Rattle.std.proofs.lemmas.List.{append-nil, drop_more, length-take}
+use Rattle.std.specs.List.{concat}
 use Rattle.std.specs.declared.rc.RcStr.{RcStr}
 use Rattle.std.specs.declared.alloc.Global.{Global}
 use Rattle.tcl_arguments.specs.WordAt.{word}
@@ -14,12 +15,13 @@ use Rattle.tcl_pages.specs.Dictionaries.{Pairs, put_key, pairs_of}
 use Rattle.tcl_pages.specs.DictPages.{dictionary, value_at, or_text, value_or, known, inner_of, under_key, dict_lappend, dict_set, dict_unset}
 use Rattle.tcl_pages.specs.Lists.{lappend, with_more}
 use Rattle.tcl_pages.specs.Texts.{Text}
-use Rattle.tcl_pages.specs.Updates.{by_key, dict_append, text_appended}
+use Rattle.tcl_pages.specs.Updates.{by_key, dict_append, dict_set_words, text_appended}
 use Rattle.tcl_values.proofs.ChangedPairs.{in_turn}
 use Rattle.tcl_values.specs.Changes.{after, after_under}
-use Rattle.tcl_values.specs.Dictionaries.{less_key}
+use Rattle.tcl_values.specs.Dictionaries.{less_key, with_key}
 use Rattle.tcl_values.specs.declared.change.Change.TheVariants as change
 use Rattle.tcl_values.specs.Lists.{count_of, lengthened}
+use Rattle.tcl_dicts.proofs.DictWords.{drop_end}
 use Rattle.tcl_dicts.specs.Levels.{changed, changed_known, rebuilt}
 
 ok_is : (r : Answer Text) (a b : Text) → r ≡ Ok a → r ≡ Ok b → a ≡ b
@@ -168,12 +170,23 @@ unset_is t key last ws us keys n l e s el ek es =
     unset_by_words t ws n l e ∙ known_two t (word ws 0) (word ws n) (drop 1 (take n ws))
     ∙ (λ i. changed_known t (sym ek i) (λ old. dict_unset old (sym (es ∙ ap (λ ts. drop 1 (take n ts)) s) i ++ sym el i ∷ [])))
 
+pub set_one : (t key new : Text) (ws : List Text) → length ws ≡ 2 → key ≡ word ws 0 → new ≡ word ws 1 → dict_set_words t ws ≡ with_key t key new
+set_one t key new (w ∷ u ∷ []) l e en = λ i. with_key t (sym e i) (sym en i)
+set_one t key new [] l e en = absurd (omega arith)
+set_one t key new (w ∷ []) l e en = absurd (omega arith)
+set_one t key new (w ∷ u ∷ x ∷ ws) l e en = absurd (omega arith)
+
 pub unset_one : (t last : Text) (ws : List Text) → length ws ≡ 1 → last ≡ word ws 0 → dict_unset t ws ≡ less_key t last
 unset_one t last [] l e = absurd (omega arith)
 unset_one t last (w ∷ []) l e = ap (less_key t) (sym e)
 unset_one t last (w ∷ u ∷ ws) l e = absurd (omega arith)
 
 -- ---- a value under a key, to which more comes
+
+-- one word is what it is joined to
+pub one_joined : (ws : List Text) (first : ℕ) → length ws - first ≡ 1 → word ws first ≡ text_appended [] (drop first ws)
+one_joined ws first l =
+    sym (append-nil (word ws first)) ∙ sym (ap concat (drop_more ws first [] (omega (arith, l)) ∙ ap (λ us. word ws first ∷ us) (drop_end ws (first + 1) (omega (arith, l)))))
 
 -- words behind a value: dict append
 pub append_one : (t key : Text) (s : RcStr Global) (ws : List Text) → text_of s ≡ text_appended [] ws → after_under (change.Text s) t key ≡ changed t key [] (λ old. Ok (text_appended old ws))

@@ -1,6 +1,6 @@
 //! Commands that look into a dictionary: dict(n), exists, get, size.
 
-ghost use Rattle.std.specs.Prelude.{◌≡◌, ◌≤◌, drop, length, Ok, IfOk};
+ghost use Rattle.std.specs.Prelude.{◌≡◌, ◌≤◌, length, Ok, IfOk};
 ghost use Rattle.std.specs.Str.{chars};
 ghost use Rattle.tcl_chars.specs.Answers.{Answers};
 ghost use Rattle.tcl_chars.specs.Texts.{text_of};
@@ -34,23 +34,20 @@ pub(crate) fn inner_of(alloc: Global, value: &mut Value, key: &str) -> Result<Va
     }
 }
 
-/// The value under the keys that the words from a place on are, each in the dictionary under the one before.
-fn value_under(
-    alloc: Global,
-    start: Value,
-    words: &mut [Value],
-    first: usize,
-) -> Result<Value, Fault>
-    requires { first ≤ length words.old }
-    ensures value { Answers (λ v. v) result (spec.value_under start (drop first words.old)) }
-    ensures same { words.new ≡ words.old }
+/// The value under keys, of which there is one at least, each in the dictionary under the one before. The outermost dictionary is read
+/// where it stands.
+fn value_under(alloc: Global, dictionary: &mut Value, keys: &[Value]) -> Result<Value, Fault>
+    requires { 1 ≤ length keys.now }
+    ensures value { Answers (λ v. v) result (spec.value_under dictionary.old keys.now) }
+    ensures same { dictionary.new ≡ dictionary.old }
 {
-    let mut value = start;
-    for place in first..words.len() {
-        let key = words[place].spelled(alloc)?;
-        value = inner_of(alloc, &mut value, key.as_str())?;
+    let first = keys[0].spelled(alloc)?;
+    let mut inner = inner_of(alloc, dictionary, first.as_str())?;
+    for place in 1..keys.len() {
+        let key = keys[place].spelled(alloc)?;
+        inner = inner_of(alloc, &mut inner, key.as_str())?;
     }
-    Ok(value)
+    Ok(inner)
 }
 
 /// `dict get dictionary ?key ...?`: the value under the keys; without a key all pairs.
@@ -62,24 +59,23 @@ pub fn dict_get(alloc: Global, words: &mut [Value]) -> Result<Value, Fault>
     ensures answer { Answers (λ v. v) result (spec.dict_get words.old) }
     ensures same { words.new ≡ words.old }
 {
-    if words.is_empty() {
+    let Some((dictionary, keys)) = words.split_first_mut() else {
         return Err(Fault::Error(usage(alloc, "dict get dictionary ?key ...?")?));
+    };
+    if keys.is_empty() {
+        return Ok(dictionary.dictionary(alloc)?.into_value()?);
     }
-    if words.len() == 1 {
-        return Ok(dictionary_at(alloc, words, 0)?.into_value()?);
-    }
-    let start = words[0].copy()?;
-    value_under(alloc, start, words, 1)
+    value_under(alloc, dictionary, &*keys)
 }
 
 /// The truth value that says whether a value was found.
-fn is_found(alloc: Global, found: Result<Value, Fault>) -> Result<Value, Fault>
+fn is_found(found: Result<Value, Fault>) -> Result<Value, Fault>
     ensures { (meant : Answer Text) → Answers (λ v. v) found meant → Answers (λ v. v) result (Ok (truth_text (spec.is_there meant))) }
 {
     match found {
-        Ok(_) => Ok(Value::of_str(alloc, "1")?),
+        Ok(_) => Ok(Value::of_truth(true)),
+        Err(Fault::Error(_)) => Ok(Value::of_truth(false)),
         Err(Fault::Memory) => Err(Fault::Memory),
-        Err(Fault::Error(_)) => Ok(Value::of_str(alloc, "0")?),
     }
 }
 
@@ -95,9 +91,8 @@ pub fn dict_exists(alloc: Global, words: &mut [Value]) -> Result<Value, Fault>
     if words.len() < 2 {
         return Err(Fault::Error(usage(alloc, "dict exists dictionary key ?key ...?")?));
     }
-    let start = words[0].copy()?;
-    let found = value_under(alloc, start, words, 1);
-    is_found(alloc, found)
+    let (first, keys) = words.split_at_mut(1);
+    is_found(value_under(alloc, &mut first[0], &*keys))
 }
 
 /// `dict size dictionary`: how many pairs the dictionary has.

@@ -28,7 +28,7 @@ fn keys_between(
     requires within { last ≤ length words.now }
     ensures { IfOk result (λ v. v.items ≡ drop first (take last words.now)) }
 {
-    let mut keys = Vec::new(alloc);
+    let mut keys = Vec::with_capacity(alloc, last - first)?;
     for place in first..last {
         keys.push(words[place].key(alloc)?)?;
     }
@@ -98,6 +98,10 @@ pub fn dict_set(alloc: Global, value: &mut Value, words: &mut [Value]) -> Result
 {
     let last = words.len() - 1;
     let new = word_at(words, last)?;
+    if last == 1 {
+        let key = words[0].key(alloc)?;
+        return value.dict_put(alloc, key, new);
+    }
     let keys = keys_between(alloc, words, 0, last)?;
     if last > 64 {
         return set_under(alloc, value, keys, new);
@@ -140,16 +144,13 @@ fn unset_under(
 
 /// Takes the last of some keys that are words out, of which there are many.
 fn unset_by_words(alloc: Global, value: &mut Value, words: &mut [Value]) -> Result<(), Fault>
-    requires { 1 ≤ length words.old }
+    requires { 2 ≤ length words.old }
     ensures done { Leaves value.new (spec.dict_unset value.old words.old) result }
     ensures same { OnErr result (value.new ≡ value.old) }
     ensures words { words.new ≡ words.old }
 {
     let last = words.len() - 1;
     let key = words[last].key(alloc)?;
-    if last == 0 {
-        return value.dict_remove(alloc, key.as_str());
-    }
     let first = words[0].key(alloc)?;
     let keys = keys_between(alloc, words, 1, last)?;
     unset_under(alloc, value, first, keys, key)
@@ -167,6 +168,10 @@ pub fn dict_unset(alloc: Global, value: &mut Value, words: &mut [Value]) -> Resu
     ensures words { words.new ≡ words.old }
 {
     let count = words.len();
+    if count == 1 {
+        let key = words[0].spelled(alloc)?;
+        return value.dict_remove(alloc, key.as_str());
+    }
     if count > 64 {
         return unset_by_words(alloc, value, words);
     }

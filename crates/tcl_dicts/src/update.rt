@@ -19,14 +19,14 @@ use tcl_arguments::{number_of, text_at};
 use tcl_chars::{Dialect, Fault, Op, binary};
 use tcl_values::{Change, Key, Value};
 
-/// The value of a key of a dictionary, or a text where the key isn't there.
-fn value_or(alloc: Global, first: &str, value: &mut Value, key: &str) -> Result<Value, Fault>
-    ensures value { Answers (λ v. v) result (spec.value_or (chars first.now) value.old (chars key.now)) }
+/// The value of a key of a dictionary, or the first one where the key isn't there.
+fn value_or(alloc: Global, first: Value, value: &mut Value, key: &str) -> Result<Value, Fault>
+    ensures value { Answers (λ v. v) result (spec.value_or first value.old (chars key.now)) }
     ensures same { value.new ≡ value.old }
 {
     match value.dict_get(alloc, key)? {
         Some(inner) => Ok(inner),
-        None => Ok(Value::of_str(alloc, first)?),
+        None => Ok(first),
     }
 }
 
@@ -35,26 +35,8 @@ pub(crate) fn value_or_empty(alloc: Global, value: &mut Value, key: &str) -> Res
     ensures value { Answers (λ v. v) result (spec.value_or [] value.old (chars key.now)) }
     ensures same { value.new ≡ value.old }
 {
-    value_or(alloc, "", value, key)
-}
-
-/// A text with the words from a place on behind it.
-fn with_words(
-    alloc: Global,
-    text: Value,
-    words: &mut [Value],
-    first: usize,
-) -> Result<Value, AllocError>
-    requires { first ≤ length words.old }
-    ensures text { IfOk result (λ v. v ≡ updates.text_appended text (drop first words.old)) }
-    ensures same { words.new ≡ words.old }
-{
-    let mut text = text;
-    for place in first..words.len() {
-        let more = text_at(alloc, words, place)?;
-        text.append(alloc, more.as_str())?;
-    }
-    Ok(text)
+    let empty = Value::of_str(alloc, "")?;
+    value_or(alloc, empty, value, key)
 }
 
 /// The words from a place on. What is kept of them is shared.
@@ -62,7 +44,7 @@ fn copies(alloc: Global, words: &[Value], first: usize) -> Result<Vec<Value>, Al
     requires { first ≤ length words.now }
     ensures { IfOk result (λ v. v.items ≡ drop first words.now) }
 {
-    let mut copies = Vec::new(alloc);
+    let mut copies = Vec::with_capacity(alloc, words.len() - first)?;
     for place in first..words.len() {
         copies.push(word_at(words, place)?)?;
     }
@@ -98,15 +80,18 @@ fn with_number(
     }
 }
 
-/// The words from a place on, one behind the other.
+/// The words from a place on, one behind the other. One word alone is shared.
+#[tactic(auto, using(crate::proofs::Updating::one_joined))]
 fn joined_words(alloc: Global, words: &mut [Value], first: usize) -> Result<RcStr, AllocError>
     requires { first ≤ length words.old }
     ensures text { IfOk result (λ t. text_of t ≡ updates.text_appended [] (drop first words.old)) }
     ensures same { words.new ≡ words.old }
 {
-    let empty = Value::of_str(alloc, "")?;
-    let mut joined = with_words(alloc, empty, words, first)?;
-    joined.text(alloc)
+    if words.len() - first == 1 {
+        return text_at(alloc, words, first);
+    }
+    let words = &*words;
+    RcStr::from_string(Value::joined_text(alloc, &words[first..])?)
 }
 
 /// The words behind the first one, written behind the value of a key. It takes the time of what is written, whatever stands there.
@@ -195,6 +180,7 @@ pub fn dict_lappend(alloc: Global, value: &mut Value, words: &mut [Value]) -> Re
 ///
 /// `Fault::Error` with the dictionary's fault, that of the number or of the increment, or the overflow, `Fault::Memory`; the value is
 /// then as it was.
+#[tactic(auto, using(tcl_values::proofs::Truths::nought))]
 pub fn dict_incr(
     alloc: Global,
     value: &mut Value,
@@ -207,7 +193,7 @@ pub fn dict_incr(
     ensures words { words.new ≡ words.old }
 {
     let key = words[0].key(alloc)?;
-    let old = value_or(alloc, "0", value, key.as_str())?;
+    let old = value_or(alloc, Value::of_int(0), value, key.as_str())?;
     let new = with_number(alloc, old, &mut words[1], dialect)?;
     value.dict_put(alloc, key, new)
 }
