@@ -68,7 +68,8 @@ fn has_readings(text: &str) -> bool {
     has_space(text) || begins_as_number(text)
 }
 
-/// The value that is kept of a text: a number's decimal digits are kept as the number. A word of several words is read as a list or as a
+/// The value that is kept of a text: a number's decimal digits are kept as the number, and an empty word stands in its place, so that what grows from it is
+/// nobody else's. A word of several words is read as a list or as a
 /// dictionary once for all who push it, and one that begins as a number, as `0xff`, once as a number; beside a page it is kept as it is.
 /// Where another text is found as a name is kept for all who push it.
 fn value(alloc: Global, text: &str, purpose: Use) -> Result<Value, AllocError>
@@ -76,6 +77,9 @@ fn value(alloc: Global, text: &str, purpose: Use) -> Result<Value, AllocError>
 {
     if let Some(number) = Value::of_decimal(text) {
         return Ok(number);
+    }
+    if text.is_empty() && purpose == Use::Word {
+        return Value::of_str(alloc, text);
     }
     let own = RcStr::from_str(alloc, text)?;
     if purpose == Use::Name || !has_readings(text) {

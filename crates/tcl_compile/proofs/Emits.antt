@@ -99,6 +99,10 @@ module _ (dialect : Dialect) where
       let g = leads_end (PiecesLeft dialect (length ps) (drop i ps)) (PiecesLeft dialect (length ps) ps) old mid new l (Join n ∷ [], h, last) in
       (g.0, g.1, word_does dialect ps g.0 g.2)
 
+  pub grown_nothing : (ps : List Part) (old new : Code) → length ps ≡ 0 → new ≡ old ++ Push [] ∷ [] → Grown (WordCode dialect ps) old new
+  grown_nothing [] old new e h = (Push [] ∷ [], h, push_does dialect [])
+  grown_nothing (p ∷ ps) old new e h = absurd cc
+
   pub grown_one : (ps : List Part) (p : Part) (old new : Code) → length ps ≡ 1 → p ≡ get_or ps 0 p → Grown (PieceCode dialect p) old new → Grown (WordCode dialect ps) old new
   grown_one [] p old new e is g = absurd cc
   grown_one (q ∷ []) p old new e is g = (g.0, g.1, subst (λ x. WordCode dialect (x ∷ []) g.0) is (piece_does dialect p g.0 g.2))

@@ -38,7 +38,7 @@ use Rattle.tcl_compile.proofs.Turns.{behind_one, in_back, turn_counts}
 abbrev pub behind_first : List Clause → List Clause
 behind_first xs = take (length xs - 1) (drop 1 xs)
 
-pub are_none : (xs : List Clause) (b : Bool) → b ≡ (length xs == 0) → b ≡ true → length xs ≡ 0
+pub are_none : {A : Type 0} (xs : List A) (b : Bool) → b ≡ (length xs == 0) → b ≡ true → length xs ≡ 0
 are_none xs b e h = eqb-true (length xs) 0 (sym e ∙ h)
 
 pub are_some : (xs : List Clause) (b : Bool) → b ≡ (length xs == 0) → b ≡ false → 0 < length xs

@@ -318,7 +318,7 @@ pub(crate) fn emit_word(
     emit_pieces(code, context, whole, MOST_LEVELS, word.pieces.as_slice())
 }
 
-// Pieces, which are joined where there isn't only one. Their array indices stand in one another at most `levels` deep.
+// Pieces, which are joined where there are more than one. Their array indices stand in one another at most `levels` deep.
 #[cycle(emitting)]
 fn emit_pieces(
     code: &mut CodeBuilder,
@@ -332,6 +332,9 @@ fn emit_pieces(
     requires within { PartsWithin (length (chars whole.now) - 1) (parts_of (map part_of pieces.now)) }
     ensures { OnOk result (Grown (WordCode context.dialect (map part_of pieces.now)) code.old code.new) }
 {
+    if pieces.is_empty() {
+        return code.push("");
+    }
     if pieces.len() == 1 {
         return emit_piece(code, context, whole, levels, &pieces[0]);
     }

@@ -11,7 +11,7 @@ use Rattle.tcl_meaning.proofs.Nests.{first_nests, parts_nest_at, words_nest_at}
 use Rattle.tcl_compile.specs.Emitted.{GatheredLeft}
 use Rattle.tcl_compile.specs.Within.{PartWithin, PartsWithin, WordsWithin}
 use Rattle.tcl_compile.proofs.Within.{first_shorter, parts_within_at, words_within_at}
-use Rattle.tcl_compile.proofs.Emits.{grown_one, grown_text, grown_escape, grown_var, grown_elem, grown_bracket, grown_deeper, grown_word, grown_command, grown_gathered, piece_leads, word_leads, gather_leads, leads_start, plain_at}
+use Rattle.tcl_compile.proofs.Emits.{grown_one, grown_text, grown_escape, grown_var, grown_elem, grown_bracket, grown_deeper, grown_nothing, grown_word, grown_command, grown_gathered, piece_leads, word_leads, gather_leads, leads_start, plain_at}
 use Rattle.tcl_compile.proofs.Paging.{are_none, are_some, behind_first, behind_less, first_split, grown_break, grown_continue, grown_increment, grown_expr, grown_if, grown_while, grown_body, grown_none, grown_last, grown_clause, grown_looped, grown_turns, grown_loop, grown_whole_for}
 use Rattle.tcl_compile.proofs.EachEmits.{each_short, grown_each, grown_each_turns, told_leads}
 use Rattle.tcl_compile.proofs.Forming.{grown_changed, change_long, form_plain, form_short, grown_guarded}
@@ -97,6 +97,13 @@ script::emit_pieces-emit_piece-requires t c =
     let nests : PartNests c.args.levels (part_of c.index-pieces-0.result) = parts_nest_at c.args.levels ps 0 (part_of c.index-pieces-0.result) c.requires.1.1.1.0 lt at in
     let within : PartWithin (length (chars c.args.whole.now) - 1) (part_of c.index-pieces-0.result) = parts_within_at (length (chars c.args.whole.now) - 1) ps 0 (part_of c.index-pieces-0.result) c.requires.1.1.1.1 lt at in
     search rules
+
+pub script::emit_pieces-returns-then-is_empty : goal.script::emit_pieces-returns-then-is_empty
+unfolding chars
+script::emit_pieces-returns-then-is_empty t c =
+    let ps = map part_of c.args.pieces.now in
+    let none = length-map c.args.pieces.now part_of ∙ are_none c.args.pieces.now c.is_empty.result c.is_empty.ensures c.if-is_empty.true in
+    on_ok_weaker c.push.result (λ h. grown_nothing c.args.context.dialect ps _ _ none h) c.push.ensures.done
 
 pub script::emit_pieces-returns-then-pieces-eq1 : goal.script::emit_pieces-returns-then-pieces-eq1
 script::emit_pieces-returns-then-pieces-eq1 t c =
