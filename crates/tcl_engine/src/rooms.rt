@@ -9,6 +9,7 @@ use std::marker::Model;
 use std::rc::Rc;
 use tcl_activation::Activation;
 use tcl_code::Code;
+use tcl_names::Hint;
 use tcl_values::Value;
 
 /// A code that runs, or waits for a command that it has called, at a place of its own. Contracts see it as its activation.
@@ -53,6 +54,8 @@ pub struct Rooms {
     pub(crate) elements: LastElements,
     // The words of a command that is done where it begins, while it is done.
     pub(crate) words: Vec<Value>,
+    // Where the variable stood whose name was composed last.
+    pub(crate) hint: Hint,
 }
 
 impl Rooms {
@@ -63,6 +66,7 @@ impl Rooms {
             first: None,
             elements: LastElements::new(alloc),
             words: Vec::new(alloc),
+            hint: Hint::new(),
         }
     }
 

@@ -23,6 +23,7 @@ use Rattle.tcl_steps.specs.Comes.{Comes}
 use Rattle.tcl_steps.specs.Ends.{Ends, EndsDone, stop_of}
 use Rattle.tcl_steps.specs.declared.stop.Stop.{Stop}
 use Rattle.tcl_steps.specs.declared.stop.Stop.TheVariants as stop
+use Rattle.tcl_vars.specs.Assigning.{lassign_of}
 
 -- ---- lassign(n)
 
@@ -33,23 +34,19 @@ values_are [] (suc n) (suc i) h = values_are [] n i (omega arith)
 values_are (e ∷ es) (suc n) zero h = refl
 values_are (e ∷ es) (suc n) (suc i) h = values_are es n i (omega arith)
 
--- what follows once the list is read
-abbrev pub lassign_of : List Text → List Text → Asks
-lassign_of names es = do
-  _ ← set_all names (values_for (length names) es)
-  done (normal (rest_behind (length names) es))
-
 pub lassign_is : (ws es : List Text) → length ws ≢ 0 → elements_of (get_or ws 0 []) ≡ Ok es → lassign_page ws ≡ lassign_of (drop 1 ws) es
 unfolding lassign_page
 lassign_is [] es h e = absurd (h refl)
 lassign_is (list ∷ names) es h e = ap (λ (r : Result (List Text) Text). judged r >>= lassign_of names) e
 
+pub elements_given : (names es : List Text) (f g : Standing) (t : Text) → t ≡ rest_behind (length names) es → Comes (set_all names (values_for (length names) es)) f (Has tt) g → Comes (lassign_of names es) f (Has (Done (normal t))) g
+elements_given names es f g t e h =
+    subst (λ (u : Text). Comes (lassign_of names es) f (Has (Done (normal u))) g) (sym e)
+    (has_on (set_all names (values_for (length names) es)) (λ u. done (normal (rest_behind (length names) es))) f g tt h)
+
 module _ (ws es : List Text) (f g : Standing) (some : length ws ≢ 0) (read : elements_of (get_or ws 0 []) ≡ Ok es) where
   pub lassign_done : (t : Text) → t ≡ rest_behind (length (drop 1 ws)) es → Comes (set_all (drop 1 ws) (values_for (length (drop 1 ws)) es)) f (Has tt) g → Comes (lassign_page ws) f (Has (Done (normal t))) g
-  lassign_done t e h =
-      subst (λ (p : Asks). Comes p f (Has (Done (normal t))) g) (sym (lassign_is ws es some read))
-      (subst (λ (u : Text). Comes (lassign_of (drop 1 ws) es) f (Has (Done (normal u))) g) (sym e)
-      (has_on (set_all (drop 1 ws) (values_for (length (drop 1 ws)) es)) (λ u. done (normal (rest_behind (length (drop 1 ws)) es))) f g tt h))
+  lassign_done t e h = subst (λ (p : Asks). Comes p f (Has (Done (normal t))) g) (sym (lassign_is ws es some read)) (elements_given (drop 1 ws) es f g t e h)
 
   pub lassign_stops : (s : Stop) → Ends (set_all (drop 1 ws) (values_for (length (drop 1 ws)) es)) f (Err s) g → EndsDone (lassign_page ws) f (Err s) g
   lassign_stops (stop.Error c) h =

@@ -1,4 +1,5 @@
 pub mod AssignLemmas
+pub mod AssignedTexts
 pub mod ElementLemmas
 pub mod GivenTexts
 pub mod JoinLemmas

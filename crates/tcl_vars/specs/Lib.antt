@@ -3,3 +3,4 @@ pub mod Updating
 pub mod Way
 pub mod Quick
 pub mod Given
+pub mod Assigning

@@ -2,7 +2,7 @@
 ghost use Rattle.std.specs.Prelude.{◌≡◌, ℕ, ◌<◌, ◌≤◌, List, [], drop, length, get_or, IfOk};
 ghost use Rattle.tcl_meaning.specs.Variables.{set, set_all};
 ghost use Rattle.tcl_meaning.specs.VariablePages.{lassign_page};
-ghost use Rattle.tcl_pages.specs.Lists.{rest_behind};
+ghost use Rattle.tcl_pages.specs.Lists.{rest_behind, values_for};
 ghost use Rattle.tcl_pages.specs.Texts.{Text};
 ghost use Rattle.tcl_steps.specs.Ends.{Does, Ends, EndsDone};
 ghost use Rattle.tcl_vars.specs.Given.{given_texts};
@@ -41,13 +41,27 @@ pub(crate) fn assign_all(
     names: &mut [Value],
     given: Given<'_>,
 ) -> Result<(), Stop>
-    ensures { (texts : List Text) → ((i : ℕ) → i < length names.old → get_or (given_texts given.entry) i [] ≡ get_or texts i []) → Ends (set_all names.old texts) frames.old result frames.new }
+    ensures ends { (texts : List Text) → ((i : ℕ) → i < length names.old → get_or (given_texts given.entry) i [] ≡ get_or texts i []) → Ends (set_all names.old texts) frames.old result frames.new }
+    ensures same { names.new ≡ names.old }
 {
     for place in 0..names.len() {
         let value = given.value_at(alloc, place)?;
         assign_at(alloc, frames, names, place, value)?;
     }
     Ok(())
+}
+
+/// Gives variables the elements of a list, from left to right, and empty texts where there are too few.
+pub(crate) fn assign_elements(
+    alloc: Global,
+    frames: &mut Frames,
+    names: &mut [Value],
+    row: &Row,
+) -> Result<(), Stop>
+    ensures ends { Ends (set_all names.old (values_for (length names.old) row.now)) frames.old result frames.new }
+    ensures same { names.new ≡ names.old }
+{
+    assign_all(alloc, frames, names, Given::Elements(row.items()))
 }
 
 // How many words stand behind the first one.
@@ -58,8 +72,8 @@ fn names_behind(words: &[Value]) -> usize
     words[1..].len()
 }
 
-// The elements that no name takes, as a list.
-fn rest_of(alloc: Global, row: &Row, count: usize) -> Result<Value, AllocError>
+/// The elements that no name takes, as a list.
+pub(crate) fn rest_of(alloc: Global, row: &Row, count: usize) -> Result<Value, AllocError>
     ensures { IfOk result (λ rest. rest ≡ rest_behind count row.now) }
 {
     let size = row.len();
@@ -86,8 +100,7 @@ fn lassign_words(
         Err(fault) => return Err(stop_by(alloc, fault)),
     };
     let count = names_behind(&*words);
-    let given = Given::Elements(row.items());
-    assign_all(alloc, frames, &mut words[1..], given)?;
+    assign_elements(alloc, frames, &mut words[1..], &row)?;
     let rest = rest_of(alloc, &row, count)?;
     Ok(Completion::normal(alloc, rest))
 }

@@ -1,11 +1,10 @@
 //! The words of commands that change variables, by their count.
-ghost use Rattle.std.specs.Prelude.{◌≡◌, ◌≤◌, true, false, length, [], ◌∷◌, drop, ◌++◌, IfOk};
+ghost use Rattle.std.specs.Prelude.{◌≡◌, ◌≤◌, ◌-◌, true, false, length, [], ◌∷◌, drop, ◌++◌, IfOk};
 ghost use Rattle.std.specs.Str.{chars};
 ghost use Rattle.tcl_chars.specs.Texts.{literal};
 ghost use Rattle.tcl_vars.specs.Updating.{usage_of, AddsOne, Fits};
 
-use crate::elements::push_copies;
-use std::alloc::{AllocError, Global};
+use std::alloc::AllocError;
 use tcl_pages::UpdatePage;
 use tcl_values::Value;
 
@@ -52,20 +51,14 @@ pub(crate) fn usage_of(page: UpdatePage) -> &'static str
     }
 }
 
-/// The words, and the increment 1 behind them.
-pub(crate) fn and_one(alloc: Global, words: &[Value]) -> Result<Vec<Value>, AllocError>
-    ensures { IfOk result (λ given. given.items ≡ words.now ++ literal "1" ∷ []) }
+/// The words behind a name, of which there is at most one, and the increment 1 behind them: they stand at the array's end.
+pub(crate) fn and_one(behind: &[Value]) -> Result<[Value; 2], AllocError>
+    requires { length behind.now ≤ 1 }
+    ensures { IfOk result (λ given. drop (1 - length behind.now) given ≡ behind.now ++ literal "1" ∷ []) }
 {
-    let mut given = Vec::new(alloc);
-    push_copies(&mut given, words)?;
-    given.push(Value::of_int(1))?;
-    Ok(given)
-}
-
-/// The words behind the first one, and the increment 1.
-pub(crate) fn with_one(alloc: Global, words: &[Value]) -> Result<Vec<Value>, AllocError>
-    requires { 1 ≤ length words.now }
-    ensures { IfOk result (λ given. given.items ≡ drop 1 words.now ++ literal "1" ∷ []) }
-{
-    and_one(alloc, &words[1..])
+    let first = match behind {
+        [] => Value::of_int(1),
+        [key, ..] => key.copy()?,
+    };
+    Ok([first, Value::of_int(1)])
 }

@@ -12,8 +12,8 @@ loop-place-preserved c = record {
       (c.in_ok-value.ensures ∙ agree c.loop-place.place c.loop-place-test.true) (c.loop-place.invariant.so_far ts agree) c.in_ok-assign_at.ensures.ends;
 }
 
-pub returns-in_err-assign_at : goal.returns-in_err-assign_at
-returns-in_err-assign_at c = λ ts agree.
+pub returns-in_err-assign_at-clause-ends : goal.returns-in_err-assign_at-clause-ends
+returns-in_err-assign_at-clause-ends c = λ ts agree.
     let p = err_from_is_err_and c.from_residual-in_err-assign_at.result c.from_residual-in_err-assign_at.ensures.1 in
     rw (p.1, p.2)
     (set_stops c.args.names.now ts c.loop-place.place (get_or c.loop-place.names c.loop-place.place []) c.in_ok-value.value _ _ _ c.loop-place-test.true

@@ -12,11 +12,11 @@ returns-in_err-assign_all c =
     let d = c.args.completion.now in
     rw (p.1, p.2)
     (caught_stops c.args.names.now d c.args.frames.now c.assign_all.new.frames c.in_err-assign_all.field-0.0
-    (c.in_err-assign_all.ensures (d.result ∷ options_text d ∷ []) (λ i lt. ap (λ (vs : List Text). get_or vs i []) c.deref.ensures.value ∙ c.in_ok-values.ensures i lt)))
+    (c.in_err-assign_all.ensures.ends (d.result ∷ options_text d ∷ []) (λ i lt. ap (λ (vs : List Text). get_or vs i []) c.deref.ensures.value ∙ c.in_ok-values.ensures i lt)))
 
 pub returns : goal.returns
 returns c =
     let d = c.args.completion.now in
     rw c.normal.ensures
     (caught_is c.args.names.now d c.args.frames.now c.assign_all.new.frames c.code_value-code.result (c.code_value-code.ensures ∙ ap (λ (k : Code). number_text (code_number k)) c.code_now.ensures)
-    (c.in_ok-assign_all.ensures (d.result ∷ options_text d ∷ []) (λ i lt. ap (λ (vs : List Text). get_or vs i []) c.deref.ensures.value ∙ c.in_ok-values.ensures i lt)))
+    (c.in_ok-assign_all.ensures.ends (d.result ∷ options_text d ∷ []) (λ i lt. ap (λ (vs : List Text). get_or vs i []) c.deref.ensures.value ∙ c.in_ok-values.ensures i lt)))

@@ -1,9 +1,7 @@
-use Rattle.std.proofs.Common.{◌-◌, ◌++◌, List, [], ◌∷◌, length, take, drop, Err, sym, ap, ◌∙◌}
-use Rattle.std.specs.Str.{chars}
-use Rattle.tcl_chars.specs.Texts.{literal, text_of}
+use Rattle.std.proofs.Common.{Err, sym, ap, ◌∙◌}
+use Rattle.tcl_chars.specs.Texts.{text_of}
 use Rattle.tcl_pages.specs.Texts.{Text}
 use Rattle.tcl_pages.specs.Usage.{usage_text}
-use Rattle.tcl_vars.proofs.AssignLemmas.{names_are}
 use Rattle.tcl_vars.proofs.UpdateLemmas.{words_refused, page_refused}
 use Rattle.tcl_vars.proofs.updating.update_words.Goals as goal
 
