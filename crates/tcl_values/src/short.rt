@@ -1,6 +1,6 @@
 //! Short texts, which stand in the value itself: nothing is allocated for them.
 
-ghost use Rattle.std.specs.Prelude.{◌≡◌, ◌++◌, ◌∷◌, [], IfSome};
+ghost use Rattle.std.specs.Prelude.{◌≡◌, ◌++◌, ◌∷◌, [], IfSome, IsTrue};
 ghost use Rattle.std.specs.Str.{chars, IsAscii};
 ghost use Rattle.tcl_values.specs.Short.{short_text, IsShort};
 
@@ -39,24 +39,20 @@ impl Short {
         Short::new().joined(text)
     }
 
-    // The text with one more character behind it, where both together are short and ASCII.
+    // Puts one more character behind the text, where both together are short and ASCII: tells whether it did.
     #[inline(always)]
-    fn with(&self, byte: u8) -> Option<Short>
-        requires { IsShort self.now }
-        ensures text { IfSome result (λ s. short_text s ≡ short_text self.now ++ byte ∷ []) }
-        ensures known { IfSome result (λ s. IsShort s) }
+    fn put(&mut self, byte: u8) -> bool
+        requires { IsShort self.old }
+        ensures text { IsTrue result → short_text self.new ≡ short_text self.old ++ byte ∷ [] }
+        ensures known { IsTrue result → IsShort self.new }
     {
         let count = self.count as usize;
         if count >= ROOM || !byte.is_ascii() {
-            return None;
+            return false;
         }
-        let mut bytes = self.bytes;
-        bytes[count] = byte;
-        Some(Short {
-            count: (count + 1) as u8,
-            bytes,
-            aligned: [],
-        })
+        self.bytes[count] = byte;
+        self.count = (count + 1) as u8;
+        true
     }
 
     /// The text with another one behind it, where both together are short and ASCII. The few characters are put one by one.
@@ -68,7 +64,9 @@ impl Short {
     {
         let mut whole = *self;
         for byte in more.as_bytes() {
-            whole = whole.with(*byte)?;
+            if !whole.put(*byte) {
+                return None;
+            }
         }
         Some(whole)
     }
