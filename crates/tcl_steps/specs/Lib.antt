@@ -1,4 +1,5 @@
 pub mod Asked
+pub mod AtOnce
 pub mod Comes
 pub mod CompletionShape
 pub mod Ends
