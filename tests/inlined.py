@@ -20,8 +20,8 @@ sys.dont_write_bytecode = True
 from batches import TOGETHER, Run, judge_all, number_behind, run_all, run_by_tclsh
 from program import Wrong, check
 
-NAMES = ("set", "incr", "expr", "if", "while", "for", "foreach", "switch", "return", "break", "continue")
-OTHERS = [name for name in NAMES if name != "foreach"]  # words of a foreach that change its own name: PLACES_IN_WORDS
+NAMES = ("set", "incr", "expr", "if", "while", "for", "foreach", "lmap", "switch", "return", "break", "continue")
+OTHERS = [name for name in NAMES if name not in ("foreach", "lmap")]  # words of a foreach or lmap that change its own name: PLACES_IN_WORDS
 COMMAND = re.compile(r"(?<![\w$:@])(" + "|".join(NAMES) + r")(?=@)")
 # What tclsh says beyond the message of a malformed expression.
 FAULT_OF_TCLSH = re.compile(rb" at _@_|\nin expression \"[^\n]*\"(?:;\nshould be [^\n]*)?")
@@ -81,6 +81,17 @@ class Script:
         self.random.shuffle(names)
         return " ".join(f"{name} {self.elements()}" for name in names[: self.pick(2, 2, 3)])
 
+    def gathered(self, depth):
+        """What the turns of an lmap result in, some of which may end it, or have no result."""
+        count = f"i{depth}"
+        last = self.pick(f"set@ a ${count}", f"expr@ {{{self.number()} + 1}}", f"list {self.number()} ${count}", "set@ b", "", f"if@ {{{self.condition()}}} {{list {{}} x}}")
+        body = self.pick("", lambda: f"{self.body(depth + 1, True)}; ", f"if@ {{{self.condition()}}} {self.pick('break@', 'continue@')}; ") + last
+        return self.pick(
+            f"lmap@ {count} {self.pick('{1 2 3}', '$l', '{}', '[list a b]')} {{{body}}}",
+            f"lmap@ {{{count} a}} {{1 2 3}} {{{body}}}",
+            f"lmap@ {self.lists(count)} {{{body}}}",
+        )
+
     def loop(self, depth):
         count, body = f"i{depth}", self.body(depth + 1, True)
         return self.pick(
@@ -91,6 +102,9 @@ class Script:
             f"foreach@ {{{count} a}} {{1 2 3}} {{{body}}}",
             f"foreach@ {self.lists(count)} {{{body}}}",
             f"foreach@ {self.lists(count)} {{puts $j/$a/$b; {body}}}",
+            lambda: f"puts [{self.gathered(depth)}]",
+            lambda: f"set@ l [{self.gathered(depth)}]",
+            lambda: self.gathered(depth),
         )
 
     def choice(self, depth, inner):
@@ -167,6 +181,7 @@ PLACES = [
     "foreach@ o {1 2 3 4} {for@ {change; change; set@ i 0} {$i < 2} {incr@ i} {USES}}",
     "foreach@ i {1 2 3 4} {change; change; USES}",
     "foreach@ {i j} {1 2 3 4 5} k {1 2 3 4} {change; change; USES}",
+    "puts [lmap@ i {1 2 3 4} {change; change; USES; set@ i}]",
     "foreach@ i {1 2 3 4} {if@ {[change; change]} {USES} else {puts no}}",
     "foreach@ i {1 2 3 4} {if@ {0} {puts no} elseif {[change; change]} {USES}}",
     "foreach@ i {1 2 3 4} {if@ {$i} {change; change; USES}; USES}",
@@ -178,6 +193,7 @@ PLACES = [
 # Places in words of a command: by the manual its name is looked up when they are there, and tclsh has compiled it before.
 PLACES_IN_WORDS = [
     "foreach@ o {1 2 3 4} {foreach@ i [change; change] {USES}}",
+    "foreach@ o {1 2 3 4} {puts [lmap@ i [change; change] {USES; set@ i}]}",
     "foreach@ i {1 2 3 4} {set@ v [change; change]; USES}",
     "foreach@ i {1 2 3 4} {incr@ v [change; change]; USES}",
     "foreach@ i {1 2 3 4} {switch@ -- [change; change] {1 {USES}}}",
@@ -188,6 +204,7 @@ USES = (
     "foreach@ x {1 2 3} {if@ {$x == 2} {continue@}; puts $x; incr@ n}; "
     "for@ {set@ k 0} {$k < 9} {incr@ k} {if@ {$k == 1} {break@}; puts k$k}; "
     "set@ k {}; while@ {$k eq {}} {append k .; incr@ n}; foreach@ x {1 2} y {a b} {puts $x$y}; "
+    "puts [lmap@ x {1 2 3 4} {if@ {$x == 2} {continue@}; if@ {$x == 4} {break@}; set@ x m$x}]; set@ x 2; "
     "switch@ -- $x {1 {puts one} 2 {incr@ n} default {puts other}}; puts [catch {return@ $x} r]$r"
 )
 BEGIN = "catch {rename unknown {}}; proc more {} {string match {[1-4]} [llength [lappend ::passed x]]}; "

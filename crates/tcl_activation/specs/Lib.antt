@@ -2,6 +2,7 @@ pub mod Piles
 pub mod PileLent
 pub mod Called
 pub mod Saved
+pub mod Collecting
 pub mod Dealing
 pub mod Laps
 pub mod Loops

@@ -1,5 +1,6 @@
 //! Loops whose bodies run.
 ghost use Rattle.std.specs.Prelude.{◌≡◌, ◌≤◌, ◌<◌, ◌+◌, ◌^◌, Bool, [], ◌∷◌, true, false, length, reverse, take, OnOk};
+ghost use Rattle.tcl_activation.specs.Collecting.{CollectsNewest};
 ghost use Rattle.tcl_activation.specs.Dealing.{DealsNewest};
 ghost use Rattle.tcl_activation.specs.Passing.{Passes};
 ghost use Rattle.tcl_activation.specs.Rounds.{IsOpen};
@@ -176,5 +177,17 @@ impl Loops {
     {
         let newest = self.open - 1;
         self.items[newest].deal(alloc, frames, name)
+    }
+
+    /// The newest of these results is one more word of the list under the newest that the newest has saved, where there is one: tells whether that is done.
+    /// Where memory is refused all is as it was.
+    #[inline(always)]
+    pub(crate) fn collect(&mut self, alloc: Global, results: &mut Results) -> bool
+        requires loops { 1 ≤ length self.old }
+        requires results { 1 ≤ length results.old }
+        ensures { CollectsNewest result results.old results.new self.old self.new }
+    {
+        let newest = self.open - 1;
+        self.items[newest].collect(alloc, results)
     }
 }

@@ -1,5 +1,6 @@
 //! A loop whose body runs, as it stands on the stack.
-ghost use Rattle.std.specs.Prelude.{◌≡◌, ◌+◌, ◌<◌, ◌^◌, [], ◌∷◌, drop, IfSome};
+ghost use Rattle.std.specs.Prelude.{◌≡◌, ◌≤◌, ◌+◌, ◌<◌, ◌^◌, [], ◌∷◌, drop, length, IfSome};
+ghost use Rattle.tcl_activation.specs.Collecting.{CollectsIf};
 ghost use Rattle.tcl_activation.specs.Dealing.{DealsIf};
 ghost use Rattle.tcl_activation.specs.Saved.{loop_of};
 ghost use Rattle.tcl_code.specs.Machine.{Texts};
@@ -146,5 +147,18 @@ impl OpenLoop {
         let word = self.lists.newest_mut().take();
         self.results.replace(Last::of_value(word));
         true
+    }
+
+    /// The newest of these results is one more word of the list under the newest that it has saved, where there is one: tells whether that is done. Where
+    /// memory is refused all is as it was.
+    #[inline(always)]
+    pub(crate) fn collect(&mut self, alloc: Global, results: &mut Results) -> bool
+        requires { 1 ≤ length results.old }
+        ensures { CollectsIf result results.old results.new self.old self.new }
+    {
+        if !self.lists.has_second() {
+            return true;
+        }
+        self.lists.second_mut().collect(alloc, results)
     }
 }

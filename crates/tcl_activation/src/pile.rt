@@ -1,8 +1,8 @@
 //! Values that are put on top of one another.
-ghost use Rattle.std.specs.Prelude.{◌≡◌, ◌≤◌, ◌<◌, ◌∷◌, ◌++◌, Some, [], true, false, length, take, drop, reverse, option_map, vec_len, vec_capacity, OnOk, OnErr, IfOk};
+ghost use Rattle.std.specs.Prelude.{◌≡◌, ◌≤◌, ◌<◌, ◌∷◌, ◌++◌, Some, [], true, false, length, take, drop, reverse, vec_len, vec_capacity, OnOk, IfOk};
 ghost use Rattle.std.specs.Borrow.{sem};
 ghost use Rattle.tcl_activation.specs.Piles.{Lifts};
-ghost use Rattle.tcl_activation.specs.PileLent.{LendsNewest, LendsTop};
+ghost use Rattle.tcl_activation.specs.PileLent.{LendsNewest, LendsSecond, LendsTop};
 
 use std::alloc::{AllocError, Global};
 use std::marker::Model;
@@ -130,6 +130,26 @@ impl<T: Drop> Pile<T> {
         ensures { drop 1 self.now ≡ result.now ∷ drop 2 self.now }
     {
         &self.items[self.items.len() - 2]
+    }
+
+    /// Does anything lie under the top?
+    #[inline(always)]
+    pub(crate) fn has_second(&self) -> bool
+        ensures two { result ≡ true → 2 ≤ length self.now }
+        ensures fewer { result ≡ false → length self.now < 2 }
+    {
+        self.items.len() >= 2
+    }
+
+    /// Lends what lies under the top.
+    #[inline(always)]
+    pub(crate) fn second_mut(&mut self) -> &mut T
+        requires { 2 ≤ length self.old }
+        ensures* writes_back { sem 𝓛 (LendsSecond T.row self.entry result) }
+        ensures value { drop 1 self.old ≡ result.now ∷ drop 2 self.old }
+    {
+        let second = self.items.len() - 2;
+        &mut self.items[second]
     }
 
     /// Lends what lies on top.

@@ -1,5 +1,6 @@
 //! How the last commands of open scripts have ended.
-ghost use Rattle.std.specs.Prelude.{◌≡◌, ◌≤◌, [], ◌∷◌, drop, false, length, IfOk, OnOk};
+ghost use Rattle.std.specs.Prelude.{◌≡◌, ◌≤◌, [], ◌∷◌, drop, false, length, IfOk, OnOk, OnErr};
+ghost use Rattle.tcl_activation.specs.Collecting.{newest_result};
 ghost use Rattle.tcl_meaning.specs.Completions.{nothing, normal};
 
 use crate::pile::grow;
@@ -106,6 +107,19 @@ impl Last {
             Kept::Nothing => Completion::nothing(alloc),
             Kept::Value(value) => Ok(Completion::normal(alloc, value)),
             Kept::Completion(completion) => Ok(completion),
+        }
+    }
+
+    // Its result is taken, and no command has ended yet. Where memory is refused it stays.
+    #[inline(always)]
+    fn take_text(&mut self, alloc: Global) -> Result<Value, AllocError>
+        ensures text { IfOk result (λ v. v ≡ self.old.result) }
+        ensures same { OnErr result (self.new ≡ self.old) }
+    {
+        match mem::replace(&mut self.kept, Kept::Nothing) {
+            Kept::Nothing => Ok(Completion::nothing(alloc)?.into_result()),
+            Kept::Value(value) => Ok(value),
+            Kept::Completion(completion) => Ok(completion.into_result()),
         }
     }
 
@@ -237,6 +251,17 @@ impl Results {
     {
         let newest = self.items.len() - 1;
         self.items[newest].forget();
+    }
+
+    /// The text of the newest is taken. Where memory is refused it stays.
+    #[inline(always)]
+    pub(crate) fn take_text(&mut self, alloc: Global) -> Result<Value, AllocError>
+        requires { 1 ≤ length self.old }
+        ensures text { IfOk result (λ v. v ≡ newest_result self.old) }
+        ensures same { OnErr result (self.new ≡ self.old) }
+    {
+        let newest = self.items.len() - 1;
+        self.items[newest].take_text(alloc)
     }
 
     /// The newest is taken away.

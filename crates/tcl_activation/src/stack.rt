@@ -1,12 +1,13 @@
 //! What stands where a code runs.
 ghost use Rattle.std.specs.Prelude.{◌≡◌, [], ◌∷◌, ◌++◌, ◌≤◌, ◌<◌, ◌+◌, Some, true, false, drop, length, IfOk, IfSome, OnOk};
+ghost use Rattle.tcl_activation.specs.Collecting.{CollectsWord};
 ghost use Rattle.tcl_chars.specs.Answers.{Answers};
 ghost use Rattle.tcl_code.specs.Machine.{taken};
 ghost use Rattle.tcl_meaning.specs.Completions.{nothing};
 ghost use Rattle.tcl_values.specs.Lists.{behind};
 
 use crate::loops::Loops;
-use crate::pile::Pile;
+use crate::pile::{Pile, grow};
 use crate::results::Results;
 use std::alloc::{AllocError, Global};
 use std::marker::Model;
@@ -68,6 +69,24 @@ impl Words {
     {
         self.items.push(word)?;
         Ok(())
+    }
+
+    /// The newest of these results is one more word, and is let go there: tells whether that is done. Where memory is refused all is as it was.
+    #[inline(always)]
+    pub(crate) fn collect(&mut self, alloc: Global, results: &mut Results) -> bool
+        requires { 1 ≤ length results.old }
+        ensures { CollectsWord result results.old results.new self.old self.new }
+    {
+        if self.items.len() >= self.items.capacity() {
+            let Ok(()) = grow(&mut self.items) else {
+                return false;
+            };
+        }
+        let Ok(text) = results.take_text(alloc) else {
+            return false;
+        };
+        self.items.push_reserved(text);
+        true
     }
 
     /// The words, and behind them all elements of a list.

@@ -13,7 +13,7 @@ use Rattle.tcl_code.specs.declared.inlined.Inlined.TheVariants as inlined
 use Rattle.tcl_code.specs.Guards.{name_of, page_of, which, number_of, is_same, stands_for, stands}
 
 numbered : ℕ → Inlined
-numbered n = get_or (inlined.Set ∷ inlined.Incr ∷ inlined.Expr ∷ inlined.If ∷ inlined.While ∷ inlined.For ∷ inlined.Foreach ∷ inlined.Switch ∷ inlined.Return ∷ inlined.Break ∷ inlined.Continue ∷ []) n inlined.Set
+numbered n = get_or (inlined.Set ∷ inlined.Incr ∷ inlined.Expr ∷ inlined.If ∷ inlined.While ∷ inlined.For ∷ inlined.Foreach ∷ inlined.Lmap ∷ inlined.Switch ∷ inlined.Return ∷ inlined.Break ∷ inlined.Continue ∷ []) n inlined.Set
 
 by_number : (p : Inlined) → numbered (number_of p) ≡ p
 unfolding numbered
@@ -24,6 +24,7 @@ by_number inlined.If = refl
 by_number inlined.While = refl
 by_number inlined.For = refl
 by_number inlined.Foreach = refl
+by_number inlined.Lmap = refl
 by_number inlined.Switch = refl
 by_number inlined.Return = refl
 by_number inlined.Break = refl
@@ -60,7 +61,7 @@ which_is page.If p e = let f : inlined.If ≡ p = cc in ap page_of f
 which_is page.While p e = let f : inlined.While ≡ p = cc in ap page_of f
 which_is page.For p e = let f : inlined.For ≡ p = cc in ap page_of f
 which_is page.Foreach p e = let f : inlined.Foreach ≡ p = cc in ap page_of f
-which_is page.Lmap p e = absurd (cc)
+which_is page.Lmap p e = let f : inlined.Lmap ≡ p = cc in ap page_of f
 which_is page.DictFor p e = absurd (cc)
 which_is page.Switch p e = let f : inlined.Switch ≡ p = cc in ap page_of f
 which_is page.Eval p e = absurd (cc)

@@ -34,6 +34,7 @@ module _ (ts us : CodeTexts) where
   same_ways instr.Duplicate s = refl
   same_ways (instr.SkipEmpty n) s = refl
   same_ways instr.DropList s = refl
+  same_ways instr.Listed s = refl
   same_ways (instr.Raise n) s = refl
   same_ways (instr.Guard p n) s = refl
   same_ways (instr.Under n) s = refl
@@ -42,6 +43,7 @@ module _ (ts us : CodeTexts) where
   same_ways instr.Become s = refl
   same_ways (instr.Body b n) s = refl
   same_ways instr.Again s = refl
+  same_ways instr.Collect s = refl
   same_ways instr.Break s = refl
   same_ways instr.Return s = refl
   same_ways instr.Continue s = refl
@@ -85,6 +87,7 @@ module _ (ts us : CodeTexts) where
   same_fine instr.Duplicate s h = h
   same_fine (instr.SkipEmpty n) s h = h
   same_fine instr.DropList s h = h
+  same_fine instr.Listed s h = h
   same_fine (instr.Raise n) s h = h
   same_fine (instr.Guard p n) s h = h
   same_fine (instr.Under n) s h = h
@@ -93,6 +96,7 @@ module _ (ts us : CodeTexts) where
   same_fine instr.Become s h = h
   same_fine (instr.Body b n) s h = h
   same_fine instr.Again s h = h
+  same_fine instr.Collect s h = h
   same_fine instr.Break s h = h
   same_fine instr.Return s h = h
   same_fine instr.Continue s h = h

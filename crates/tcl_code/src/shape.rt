@@ -163,6 +163,7 @@ impl Shape {
             | Instr::SkipEmpty(_)
             | Instr::Body(_, _)
             | Instr::Again
+            | Instr::Collect
             | Instr::Return
             | Instr::Break
             | Instr::Continue => Ok(self),
@@ -172,6 +173,11 @@ impl Shape {
                 ..self
             }),
             Instr::DropList => Ok(Shape {
+                lists: self.lists.saturating_sub(1),
+                ..self
+            }),
+            Instr::Listed => Ok(Shape {
+                height: one_more(self.height)?,
                 lists: self.lists.saturating_sub(1),
                 ..self
             }),
@@ -239,9 +245,11 @@ impl Shape {
             | Instr::Body(_, _)
             | Instr::Break
             | Instr::Continue => true,
-            Instr::TakeFirst | Instr::SkipEmpty(_) | Instr::DropList => self.lists >= 1,
+            Instr::TakeFirst | Instr::SkipEmpty(_) | Instr::DropList | Instr::Listed => {
+                self.lists >= 1
+            }
             Instr::Guard(_, _) => self.paid >= 1,
-            Instr::Again => self.loops >= 1 && self.has_nothing(),
+            Instr::Again | Instr::Collect => self.loops >= 1 && self.has_nothing(),
             Instr::ReadElement(_)
             | Instr::Duplicate
             | Instr::Return
@@ -291,6 +299,7 @@ pub(crate) fn leads_to(place: usize, count: usize, instr: Instr) -> Reached
         Instr::Raise(_)
         | Instr::Rare(TextInstr::Raise, _)
         | Instr::Again
+        | Instr::Collect
         | Instr::Return
         | Instr::Break
         | Instr::Continue => Reached {

@@ -1,5 +1,5 @@
 -- The bodies of loops, inlined: what is run under a loop of the code, and where it leads.
-use Rattle.std.proofs.Common.{◌≡◌, ℕ, suc, ◌+◌, ◌-◌, ◌<◌, ◌≤◌, Bool, true, false, List, [], ◌∷◌, ◌++◌, length, refl, sym, ap, ◌∙◌, subst, arith, length-append, cond, ⊎_elim}
+use Rattle.std.proofs.Common.{◌≡◌, ℕ, suc, ◌+◌, ◌-◌, ◌<◌, ◌≤◌, Bool, true, false, List, [], ◌∷◌, ◌++◌, length, Some, refl, sym, ap, ◌∙◌, subst, arith, length-append, cond, ⊎_elim}
 use Rattle.std.specs.Prelude.{nat_lt, if◌then◌else◌}
 use Rattle.std.proofs.lemmas.Bool.{cases_lt, lt-ltb, le-ltb}
 use Rattle.tcl_chars.specs.declared.numbers.Dialect.{Dialect}
@@ -17,29 +17,29 @@ use Rattle.tcl_meaning.specs.Tasks.{Script, Owes, Run as Runs_script}
 use Rattle.tcl_meaning.specs.Value.{fail}
 use Rattle.tcl_meaning.proofs.Reaching.{on_got_same}
 use Rattle.tcl_meaning.proofs.ScriptRules.{script_deep}
-use Rattle.tcl_code.specs.Instructions.{Instruction, Skip, Body, Again}
+use Rattle.tcl_code.specs.Instructions.{Instruction, Skip, Body, Again, Collect}
 use Rattle.tcl_code.specs.Machine as M
-use Rattle.tcl_code.specs.Machine.{Loop, Next, Stack, stack_of, with_result, result_at, Spot, spot, To, landed, landed_by, thrown_by, follow, act, behind_loop, exec_code, Ended}
+use Rattle.tcl_code.specs.Machine.{Loop, Next, Texts, Stack, collected, stack_of, with_result, result_at, Spot, spot, To, landed, landed_by, thrown_by, follow, act, behind_loop, exec_code, Ended}
 use Rattle.tcl_code.specs.Parts.{HasAt, Fits, Lands}
 use Rattle.tcl_code.specs.Valid.{target, IsFine, IsInside, EachWay, ways_of, bare_in, shape}
 use Rattle.tcl_code.specs.declared.shape.Shape.{Shape as Standing}
 use Rattle.tcl_code.proofs.Place.{has_front, has_back}
 use Rattle.tcl_code.proofs.Placing.{Stands, Placed, placed_joined, placed_fits}
 use Rattle.tcl_code.proofs.Steps.{one_done, final_done, same_done}
-use Rattle.tcl_compile.specs.Forms.{bodied}
+use Rattle.tcl_compile.specs.Forms.{body_end, bodied}
 use Rattle.tcl_compile.specs.Fragments.{Follows}
 use Rattle.tcl_compile.specs.Inlining.{asking}
 use Rattle.tcl_compile.proofs.Conditions.{ran_deeper}
 use Rattle.tcl_compile.proofs.Failing.{landed_stops}
 
--- after a body in a loop: on if the code is ok, out at `break`; at `continue` on, or it is the page's where it passes the loop
-abbrev pub goes_on : Bool → Code → Completion → Asks → Asks → Asks
-goes_on passes ending.Ok c on out = on
-goes_on passes ending.Continue c on out = if passes then fail c else on
-goes_on passes ending.Break c on out = out
-goes_on passes _ c on out = fail c
+-- after a body in a loop: on if the code is ok, out at `break`; at `continue` to the next turn, or it is the page's where it passes the loop
+abbrev pub goes_on : Bool → Code → Completion → Asks → Asks → Asks → Asks
+goes_on passes ending.Ok c on next out = on
+goes_on passes ending.Continue c on next out = if passes then fail c else next
+goes_on passes ending.Break c on next out = out
+goes_on passes _ c on next out = fail c
 
-pub stays_is : (k : Code) (c : Completion) (on out : Asks) → if_goes_on k c on out ≡ goes_on false k c on out
+pub stays_is : (k : Code) (c : Completion) (on out : Asks) → if_goes_on k c on out ≡ goes_on false k c on on out
 stays_is ending.Ok c on out = refl
 stays_is ending.Error c on out = refl
 stays_is ending.Return c on out = refl
@@ -47,8 +47,16 @@ stays_is ending.Break c on out = refl
 stays_is ending.Continue c on out = refl
 stays_is (ending.Other z) c on out = refl
 
-pub bodied_long : (passes : Bool) (b : List Instruction) → length (bodied passes b) ≡ length b + 2
-bodied_long passes b = omega (arith, length-append b (Again ∷ []))
+pub bodied_long : (passes gathers : Bool) (b : List Instruction) → length (bodied passes gathers b) ≡ length b + 2
+bodied_long passes gathers b = omega (arith, length-append b (body_end gathers ∷ []))
+
+-- the lists behind a body that has ended, whose result may be gathered
+abbrev pub lists_behind : Bool → Completion → List Texts → List Texts
+lists_behind true c ls = collected c.result ls
+lists_behind false c ls = ls
+
+abbrev pub stack_behind : Bool → Completion → Stack → Stack
+stack_behind gathers c stack = stack_of stack.texts (lists_behind gathers c stack.lists) stack.results stack.loops
 
 module _ (dialect : Dialect) where
   -- no loop takes any other completion
@@ -62,12 +70,12 @@ module _ (dialect : Dialect) where
   thrown_other next (o ∷ os) (ending.Other z) c s h j = refl
 
   -- a body has ended, where it was one more loop's
-  module _ (code : List Instruction) (o : Loop) (os : List Loop) {q r : Completion → Spot} (m d : ℕ) (on out : Asks) where
-    pub body_ends : (passes : Bool) → o.passes ≡ passes → {p : Spot} {s : State} (g : Got Completion) → Lands dialect code (o ∷ os) p s q g → ((c : Completion) (v : State) (k : ℕ) → exec_code dialect code (suc k) (q c) v ≡ exec_code dialect code k (behind_loop 1 o os) v)
-        → ((c : Completion) (v : State) → g ≡ Gives c v → Lands dialect code os (behind_loop 1 o os) v r (exec (Run dialect) (asking dialect m on d) v)) → ((v : State) → Lands dialect code os (behind_loop 0 o os) v r (exec (Run dialect) (asking dialect m out d) v))
-        → Lands dialect code os p s r (on_got g (λ c v. exec (Run dialect) (asking dialect m (goes_on passes (code_now c) c on out) d) v))
+  module _ (code : List Instruction) (o : Loop) (os : List Loop) {q r : Completion → Spot} (m d : ℕ) (behind : Completion → Spot) (on : Completion → Asks) (further out : Asks) where
+    pub body_ends : (passes : Bool) → o.passes ≡ passes → {p : Spot} {s : State} (g : Got Completion) → Lands dialect code (o ∷ os) p s q g → ((c : Completion) (v : State) (k : ℕ) → exec_code dialect code (suc k) (q c) v ≡ exec_code dialect code k (behind c) v)
+        → ((c : Completion) (v : State) → g ≡ Gives c v → Lands dialect code os (behind c) v r (exec (Run dialect) (asking dialect m (on c) d) v)) → ((c : Completion) (v : State) → g ≡ Gives c v → Lands dialect code os (behind_loop 1 o os) v r (exec (Run dialect) (asking dialect m further d) v)) → ((v : State) → Lands dialect code os (behind_loop 0 o os) v r (exec (Run dialect) (asking dialect m out d) v))
+        → Lands dialect code os p s r (on_got g (λ c v. exec (Run dialect) (asking dialect m (goes_on passes (code_now c) c (on c) further out) d) v))
     unfolding answered
-    body_ends passes is {p} {s} (Gives c v) l again n x = by_code (code_now c) refl
+    body_ends passes is {p} {s} (Gives c v) l again n y x = by_code (code_now c) refl
       where
         other : (k : Code) → code_now c ≡ k → (k ≡ ending.Ok → ⊥) → (k ≡ ending.Break → ⊥) → (k ≡ ending.Continue → ⊥) → Lands dialect code os p s r (Gives c v)
         other k e h i j = record {
@@ -84,7 +92,7 @@ module _ (dialect : Dialect) where
         continued : code_now c ≡ ending.Continue → (k : ℕ) → landed (exec_code dialect code k) (o ∷ os) q (Gives c v) ≡ cond passes (thrown_by (exec_code dialect code k) os ending.Continue c v) (exec_code dialect code k (behind_loop 1 o os) v)
         continued e k = ap (λ w. landed_by (exec_code dialect code k) (o ∷ os) q w c v) e ∙ ap (λ w. cond w (thrown_by (exec_code dialect code k) os ending.Continue c v) (exec_code dialect code k (behind_loop 1 o os) v)) is
 
-        by_passing : (b : Bool) → passes ≡ b → code_now c ≡ ending.Continue → Lands dialect code os p s r (exec (Run dialect) (asking dialect m (if b then fail c else on) d) v)
+        by_passing : (b : Bool) → passes ≡ b → code_now c ≡ ending.Continue → Lands dialect code os p s r (exec (Run dialect) (asking dialect m (if b then fail c else further) d) v)
         by_passing true f e = record {
           by = λ z.
               let a = l.by z in
@@ -92,12 +100,12 @@ module _ (dialect : Dialect) where
         }
         by_passing false f e = record {
           by = λ z.
-              let b = (n c v refl).by z in
+              let b = (y c v refl).by z in
               let a = l.by b.0 in
               (a.0, omega (arith, a.1, b.1), a.2 ∙ continued e b.0 ∙ ap (λ w. cond w (thrown_by (exec_code dialect code b.0) os ending.Continue c v) (exec_code dialect code b.0 (behind_loop 1 o os) v)) f ∙ b.2);
         }
 
-        by_code : (k : Code) → code_now c ≡ k → Lands dialect code os p s r (exec (Run dialect) (asking dialect m (goes_on passes k c on out) d) v)
+        by_code : (k : Code) → code_now c ≡ k → Lands dialect code os p s r (exec (Run dialect) (asking dialect m (goes_on passes k c (on c) further out) d) v)
         by_code ending.Ok e = record {
           by = λ z.
               let b = (n c v refl).by z in
@@ -114,13 +122,14 @@ module _ (dialect : Dialect) where
         by_code ending.Error e = other ending.Error e (λ z. cc) (λ z. cc) (λ z. cc)
         by_code ending.Return e = other ending.Return e (λ z. cc) (λ z. cc) (λ z. cc)
         by_code (ending.Other y) e = other (ending.Other y) e (λ z. cc) (λ z. cc) (λ z. cc)
-    body_ends passes is (Broke u) l again n x = record { by = l.by }
-    body_ends passes is (Exits y u) l again n x = record { by = l.by }
-    body_ends passes is (Untold c) l again n x = record { by = l.by }
+    body_ends passes is (Broke u) l again n y x = record { by = l.by }
+    body_ends passes is (Exits w u) l again n y x = record { by = l.by }
+    body_ends passes is (Untold c) l again n y x = record { by = l.by }
 
   -- ---- a body that a page asks for
 
-  module _ (code : List Instruction) (at : ℕ) (passes : Bool) (body : Text) (b : List Instruction) (f : Follows dialect b body) (has : HasAt code at (bodied passes b)) (last : Completion) (stack : Stack) (d m : ℕ) (owes : Owes) (on out : Asks) (owe : (c : Completion) → owed dialect owes c ≡ goes_on passes (code_now c) c on out) where
+  module _ (code : List Instruction) (at : ℕ) (passes gathers : Bool) (body : Text) (b : List Instruction) (f : Follows dialect b body) (has : HasAt code at (bodied passes gathers b)) (last : Completion) (stack : Stack) (d m : ℕ) (owes : Owes) (on : Completion → Asks) (further out : Asks)
+      (owe : (c : Completion) → owed dialect owes c ≡ goes_on passes (code_now c) c (on c) further out) where
     abbrev loop : Loop
     loop = record { at = at + 1 + (length b + 1); passes = passes; texts = stack.texts; lists = stack.lists; results = last ∷ stack.results; depth = d }
 
@@ -128,24 +137,33 @@ module _ (dialect : Dialect) where
     within = stack_of [] [] [] (loop ∷ stack.loops)
 
     abbrev finish : ℕ
-    finish = at + length (bodied passes b)
+    finish = at + length (bodied passes gathers b)
 
     abbrev Onward : Completion → State → Got Completion
-    Onward c v = exec (Run dialect) (asking dialect m (goes_on passes (code_now c) c on out) d) v
+    Onward c v = exec (Run dialect) (asking dialect m (goes_on passes (code_now c) c (on c) further out) d) v
 
     ran : (u : State) → exec (Run dialect) (answered dialect (owed dialect) d (suc m) (Runs_script Here body owes)) u ≡ on_got (Run dialect (Script (suc d) nothing body) u) Onward
     ran u =
         ran_deeper dialect m d body owes u
         ∙ on_got_same (Run dialect (Script (suc d) nothing body) u) (λ c v. exec (Run dialect) (asking dialect m (owed dialect owes c) d) v) Onward (λ c v. ap (λ pg. exec (Run dialect) (asking dialect m pg d) v) (owe c))
 
-    again : (c : Completion) (v : State) (k : ℕ) → exec_code dialect code (suc k) (result_at (at + 1 + length b) within (suc d) c) v ≡ exec_code dialect code k (behind_loop 1 loop stack.loops) v
-    again c v k = ap (λ i. act dialect i (exec_code dialect code k) (result_at (at + 1 + length b) within (suc d) c) v) (has_back code (at + 1) b (Again ∷ []) has.1).0
+    -- where the body has ended
+    abbrev ended : Completion → Spot
+    ended c = behind_loop 1 (record loop { lists = lists_behind gathers c stack.lists }) stack.loops
+
+    ends_there : (g : Bool) (c : Completion) (v : State) (k : ℕ) → act dialect (Some (body_end g)) (exec_code dialect code k) (result_at (at + 1 + length b) within (suc d) c) v ≡ exec_code dialect code k (behind_loop 1 (record loop { lists = lists_behind g c stack.lists }) stack.loops) v
+    ends_there true c v k = refl
+    ends_there false c v k = refl
+
+    again : (c : Completion) (v : State) (k : ℕ) → exec_code dialect code (suc k) (result_at (at + 1 + length b) within (suc d) c) v ≡ exec_code dialect code k (ended c) v
+    again c v k = ap (λ i. act dialect i (exec_code dialect code k) (result_at (at + 1 + length b) within (suc d) c) v) (has_back code (at + 1) b (body_end gathers ∷ []) has.1).0 ∙ ends_there gathers c v k
 
     -- where it ends the code goes on past one more instruction, and at that one after `break`
-    pub bodied_lands : (r : Completion → Spot) (u : State) → ((c : Completion) (v : State) → Run dialect (Script (suc d) nothing body) u ≡ Gives c v → Lands dialect code stack.loops (spot (finish + 1) (with_result last stack) d) v r (exec (Run dialect) (asking dialect m on d) v))
+    pub bodied_lands : (r : Completion → Spot) (u : State) → ((c : Completion) (v : State) → Run dialect (Script (suc d) nothing body) u ≡ Gives c v → Lands dialect code stack.loops (spot (finish + 1) (with_result last (stack_behind gathers c stack)) d) v r (exec (Run dialect) (asking dialect m (on c) d) v))
+        → ((c : Completion) (v : State) → Run dialect (Script (suc d) nothing body) u ≡ Gives c v → Lands dialect code stack.loops (spot (finish + 1) (with_result last stack) d) v r (exec (Run dialect) (asking dialect m further d) v))
         → ((v : State) → Lands dialect code stack.loops (spot finish (with_result last stack) d) v r (exec (Run dialect) (asking dialect m out d) v)) → Lands dialect code stack.loops (spot at (with_result last stack) d) u r (exec (Run dialect) (answered dialect (owed dialect) d (suc m) (Runs_script Here body owes)) u)
     unfolding answered
-    bodied_lands r u n x = same_done dialect code (sym (ran u)) (⊎_elim deep shallow (cases_lt most_depth (suc d)))
+    bodied_lands r u n y x = same_done dialect code (sym (ran u)) (⊎_elim deep shallow (cases_lt most_depth (suc d)))
       where
         deep : most_depth < suc d → Lands dialect code stack.loops (spot at (with_result last stack) d) u r (on_got (Run dialect (Script (suc d) nothing body) u) Onward)
         deep gt =
@@ -154,13 +172,14 @@ module _ (dialect : Dialect) where
 
         shallow : suc d ≤ most_depth → Lands dialect code stack.loops (spot at (with_result last stack) d) u r (on_got (Run dialect (Script (suc d) nothing body) u) Onward)
         shallow le =
-            let e0 : finish ≡ at + 1 + (length b + 1) + 0 = omega (arith, bodied_long passes b) in
-            let e1 : finish + 1 ≡ at + 1 + (length b + 1) + 1 = omega (arith, bodied_long passes b) in
+            let e0 : finish ≡ at + 1 + (length b + 1) + 0 = omega (arith, bodied_long passes gathers b) in
+            let e1 : finish + 1 ≡ at + 1 + (length b + 1) + 1 = omega (arith, bodied_long passes gathers b) in
             one_done dialect code (Body passes (length b + 1)) has.0 (ap (λ z. cond z (M.Fails too_deep u) (To (spot (at + 1) (with_result nothing within) (suc d)) u)) (le-ltb most_depth (suc d) le))
-            (body_ends code loop stack.loops m d on out passes refl (Run dialect (Script (suc d) nothing body) u)
-            (f.from code (at + 1) nothing within (suc d) u refl le (has_front code (at + 1) b (Again ∷ []) has.1))
+            (body_ends code loop stack.loops m d ended on further out passes refl (Run dialect (Script (suc d) nothing body) u)
+            (f.from code (at + 1) nothing within (suc d) u refl le (has_front code (at + 1) b (body_end gathers ∷ []) has.1))
             again
-            (λ c v k. subst (λ p. Lands dialect code stack.loops (spot p (with_result last stack) d) v r (exec (Run dialect) (asking dialect m on d) v)) e1 (n c v k))
+            (λ c v k. subst (λ p. Lands dialect code stack.loops (spot p (with_result last (stack_behind gathers c stack)) d) v r (exec (Run dialect) (asking dialect m (on c) d) v)) e1 (n c v k))
+            (λ c v k. subst (λ p. Lands dialect code stack.loops (spot p (with_result last stack) d) v r (exec (Run dialect) (asking dialect m further d) v)) e1 (y c v k))
             (λ v. subst (λ p. Lands dialect code stack.loops (spot p (with_result last stack) d) v r (exec (Run dialect) (asking dialect m out d) v)) e0 (x v)))
 
 -- ---- shapes
@@ -189,7 +208,7 @@ pub record Opens (c : List Instruction) (s : Standing) : Type 0 where
   pub ends : shapes (length c) ≡ s
   pub placed : (table : ℕ → Standing) (count at : ℕ) → at + length c + 1 ≤ count → ((n : ℕ) → n ≤ length c → table (at + n) ≡ shapes n) → table (at + length c + 1) ≡ s → Placed table count at c
 
-module _ (passes : Bool) (b : List Instruction) (h l d p o : ℕ) (y : Fits b (bare_in (o + 1)) (bare_in (o + 1))) where
+module _ (passes gathers : Bool) (b : List Instruction) (h l d p o : ℕ) (y : Fits b (bare_in (o + 1)) (bare_in (o + 1))) where
   abbrev Base : Standing
   Base = shape h l d p o
 
@@ -208,14 +227,18 @@ module _ (passes : Bool) (b : List Instruction) (h l d p o : ℕ) (y : Fits b (b
   unfolding body_shapes
   at_end n e = piece_back 1 (λ n. Base) (piece (length b + 1) y.at (λ n. Base)) (length b + 1) n (omega arith) ∙ piece_back (length b + 1) y.at (λ n. Base) 0 (length b + 1) (omega arith)
 
-  pub bodied_opens : Opens (bodied passes b) Base
-  bodied_opens = record { shapes = body_shapes; starts = in_front 0 refl; ends = at_end (length (bodied passes b)) (bodied_long passes b); placed = go }
+  end_stands : (table : ℕ → Standing) (count n : ℕ) (g : Bool) → table n ≡ bare_in (o + 1) → Stands table count n (body_end g)
+  end_stands table count n true e = stands_at table count n Collect (bare_in (o + 1)) e (refl, omega arith) tt
+  end_stands table count n false e = stands_at table count n Again (bare_in (o + 1)) e (refl, omega arith) tt
+
+  pub bodied_opens : Opens (bodied passes gathers b) Base
+  bodied_opens = record { shapes = body_shapes; starts = in_front 0 refl; ends = at_end (length (bodied passes gathers b)) (bodied_long passes gathers b); placed = go }
     where
-      go : (table : ℕ → Standing) (count at : ℕ) → at + length (bodied passes b) + 1 ≤ count → ((n : ℕ) → n ≤ length (bodied passes b) → table (at + n) ≡ body_shapes n) → table (at + length (bodied passes b) + 1) ≡ Base → Placed table count at (bodied passes b)
+      go : (table : ℕ → Standing) (count at : ℕ) → at + length (bodied passes gathers b) + 1 ≤ count → ((n : ℕ) → n ≤ length (bodied passes gathers b) → table (at + n) ≡ body_shapes n) → table (at + length (bodied passes gathers b) + 1) ≡ Base → Placed table count at (bodied passes gathers b)
       go table count at le same past =
-          let long = bodied_long passes b in
+          let long = bodied_long passes gathers b in
           let as_is : (n m : ℕ) → n ≡ at + m → m ≤ length b + 2 → table n ≡ body_shapes m = λ n m e k. ap table e ∙ same m (omega (arith, k, long)) in
-          let ahead : (n : ℕ) → n ≡ at + (length b + 3) → table n ≡ Base = λ n e. let z : n ≡ at + length (bodied passes b) + 1 = omega (arith, e, long) in ap table z ∙ past in
+          let ahead : (n : ℕ) → n ≡ at + (length b + 3) → table n ≡ Base = λ n e. let z : n ≡ at + length (bodied passes gathers b) + 1 = omega (arith, e, long) in ap table z ∙ past in
           let on_body : Stands table count at (Body passes (length b + 1)) = stands_at table count at (Body passes (length b + 1)) Base (as_is at 0 (omega arith) (omega arith) ∙ in_front 0 refl) tt (
             (omega (arith, le, long), as_is (at + 1 + (length b + 1)) (length b + 2) (omega arith) (omega arith) ∙ at_end (length b + 2) refl),
             (
@@ -223,9 +246,9 @@ module _ (passes : Bool) (b : List Instruction) (h l d p o : ℕ) (y : Fits b (b
               ((omega (arith, le, long), as_is (at + 1 + 0) 1 (omega arith) (omega arith) ∙ in_body 1 0 (omega arith) (omega arith) ∙ y.starts), tt),
             ),
           ) in
-          let on_again : Stands table count (at + 1 + length b) Again = stands_at table count (at + 1 + length b) Again (bare_in (o + 1)) (as_is (at + 1 + length b) (1 + length b) (omega arith) (omega arith) ∙ in_body (1 + length b) (length b) refl (omega arith) ∙ y.ends) (refl, omega arith) tt in (
+          let on_again : Stands table count (at + 1 + length b) (body_end gathers) = end_stands table count (at + 1 + length b) gathers (as_is (at + 1 + length b) (1 + length b) (omega arith) (omega arith) ∙ in_body (1 + length b) (length b) refl (omega arith) ∙ y.ends) in (
             on_body,
-            placed_joined table count (at + 1) b (Again ∷ []) (placed_fits table count b (bare_in (o + 1)) (bare_in (o + 1)) y (at + 1) (omega (arith, le, long)) (λ m k. as_is (at + 1 + m) (1 + m) (omega arith) (omega (arith, k)) ∙ in_body (1 + m) m refl k)) (on_again, tt),
+            placed_joined table count (at + 1) b (body_end gathers ∷ []) (placed_fits table count b (bare_in (o + 1)) (bare_in (o + 1)) y (at + 1) (omega (arith, le, long)) (λ m k. as_is (at + 1 + m) (1 + m) (omega arith) (omega (arith, k)) ∙ in_body (1 + m) m refl k)) (on_again, tt),
           )
 
 -- one of them past another, whose end leads to the end of that

@@ -1,4 +1,4 @@
--- `foreach`, as a command of a script.
+-- `foreach` or `lmap`, as a command of a script.
 use Rattle.std.proofs.Common.{◌≡◌, ℕ, ◌+◌, Bool, true, false, List, [], ◌∷◌, ◌++◌, length, drop, refl, sym, ap, ◌∙◌, subst, arith, append_assoc, append-nil, length-append, cond}
 use Rattle.tcl_chars.specs.declared.numbers.Dialect.{Dialect}
 use Rattle.tcl_list.specs.Elements.{elements_of}
@@ -16,11 +16,10 @@ use Rattle.tcl_code.specs.Instructions.{Instruction, Call, Guard, Skip}
 use Rattle.tcl_code.specs.Machine.{Stack, To, spot, with_result, result_at}
 use Rattle.tcl_code.specs.Parts.{Does, HasAt, Lands, Runs}
 use Rattle.tcl_code.specs.Valid.{Ahead, shape}
-use Rattle.tcl_code.specs.declared.inlined.Inlined.TheVariants as inlined
 use Rattle.tcl_code.proofs.Place.{has_front, has_back}
 use Rattle.tcl_code.proofs.Shapes.{fits_joined, fits_same}
 use Rattle.tcl_code.proofs.Steps.{one_done, here_done, moved_done, same_done}
-use Rattle.tcl_compile.specs.Eaches.{AreEachTexts, AreEachWords, AreListTexts, AreListWords, AreTexts, EachCode, Tells, takes}
+use Rattle.tcl_compile.specs.Eaches.{AreEachTexts, AreEachWords, AreListTexts, AreListWords, AreTexts, EachCode, Tells, each_command, takes}
 use Rattle.tcl_compile.specs.Forms.{bodied, page_does}
 use Rattle.tcl_compile.specs.Fragments.{Follows, stacked, words_value}
 use Rattle.tcl_compile.specs.Literals.{IsLiteral}
@@ -53,10 +52,10 @@ list_texts names body (w0 ∷ w1 ∷ ws) (t ∷ u ∷ ts) h k =
     let is : t ≡ list.0 = k.0 list.0 list.1 in
     (h.0, h.1, h.2, (ap elements_of is ∙ list.2.0, list.2.1), list_texts h.1 body ws ts h.4 k.1.1)
 
-each_texts : (names : List Text) (body : Text) (ws : List Shape) (ts : List Text) → AreEachWords names body ws → AreTexts ws ts → AreEachTexts names body ts
-each_texts names body [] ts h k = absurd h
-each_texts names body (w ∷ ws) [] h k = absurd k
-each_texts names body (w ∷ ws) (t ∷ ts) h k = (k.0 (name_of inlined.Foreach) h.0, h.1, list_texts names body ws ts h.2 k.1)
+each_texts : (gathers : Bool) (names : List Text) (body : Text) (ws : List Shape) (ts : List Text) → AreEachWords gathers names body ws → AreTexts ws ts → AreEachTexts gathers names body ts
+each_texts gathers names body [] ts h k = absurd h
+each_texts gathers names body (w ∷ ws) [] h k = absurd k
+each_texts gathers names body (w ∷ ws) (t ∷ ts) h k = (k.0 (name_of (each_command gathers)) h.0, h.1, list_texts names body ws ts h.2 k.1)
 
 abbrev value_in : Got (Value Text) → Text
 value_in (Gives (Has t) u) = t
@@ -83,24 +82,24 @@ module _ (dialect : Dialect) where
     pays = λ h l d p o. fits_same (ap (λ m. shape m l d (p + 1) o) (omega arith)) refl (f.pays h 0 l d p o (omega arith));
   }
 
-  module _ (names : List Text) (body : Text) (all : List Shape) (n : ℕ) (e : List Instruction) (words : AreEachWords names body all) (x : EachCode dialect n names body e) where
+  module _ (gathers : Bool) (names : List Text) (body : Text) (all : List Shape) (n : ℕ) (e : List Instruction) (words : AreEachWords gathers names body all) (x : EachCode dialect gathers n names body e) where
     abbrev i : Instruction
-    i = Guard inlined.Foreach (length e + 1)
+    i = Guard (each_command gathers) (length e + 1)
 
     abbrev whole : List Instruction
     whole = fork i e (Call n ∷ [])
 
-    named : (ts : List Text) (d : ℕ) (s : State) → AreEachTexts names body ts → exec (Run dialect) (words_value dialect d ts []) s ≡ exec (Run dialect) (page_in dialect d (invoked dialect (name_of inlined.Foreach ∷ drop 1 ts))) s
+    named : (ts : List Text) (d : ℕ) (s : State) → AreEachTexts gathers names body ts → exec (Run dialect) (words_value dialect d ts []) s ≡ exec (Run dialect) (page_in dialect d (invoked dialect (name_of (each_command gathers) ∷ drop 1 ts))) s
     named [] d s h = absurd h
     named (t ∷ ts) d s h = words_last dialect d (t ∷ ts) s ∙ ap (λ u. exec (Run dialect) (page_in dialect d (invoked dialect (u ∷ ts))) s) h.0
 
-    go : (code : List Instruction) (at : ℕ) (ts : List Text) (r : Completion) (stack : Stack) (d : ℕ) (s : State) → AreEachTexts names body ts → length ts ≡ n → HasAt code at whole → (b : Bool) → stands inlined.Foreach s.store ≡ b
+    go : (code : List Instruction) (at : ℕ) (ts : List Text) (r : Completion) (stack : Stack) (d : ℕ) (s : State) → AreEachTexts gathers names body ts → length ts ≡ n → HasAt code at whole → (b : Bool) → stands (each_command gathers) s.store ≡ b
         → Lands dialect code stack.loops (spot at (stacked ts (with_result r stack)) d) s (result_at (at + length whole) stack d) (exec (Run dialect) (words_value dialect d ts []) s)
     go code at ts r stack d s are long has true k =
         let back = has_back code (at + 1) e (Skip 1 ∷ Call n ∷ []) has.1 in
         one_done dialect code i has.0 (ap (λ b. To (spot (cond b (at + 1) (at + 1 + (length e + 1))) (stacked ts (with_result r stack)) d) s) k)
-        (same_done dialect code (sym (named ts d s are ∙ invoked_stands dialect inlined.Foreach (drop 1 ts) d s k))
-        (further dialect code (exec (Run dialect) (page_does dialect inlined.Foreach (drop 1 ts) d) s) (x.from code (at + 1) ts r stack d s are long (has_front code (at + 1) e (Skip 1 ∷ Call n ∷ []) has.1))
+        (same_done dialect code (sym (named ts d s are ∙ invoked_stands dialect (each_command gathers) (drop 1 ts) d s k))
+        (further dialect code (exec (Run dialect) (page_does dialect (each_command gathers) (drop 1 ts) d) s) (x.from code (at + 1) ts r stack d s are long (has_front code (at + 1) e (Skip 1 ∷ Call n ∷ []) has.1))
         (λ c u fine. one_done dialect code (Skip 1) back.0 refl (here_done dialect code (omega (arith, length-append e (Skip 1 ∷ Call n ∷ []))) fine))))
     go code at ts r stack d s are long has false k =
         let back = has_back code (at + 1) e (Skip 1 ∷ Call n ∷ []) has.1 in
@@ -111,14 +110,14 @@ module _ (dialect : Dialect) where
 
     pub tells_end : Tells dialect n all whole []
     tells_end = record {
-      from = λ code at front ts r stack d s is are long has. go code at ts r stack d s (each_texts names body all ts words (subst (λ ws. AreTexts ws ts) (sym (is ∙ append-nil front)) are)) (omega (arith, long)) has (stands inlined.Foreach s.store) refl;
+      from = λ code at front ts r stack d s is are long has. go code at ts r stack d s (each_texts gathers names body all ts words (subst (λ ws. AreTexts ws ts) (sym (is ∙ append-nil front)) are)) (omega (arith, long)) has (stands (each_command gathers) s.store) refl;
       pays = λ h k l d p o same. past_fits i e (Call n ∷ []) (shape (h + k) l d (p + 1) o) (shape (h + k) l d p o) (shape (h + k) l d (p + 1) o) (shape h l d p o)
           (fits_same (ap (λ m. shape m l d p o) (omega (arith, same))) refl (x.fits h l d p o)) ((calls_end dialect n).pays h k l d p o same) (omega arith)
           (ap (λ m. (Ahead (length e + 1), shape (h + k) l d (p + 1) o) ∷ (Ahead 0, shape (h + k) l d m o) ∷ []) (omega arith));
     }
 
-  pub each_uses : (n : ℕ) (names : List Text) (body : Text) (b : List Instruction) → Follows dialect b body → EachCode dialect n names body (each_code n (takes names) (bodied false b))
-  each_uses n names body b f = record {
-    from = λ code at ts last stack d s are long has. each_lands dialect names body b f n code at ts last stack d s are long has;
-    fits = λ h l d p o. each_fits (takes names) (bodied false b) h l d p o (takes_fit names h l d p o) (bodied_opens false b h (l + 1) d p o (f.keeps 0 0 0 0 (o + 1))) n;
+  pub each_uses : (gathers : Bool) (n : ℕ) (names : List Text) (body : Text) (b : List Instruction) → Follows dialect b body → EachCode dialect gathers n names body (each_code gathers n (takes names) (bodied false gathers b))
+  each_uses gathers n names body b f = record {
+    from = λ code at ts last stack d s are long has. each_lands dialect gathers names body b f n code at ts last stack d s are long has;
+    fits = λ h l d p o. each_fits gathers n (takes names) (bodied false gathers b) h l d p o (λ k. takes_fit names h k d p o) (λ k. bodied_opens false gathers b h (k + 1) d p o (f.keeps 0 0 0 0 (o + 1)));
   }

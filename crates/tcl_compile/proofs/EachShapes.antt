@@ -1,15 +1,15 @@
--- The shapes of an inlined `foreach`.
-use Rattle.std.proofs.Common.{◌≡◌, ℕ, ◌+◌, ◌-◌, ◌<◌, ◌≤◌, List, [], ◌∷◌, ◌++◌, length, refl, sym, ap, ◌∙◌, subst, arith, append_assoc, length-append, ⊎_elim}
+-- The shapes of an inlined `foreach` or `lmap`.
+use Rattle.std.proofs.Common.{◌≡◌, ℕ, ◌+◌, ◌-◌, ◌<◌, ◌≤◌, Bool, true, false, List, [], ◌∷◌, ◌++◌, length, refl, sym, ap, ◌∙◌, subst, arith, append_assoc, length-append, ⊎_elim}
 use Rattle.std.proofs.lemmas.Bool.{cases_lt}
 use Rattle.tcl_pages.specs.Texts.{Text}
-use Rattle.tcl_code.specs.Instructions.{Instruction, Push, Deal, TakeFirst, SkipEmpty, DropList, Write, Answer, Skip, Turn}
+use Rattle.tcl_code.specs.Instructions.{Instruction, Push, Gather, Deal, TakeFirst, SkipEmpty, DropList, Listed, Write, Answer, Skip, Turn}
 use Rattle.tcl_code.specs.Parts.{Fits}
 use Rattle.tcl_code.specs.Valid.{shape}
 use Rattle.tcl_code.specs.declared.shape.Shape.{Shape as Standing}
 use Rattle.tcl_code.proofs.Placing.{Stands, Placed, placed_joined, placed_fits, fits_placed}
 use Rattle.tcl_code.proofs.Shapes.{fits_one, fits_none, fits_joined}
-use Rattle.tcl_compile.specs.Eaches.{takes}
-use Rattle.tcl_compile.proofs.Eaching.{each_code}
+use Rattle.tcl_compile.specs.Eaches.{each_end, takes}
+use Rattle.tcl_compile.proofs.Eaching.{dealt_code, each_code}
 use Rattle.tcl_compile.proofs.Bodies.{Opens, piece, piece_front, piece_back, stands_at}
 
 pub takes_fit : (names : List Text) (h l d p o : ℕ) → Fits (takes names) (shape h (l + 1) d p o) (shape h (l + 1) d p o)
@@ -20,6 +20,9 @@ takes_fit (n ∷ ns) h l d p o =
     (fits_joined (Write n ∷ []) (takes ns) (shape (h + 1) (l + 1) d p o) (shape h (l + 1) d p o) (shape h (l + 1) d p o)
     (fits_one (Write n) (shape (h + 1) (l + 1) d p o) (shape h (l + 1) d p o) _ (omega arith) refl (ap (λ m. shape m (l + 1) d p o) (omega arith)))
     (takes_fit ns h l d p o))
+
+answer_fits : (h l d p o : ℕ) → Fits (Answer ∷ []) (shape (h + 1) l d p o) (shape h l d p o)
+answer_fits h l d p o = fits_one Answer (shape (h + 1) l d p o) (shape h l d p o) _ (omega arith) refl (ap (λ m. shape m l d p o) (omega arith))
 
 -- the turns, to where the list is dropped
 abbrev turns_code : List Instruction → List Instruction → List Instruction
@@ -92,23 +95,32 @@ module _ (ts c : List Instruction) (h l d p o : ℕ) (x : Fits ts (shape h (l + 
       let on_skip : Stands table count 0 (Skip (length ts + length c + 1)) = stands_at table count 0 (Skip (length ts + length c + 1)) Base (in_front 0 refl) tt ((omega arith, at_turn (0 + 1 + (length ts + length c + 1)) 0 (omega arith) (omega arith)), tt) in
       fits_placed table count (turns_code ts c) Base Less size (in_front 0 refl) (at_finish (length (turns_code ts c)) (omega (arith, long, long2))) (on_skip, of_names)
 
-  abbrev ends : List Instruction
-  ends = Push [] ∷ Answer ∷ []
-
   abbrev Tail : List Instruction
   Tail = Skip 2 ∷ SkipEmpty 1 ∷ Turn (length ts + length c + 2) ∷ DropList ∷ []
 
-  -- from where the turns begin
-  abbrev behind_list : List Instruction
-  behind_list = Skip (length ts + length c + 1) ∷ (ts ++ (c ++ Skip 2 ∷ SkipEmpty 1 ∷ Turn (length ts + length c + 2) ∷ DropList ∷ Push [] ∷ Answer ∷ []))
+  module _ (gathers : Bool) (s : Standing) (e : Fits (each_end gathers ∷ Answer ∷ []) Less s) where
+    abbrev ends : List Instruction
+    ends = each_end gathers ∷ Answer ∷ []
 
-  joined : turns_code ts c ++ ends ≡ behind_list
-  joined = ap (λ z. Skip (length ts + length c + 1) ∷ z) (append_assoc ts (c ++ Tail) ends ∙ ap (λ z. ts ++ z) (append_assoc c Tail ends))
+    -- from where the turns begin
+    abbrev behind_list : List Instruction
+    behind_list = Skip (length ts + length c + 1) ∷ (ts ++ (c ++ Skip 2 ∷ SkipEmpty 1 ∷ Turn (length ts + length c + 2) ∷ DropList ∷ each_end gathers ∷ Answer ∷ []))
 
-  pub each_fits : (n : ℕ) → Fits (each_code n ts c) (shape (h + n) l d p o) Less
-  each_fits n =
-      fits_joined (Deal n ∷ []) behind_list (shape (h + n) l d p o) Base Less
-      (fits_one (Deal n) (shape (h + n) l d p o) Base _ (omega arith) refl (ap (λ m. shape m (l + 1) d p o) (omega arith)))
-      (subst (λ c. Fits c Base Less) joined
-      (fits_joined (turns_code ts c) ends Base Less Less turns_fit
-      (fits_joined (Push [] ∷ []) (Answer ∷ []) Less (shape (h + 1) l d p o) Less (fits_one (Push []) Less (shape (h + 1) l d p o) _ tt refl (ap (λ m. shape m l d p o) (omega arith))) (fits_one Answer (shape (h + 1) l d p o) Less _ (omega arith) refl (ap (λ m. shape m l d p o) (omega arith))))))
+    joined : turns_code ts c ++ ends ≡ behind_list
+    joined = ap (λ z. Skip (length ts + length c + 1) ∷ z) (append_assoc ts (c ++ Tail) ends ∙ ap (λ z. ts ++ z) (append_assoc c Tail ends))
+
+    dealt_fits : (n : ℕ) → Fits (dealt_code gathers n ts c) (shape (h + n) l d p o) s
+    dealt_fits n =
+        fits_joined (Deal n ∷ []) behind_list (shape (h + n) l d p o) Base s
+        (fits_one (Deal n) (shape (h + n) l d p o) Base _ (omega arith) refl (ap (λ m. shape m (l + 1) d p o) (omega arith)))
+        (subst (λ c. Fits c Base s) joined (fits_joined (turns_code ts c) ends Base Less s turns_fit e))
+
+-- where the names and the body are of these shapes in lists of lists
+pub each_fits : (gathers : Bool) (n : ℕ) (ts c : List Instruction) (h l d p o : ℕ) → ((k : ℕ) → Fits ts (shape h (k + 1) d p o) (shape h (k + 1) d p o)) → ((k : ℕ) → Opens c (shape h (k + 1) d p o)) → Fits (each_code gathers n ts c) (shape (h + n) l d p o) (shape h l d p o)
+each_fits true n ts c h l d p o x y =
+    fits_joined (Gather ∷ []) (dealt_code true n ts c) (shape (h + n) l d p o) (shape (h + n) (l + 1) d p o) (shape h l d p o) (fits_one Gather (shape (h + n) l d p o) (shape (h + n) (l + 1) d p o) _ tt refl (ap (λ m. shape (h + n) m d p o) (omega arith)))
+    (dealt_fits ts c h (l + 1) d p o (x (l + 1)) (y (l + 1)) true (shape h l d p o)
+    (fits_joined (Listed ∷ []) (Answer ∷ []) (shape h (l + 1) d p o) (shape (h + 1) l d p o) (shape h l d p o) (fits_one Listed (shape h (l + 1) d p o) (shape (h + 1) l d p o) _ (omega arith) refl (ap (λ m. shape (h + 1) m d p o) (omega arith))) (answer_fits h l d p o)) n)
+each_fits false n ts c h l d p o x y =
+    dealt_fits ts c h l d p o (x l) (y l) false (shape h l d p o)
+    (fits_joined (Push [] ∷ []) (Answer ∷ []) (shape h l d p o) (shape (h + 1) l d p o) (shape h l d p o) (fits_one (Push []) (shape h l d p o) (shape (h + 1) l d p o) _ tt refl (ap (λ m. shape m l d p o) (omega arith))) (answer_fits h l d p o)) n

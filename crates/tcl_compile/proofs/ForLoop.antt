@@ -33,7 +33,7 @@ use Rattle.tcl_compile.proofs.Looping.{loop_code, loop_makes}
 
 -- a turn of a `for`: its body, and what it runs between turns
 abbrev pub turn_code : List Instruction → List Instruction → List Instruction
-turn_code b n = bodied false b ++ Skip (length (bodied true n)) ∷ bodied true n
+turn_code b n = bodied false false b ++ Skip (length (bodied true false n)) ∷ bodied true false n
 
 module _ (dialect : Dialect) where
   body_spends : (d : ℕ) (body : Text) (u v : State) (c : Completion) → Run dialect (Script (suc d) nothing body) u ≡ Gives c v → v.units ≤ u.units
@@ -41,14 +41,15 @@ module _ (dialect : Dialect) where
 
   -- ---- turns
 
-  while_turn : (test body : Text) (b code : List Instruction) (at : ℕ) (last : Completion) (stack : Stack) (d : ℕ) (r : Completion → Spot) (u : State) → Follows dialect b body → HasAt code at (bodied false b)
-      → ((v : State) → v.units ≤ u.units → Lands dialect code stack.loops (spot (at + length (bodied false b) + 1) (with_result last stack) d) v r (exec (Run dialect) (asking dialect 1 (while_next dialect test body) d) v))
-      → ((v : State) → Lands dialect code stack.loops (spot (at + length (bodied false b)) (with_result last stack) d) v r (Gives nothing v)) → Lands dialect code stack.loops (spot at (with_result last stack) d) u r (exec (Run dialect) (page_in dialect d (ask (Runs_script Here body (WhileBody test body)))) u)
+  while_turn : (test body : Text) (b code : List Instruction) (at : ℕ) (last : Completion) (stack : Stack) (d : ℕ) (r : Completion → Spot) (u : State) → Follows dialect b body → HasAt code at (bodied false false b)
+      → ((v : State) → v.units ≤ u.units → Lands dialect code stack.loops (spot (at + length (bodied false false b) + 1) (with_result last stack) d) v r (exec (Run dialect) (asking dialect 1 (while_next dialect test body) d) v))
+      → ((v : State) → Lands dialect code stack.loops (spot (at + length (bodied false false b)) (with_result last stack) d) v r (Gives nothing v)) → Lands dialect code stack.loops (spot at (with_result last stack) d) u r (exec (Run dialect) (page_in dialect d (ask (Runs_script Here body (WhileBody test body)))) u)
   unfolding asked all_answered answered owed
   while_turn test body b code at last stack d r u f has n x =
-      bodied_lands dialect code at false body b f has last stack d 1 (WhileBody test body) (while_next dialect test body) (done nothing) (λ c. stays_is (code_now c) c (while_next dialect test body) (done nothing)) r u (λ c v e. n v (body_spends d body u v c e)) x
+      let on = while_next dialect test body in
+      bodied_lands dialect code at false false body b f has last stack d 1 (WhileBody test body) (λ c. on) on (done nothing) (λ c. stays_is (code_now c) c on (done nothing)) r u (λ c v e. n v (body_spends d body u v c e)) (λ c v e. n v (body_spends d body u v c e)) x
 
-  passes_is : (test next body : Text) (k : Code) (c : Completion) → after_for_next dialect test next body k c ≡ goes_on true k c (for_next dialect test next body) (done nothing)
+  passes_is : (test next body : Text) (k : Code) (c : Completion) → after_for_next dialect test next body k c ≡ goes_on true k c (for_next dialect test next body) (for_next dialect test next body) (done nothing)
   passes_is test next body ending.Ok c = refl
   passes_is test next body ending.Error c = refl
   passes_is test next body ending.Return c = refl
@@ -61,32 +62,36 @@ module _ (dialect : Dialect) where
       → ((v : State) → Lands dialect code stack.loops (spot (at + length (turn_code b n)) (with_result last stack) d) v r (Gives nothing v)) → Lands dialect code stack.loops (spot at (with_result last stack) d) u r (exec (Run dialect) (page_in dialect d (ask (Runs_script Here body (ForBody test next body)))) u)
   unfolding asked all_answered answered owed
   for_turn test next body b n code at last stack d r u f g has go x =
-      let first = bodied false b in
-      let second = bodied true n in
+      let first = bodied false false b in
+      let second = bodied true false n in
       let back = has_back code at first (Skip (length second) ∷ second) has in
       let long = length-append first (Skip (length second) ∷ second) in
       let out : at + length (turn_code b n) ≡ at + length first + 1 + length second = omega (arith, long) in
-      let on : at + length (turn_code b n) + 1 ≡ at + length first + 1 + length second + 1 = omega (arith, long) in
-      bodied_lands dialect code at false body b f (has_front code at first (Skip (length second) ∷ second) has) last stack d 2 (ForBody test next body) (ask (Runs_script Here next (ForNext test next body))) (done nothing) (λ c. stays_is (code_now c) c (ask (Runs_script Here next (ForNext test next body))) (done nothing)) r u
-      (λ c v e. bodied_lands dialect code (at + length first + 1) true next n g back.1 last stack d 1 (ForNext test next body) (for_next dialect test next body) (done nothing) (λ k. passes_is test next body (code_now k) k) r v
-      (λ k w h. subst (λ p. Lands dialect code stack.loops (spot p (with_result last stack) d) w r (exec (Run dialect) (asking dialect 1 (for_next dialect test next body) d) w)) on (go w (omega (arith, body_spends d body u v c e, body_spends d next v w k h))))
-      (λ w. subst (λ p. Lands dialect code stack.loops (spot p (with_result last stack) d) w r (Gives nothing w)) out (x w)))
+      let past : at + length (turn_code b n) + 1 ≡ at + length first + 1 + length second + 1 = omega (arith, long) in
+      let on = for_next dialect test next body in
+      let between = ask (Runs_script Here next (ForNext test next body)) in
+      let further : (v w : State) → v.units ≤ u.units → w.units ≤ v.units → Lands dialect code stack.loops (spot (at + length first + 1 + length second + 1) (with_result last stack) d) w r (exec (Run dialect) (asking dialect 1 on d) w) = λ v w i j. subst (λ p. Lands dialect code stack.loops (spot p (with_result last stack) d) w r (exec (Run dialect) (asking dialect 1 on d) w)) past (go w (omega (arith, i, j))) in
+      let second_lands : (v : State) → v.units ≤ u.units → Lands dialect code stack.loops (spot (at + length first + 1) (with_result last stack) d) v r (exec (Run dialect) (asking dialect 2 between d) v) =
+      λ v i. bodied_lands dialect code (at + length first + 1) true false next n g back.1 last stack d 1 (ForNext test next body) (λ c. on) on (done nothing) (λ k. passes_is test next body (code_now k) k) r v
+      (λ k w h. further v w i (body_spends d next v w k h)) (λ k w h. further v w i (body_spends d next v w k h)) (λ w. subst (λ p. Lands dialect code stack.loops (spot p (with_result last stack) d) w r (Gives nothing w)) out (x w)) in
+      bodied_lands dialect code at false false body b f (has_front code at first (Skip (length second) ∷ second) has) last stack d 2 (ForBody test next body) (λ c. between) between (done nothing) (λ c. stays_is (code_now c) c between (done nothing)) r u
+      (λ c v e. second_lands v (body_spends d body u v c e)) (λ c v e. second_lands v (body_spends d body u v c e))
       (λ v. one_done dialect code (Skip (length second)) back.0 refl (subst (λ p. Lands dialect code stack.loops (spot p (with_result last stack) d) v r (Gives nothing v)) out (x v)))
 
   -- ---- loops
 
-  while_loop : (test body : Text) (t b : List Instruction) → Does dialect t (λ d. expression dialect d test) → Follows dialect b body → Makes dialect (loop_code (bodied false b) t) (asking dialect 1 (while_next dialect test body))
+  while_loop : (test body : Text) (t b : List Instruction) → Does dialect t (λ d. expression dialect d test) → Follows dialect b body → Makes dialect (loop_code (bodied false false b) t) (asking dialect 1 (while_next dialect test body))
   unfolding owed
-  while_loop test body t b x f = loop_makes dialect (While test body) test (WhileTest test body) (λ c. refl) t (bodied false b) x (record {
+  while_loop test body t b x f = loop_makes dialect (While test body) test (WhileTest test body) (λ c. refl) t (bodied false false b) x (record {
     from = λ code at last stack d r u has n out. while_turn test body b code at last stack d r u f has n out;
-    opens = λ h l d p o. bodied_opens false b h l d p o (f.keeps 0 0 0 0 (o + 1));
+    opens = λ h l d p o. bodied_opens false false b h l d p o (f.keeps 0 0 0 0 (o + 1));
   })
 
   for_loop : (test next body : Text) (t b n : List Instruction) → Does dialect t (λ d. expression dialect d test) → Follows dialect b body → Follows dialect n next → Makes dialect (loop_code (turn_code b n) t) (asking dialect 1 (for_next dialect test next body))
   unfolding owed
   for_loop test next body t b n x f g = loop_makes dialect (For test next body) test (ForTest test next body) (λ c. refl) t (turn_code b n) x (record {
     from = λ code at last stack d r u has go out. for_turn test next body b n code at last stack d r u f g has go out;
-    opens = λ h l d p o. both_open (bodied false b) (bodied true n) h l d p o (bodied_opens false b h l d p o (f.keeps 0 0 0 0 (o + 1))) (bodied_opens true n h l d p o (g.keeps 0 0 0 0 (o + 1)));
+    opens = λ h l d p o. both_open (bodied false false b) (bodied true false n) h l d p o (bodied_opens false false b h l d p o (f.keeps 0 0 0 0 (o + 1))) (bodied_opens true false n h l d p o (g.keeps 0 0 0 0 (o + 1)));
   })
 
   -- the code of a turn, and of the condition
@@ -95,7 +100,7 @@ module _ (dialect : Dialect) where
   turn_makes (Some next) test body t c x h =
       let first = h.3 in
       let second = h.4 in
-      let is : c ≡ turn_code first.0 second.0 = h.2 ∙ ap (λ l. l ++ Skip (length h.1) ∷ h.1) first.1 ∙ ap (λ l. bodied false first.0 ++ Skip (length l) ∷ l) second.1 in
+      let is : c ≡ turn_code first.0 second.0 = h.2 ∙ ap (λ l. l ++ Skip (length h.1) ∷ h.1) first.1 ∙ ap (λ l. bodied false false first.0 ++ Skip (length l) ∷ l) second.1 in
       subst (λ l. LoopCode dialect (Some next) test body (loop_code l t)) (sym is) (for_loop test next body t first.0 second.0 x first.2 second.2)
 
   -- ---- commands

@@ -1,4 +1,4 @@
--- The texts of a `foreach`'s words, read as its lists.
+-- The texts of the words of a `foreach` or `lmap`, read as its lists.
 use Rattle.std.proofs.Common.{◌≡◌, ◌<◌, List, [], ◌∷◌, ◌++◌, length, Some, Ok, Err, refl, sym, ap, ◌∙◌, subst, arith, length-append}
 use Rattle.tcl_list.specs.Elements.{elements_of}
 use Rattle.tcl_meaning.specs.Shapes.{each_shape, with_list, loop_lists_of, some_names}
@@ -28,6 +28,20 @@ bound (Err m) f b h = absurd (cc)
 some_named : (empty : Text) (ns : List Text) → 0 < length ns → some_names empty ns ≡ Ok ns
 some_named empty [] h = absurd (omega (arith, h))
 some_named empty (n ∷ ns) h = refl
+
+-- so no list is without names, of which this is said
+pub same_lists : (empty other : Text) (names : List Text) (body : Text) (ws : List Text) → AreListTexts names body ws → loop_lists_of empty (pairs ws) ≡ loop_lists_of other (pairs ws)
+same_lists empty other names body [] h = absurd h
+same_lists empty other names body (t ∷ []) h = refl
+same_lists empty other names body (l ∷ t ∷ ws) h =
+    let ns = h.0 in
+    let are = h.3 in
+    let rest = same_lists empty other h.1 body ws h.4 in
+    let read : Answer (List Text) → Answer (List LoopList) → Answer (List LoopList) = λ x more. x >>= λ names. elements_of t >>= λ es. more >>= λ ks. Ok (record { names = names; elements = es } ∷ ks) in
+    ap (λ x. x >>= λ ns. read (some_names empty ns) (loop_lists_of empty (pairs ws))) are.0
+    ∙ ap (λ x. read x (loop_lists_of empty (pairs ws))) (some_named empty ns are.1 ∙ sym (some_named other ns are.1))
+    ∙ ap (λ more. read (some_names other ns) more) rest
+    ∙ sym (ap (λ x. x >>= λ ns. read (some_names other ns) (loop_lists_of other (pairs ws))) are.0)
 
 pub lists_named : (empty : Text) (names : List Text) (body : Text) (ws : List Text) → AreListTexts names body ws → (ls : List LoopList) → loop_lists_of empty (pairs ws) ≡ Ok ls → (names_of ls ≡ names) × AllNamed ls
 lists_named empty names body [] h ls e = absurd h

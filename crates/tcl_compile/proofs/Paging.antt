@@ -12,11 +12,11 @@ use Rattle.tcl_meaning.specs.Asking.{ask}
 use Rattle.tcl_meaning.specs.Control.{next_clause}
 use Rattle.tcl_meaning.specs.Effects.{Here}
 use Rattle.tcl_meaning.specs.Tasks.{Run, Nothing, IfTest}
-use Rattle.tcl_code.specs.Instructions.{Push, Enter, Become, Bump, Body, Again, Skip, SkipWhen, Turn, Break, Continue, Answer}
+use Rattle.tcl_code.specs.Instructions.{Push, Enter, Become, Bump, Body, Skip, SkipWhen, Turn, Break, Continue, Answer}
 use Rattle.tcl_code.specs.declared.inlined.Inlined.TheVariants as inlined
 use Rattle.tcl_code.specs.Turns.{turns_of}
 use Rattle.tcl_compile.specs.Emitted.{ScriptCode}
-use Rattle.tcl_compile.specs.Forms.{IsForm, command_of, page_does, clause_of, TurnsBack, PageCode, BodyCode, ClausesCode, bodied, BodiedCode, TurnCode, LoopMade, ForCode}
+use Rattle.tcl_compile.specs.Forms.{IsForm, command_of, page_does, clause_of, TurnsBack, PageCode, BodyCode, ClausesCode, body_end, bodied, BodiedCode, TurnCode, LoopMade, ForCode}
 use Rattle.tcl_compile.specs.Fragments.{Grown}
 use Rattle.tcl_compile.specs.Inlining.{Makes}
 use Rattle.tcl_compile.specs.Trees.{ExpressionCode}
@@ -135,14 +135,14 @@ module _ (dialect : Dialect) where
 
   -- ---- loops
 
-  pub grown_looped : (m0 m1 m2 m3 m4 : Code) (passes : Bool) (t : Text) → m1 ≡ m0 ++ Body passes 0 ∷ [] → Grown (ScriptCode dialect t) m1 m2 → m3 ≡ m2 ++ Again ∷ [] → LedHere (length m0) m3 m4 → Grown (BodiedCode dialect passes t) m0 m4
-  grown_looped m0 m1 m2 m3 m4 passes t e x h l =
+  pub grown_looped : (m0 m1 m2 m3 m4 : Code) (passes gathers : Bool) (t : Text) → m1 ≡ m0 ++ Body passes 0 ∷ [] → Grown (ScriptCode dialect t) m1 m2 → m3 ≡ m2 ++ body_end gathers ∷ [] → LedHere (length m0) m3 m4 → Grown (BodiedCode dialect passes gathers t) m0 m4
+  grown_looped m0 m1 m2 m3 m4 passes gathers t e x h l =
       let b = x.0 in
-      let whole : Behind (Body passes 0) m0 (b ++ Again ∷ []) m3 = more_behind (Again ∷ []) (behind b {i = Body passes 0} {m0 = m0} e x.1) h in
-      let long : length (b ++ Again ∷ []) ≡ length b + 1 = omega (arith, length-append b (Again ∷ [])) in
-      (bodied passes b, l m0 (b ++ Again ∷ []) (Body passes 0) whole.is refl ∙ ap (λ k. m0 ++ Body passes k ∷ (b ++ Again ∷ [])) long, (b, refl, x.2))
+      let whole : Behind (Body passes 0) m0 (b ++ body_end gathers ∷ []) m3 = more_behind (body_end gathers ∷ []) (behind b {i = Body passes 0} {m0 = m0} e x.1) h in
+      let long : length (b ++ body_end gathers ∷ []) ≡ length b + 1 = omega (arith, length-append b (body_end gathers ∷ [])) in
+      (bodied passes gathers b, l m0 (b ++ body_end gathers ∷ []) (Body passes 0) whole.is refl ∙ ap (λ k. m0 ++ Body passes k ∷ (b ++ body_end gathers ∷ [])) long, (b, refl, x.2))
 
-  pub grown_turns : (m0 m1 m2 m3 m4 : Code) (next : Option (Bor (List ℕ))) (t : Bor (List ℕ)) (body : Text) → next ≡ Some t → Grown (BodiedCode dialect false body) m0 m1 → m2 ≡ m1 ++ Skip 0 ∷ [] → Grown (BodiedCode dialect true (chars t.now)) m2 m3 → LedHere (length m1) m3 m4
+  pub grown_turns : (m0 m1 m2 m3 m4 : Code) (next : Option (Bor (List ℕ))) (t : Bor (List ℕ)) (body : Text) → next ≡ Some t → Grown (BodiedCode dialect false false body) m0 m1 → m2 ≡ m1 ++ Skip 0 ∷ [] → Grown (BodiedCode dialect true false (chars t.now)) m2 m3 → LedHere (length m1) m3 m4
       → Grown (TurnCode dialect (option_map (λ t. chars t.now) next) body) m0 m4
   grown_turns m0 m1 m2 m3 m4 next t body e g h x l =
       let b = g.0 in

@@ -26,7 +26,7 @@ use Rattle.tcl_compile.specs.Changes.{IsChange}
 use Rattle.tcl_compile.specs.Returns.{IsReturn}
 use Rattle.tcl_compile.specs.Switches.{IsMarked, IsSwitch}
 use Rattle.tcl_compile.specs.declared.switching.SwitchForm.{SwitchForm}
-use Rattle.tcl_compile.specs.Eaches.{AreEachWords}
+use Rattle.tcl_compile.specs.Eaches.{AreEachWords, each_command}
 use Rattle.tcl_compile.specs.Fragments.{Plain}
 use Rattle.tcl_compile.specs.Literals.{spelled, IsStretch, IsLiteral, AllLiteral}
 use Rattle.tcl_compile.specs.Whiles.{ReadsAs, is_bare, is_braced, is_only, names_while, is_braced_word, is_while, whiles, HasTurns, IsWhile}
@@ -132,6 +132,7 @@ name_alone inlined.If e = absurd (differs (codes "if") refl refl e)
 name_alone inlined.While e = refl
 name_alone inlined.For e = absurd (differs (codes "for") refl refl e)
 name_alone inlined.Foreach e = absurd (differs (codes "foreach") refl refl e)
+name_alone inlined.Lmap e = absurd (differs (codes "lmap") refl refl e)
 name_alone inlined.Switch e = absurd (differs (codes "switch") refl refl e)
 name_alone inlined.Return e = absurd (differs (codes "return") refl refl e)
 name_alone inlined.Break e = absurd (differs (codes "break") refl refl e)
@@ -145,8 +146,9 @@ changes_no_loop : (k : Change) → inlined_of k ≡ inlined.While → ⊥
 changes_no_loop change.Set e = cc
 changes_no_loop change.Incr e = cc
 
-each_no_loop : inlined.Foreach ≡ inlined.While → ⊥
-each_no_loop e = cc
+each_no_loop : (gathers : Bool) → each_command gathers ≡ inlined.While → ⊥
+each_no_loop true e = cc
+each_no_loop false e = cc
 
 pub no_change : (k : Change) (name : Text) (ws : List Shape) → IsChange k name ws → IsWhile ws → ⊥
 no_change k name [] c h = c
@@ -155,9 +157,9 @@ no_change k name (w0 ∷ w1 ∷ []) c h = c
 no_change k name (w0 ∷ w1 ∷ w2 ∷ []) c h = changes_no_loop k (loop_named (inlined_of k) w0 (w1 ∷ w2 ∷ []) c.0 h)
 no_change k name (w0 ∷ w1 ∷ w2 ∷ w ∷ ws) c h = c
 
-pub no_each : (names : List Text) (body : Text) (ws : List Shape) → AreEachWords names body ws → IsWhile ws → ⊥
-no_each names body [] e h = e
-no_each names body (w ∷ ws) e h = each_no_loop (loop_named inlined.Foreach w ws e.0 h)
+pub no_each : (gathers : Bool) (names : List Text) (body : Text) (ws : List Shape) → AreEachWords gathers names body ws → IsWhile ws → ⊥
+no_each gathers names body [] e h = e
+no_each gathers names body (w ∷ ws) e h = each_no_loop gathers (loop_named (each_command gathers) w ws e.0 h)
 
 return_no_loop : inlined.Return ≡ inlined.While → ⊥
 return_no_loop e = cc

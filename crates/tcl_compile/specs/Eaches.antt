@@ -1,5 +1,5 @@
--- `foreach`, inlined.
-use Rattle.std.specs.Prelude.{◌≡◌, ◌<◌, ◌+◌, ℕ, List, [], ◌∷◌, ◌++◌, length, map, drop, Ok}
+-- `foreach` and `lmap`, inlined.
+use Rattle.std.specs.Prelude.{◌≡◌, ◌<◌, ◌+◌, ℕ, Bool, true, false, List, [], ◌∷◌, ◌++◌, length, map, drop, Ok}
 use Rattle.tcl_chars.specs.declared.numbers.Dialect.{Dialect}
 use Rattle.tcl_list.specs.Elements.{elements_of}
 use Rattle.tcl_list.specs.Texts as texts
@@ -11,15 +11,21 @@ use Rattle.tcl_meaning.specs.Script.{Run}
 use Rattle.tcl_meaning.specs.State.{State}
 use Rattle.tcl_meaning.specs.Tasks.{Task}
 use Rattle.tcl_code.specs.Guards.{name_of}
-use Rattle.tcl_code.specs.Instructions.{Instruction, TakeFirst, Write}
+use Rattle.tcl_code.specs.Instructions.{Instruction, Push, Gather, TakeFirst, Listed, Write}
 use Rattle.tcl_code.specs.Machine.{Stack, with_result, result_at, spot}
 use Rattle.tcl_code.specs.Parts.{Fits, HasAt, Lands}
 use Rattle.tcl_code.specs.Valid.{shape}
+use Rattle.tcl_code.specs.declared.inlined.Inlined.{Inlined}
 use Rattle.tcl_code.specs.declared.inlined.Inlined.TheVariants as inlined
 use Rattle.tcl_compile.specs.Forms.{page_does}
 use Rattle.tcl_compile.specs.Fragments.{words_value, stacked}
 use Rattle.tcl_compile.specs.Literals.{IsLiteral, text_of}
 use Rattle.tcl_compile.specs.declared.each.EachForm.{EachForm}
+
+-- that of a loop over lists; `lmap` gathers what its turns result in
+abbrev pub each_command : Bool → Inlined
+each_command true = inlined.Lmap
+each_command false = inlined.Foreach
 
 -- ---- words
 
@@ -37,12 +43,12 @@ AreListWords names body [] = ⊥
 AreListWords names body (w ∷ []) = (names ≡ []) × IsLiteral w body
 AreListWords names body (w0 ∷ w1 ∷ ws) = (ns : List Text) × (more : List Text) × (names ≡ ns ++ more) × IsNameList w0 ns × AreListWords more body ws
 
-abbrev pub AreEachWords : List Text → Text → List Shape → Type 0
-AreEachWords names body [] = ⊥
-AreEachWords names body (w ∷ ws) = IsLiteral w (name_of inlined.Foreach) × (0 < length names) × AreListWords names body ws
+abbrev pub AreEachWords : Bool → List Text → Text → List Shape → Type 0
+AreEachWords gathers names body [] = ⊥
+AreEachWords gathers names body (w ∷ ws) = IsLiteral w (name_of (each_command gathers)) × (0 < length names) × AreListWords names body ws
 
 abbrev pub IsEach : EachForm → List Shape → Type 0
-IsEach f ws = AreEachWords (map texts.text_of f.names.items) (text_of f.body) ws
+IsEach f ws = AreEachWords f.gathers (map texts.text_of f.names.items) (text_of f.body) ws
 
 -- ---- texts of words
 
@@ -58,11 +64,21 @@ AreListTexts names body [] = ⊥
 AreListTexts names body (t ∷ []) = (names ≡ []) × (t ≡ body)
 AreListTexts names body (list ∷ t ∷ ts) = (ns : List Text) × (more : List Text) × (names ≡ ns ++ more) × AreNames list ns × AreListTexts more body ts
 
-abbrev pub AreEachTexts : List Text → Text → List Text → Type 0
-AreEachTexts names body [] = ⊥
-AreEachTexts names body (t ∷ ts) = (t ≡ name_of inlined.Foreach) × (0 < length names) × AreListTexts names body ts
+abbrev pub AreEachTexts : Bool → List Text → Text → List Text → Type 0
+AreEachTexts gathers names body [] = ⊥
+AreEachTexts gathers names body (t ∷ ts) = (t ≡ name_of (each_command gathers)) × (0 < length names) × AreListTexts names body ts
 
 -- ---- code
+
+-- a list of results begins, if they are gathered
+abbrev pub each_begin : Bool → List Instruction
+each_begin true = Gather ∷ []
+each_begin false = []
+
+-- the text of what the loop answers: the list of them, or nothing
+abbrev pub each_end : Bool → Instruction
+each_end true = Listed
+each_end false = Push []
 
 -- each name gets the next element
 abbrev pub takes : List Text → List Instruction
@@ -85,6 +101,6 @@ module _ (dialect : Dialect) where
 abbrev pub TextsLeft : Dialect → List Shape → List Shape → List Instruction → Type 0
 TextsLeft dialect all ws c = Tells dialect (length all) all c ws
 
--- of a `foreach` of n words, behind its guard, where the texts of the words are there
-abbrev pub EachCode : Dialect → ℕ → List Text → Text → List Instruction → Type 0
-EachCode dialect n names body c = UsesAll dialect n (AreEachTexts names body) c (λ d ts. page_does dialect inlined.Foreach (drop 1 ts) d)
+-- of such a loop of n words, behind its guard, where the texts of the words are there
+abbrev pub EachCode : Dialect → Bool → ℕ → List Text → Text → List Instruction → Type 0
+EachCode dialect gathers n names body c = UsesAll dialect n (AreEachTexts gathers names body) c (λ d ts. page_does dialect (each_command gathers) (drop 1 ts) d)

@@ -14,7 +14,7 @@ use Rattle.tcl_meaning.specs.Pages.{page_asks}
 use Rattle.tcl_meaning.specs.Script.{page_in}
 use Rattle.tcl_meaning.specs.Tasks.{Task, Run, Nothing}
 use Rattle.tcl_code.specs.Guards.{name_of, page_of}
-use Rattle.tcl_code.specs.Instructions.{Instruction, Skip, Body, Again}
+use Rattle.tcl_code.specs.Instructions.{Instruction, Skip, Body, Again, Collect}
 use Rattle.tcl_code.specs.declared.inlined.Inlined.{Inlined}
 use Rattle.tcl_code.specs.declared.inlined.Inlined.TheVariants as inlined
 use Rattle.tcl_code.specs.Turns.{turns_of}
@@ -130,17 +130,22 @@ ClausesCode dialect clauses otherwise c = Makes dialect c (asking dialect (suc (
 
 -- ---- loops with a condition: a `while`, or a `for` with what it runs between turns
 
--- a body in a loop of the code, whose `continue` may be for the loop around it
-abbrev pub bodied : Bool → List Instruction → List Instruction
-bodied passes b = Body passes (length b + 1) ∷ (b ++ Again ∷ [])
+-- a loop's body ends, and its result may be gathered
+abbrev pub body_end : Bool → Instruction
+body_end true = Collect
+body_end false = Again
 
-abbrev pub BodiedCode : Dialect → Bool → Text → List Instruction → Type 0
-BodiedCode dialect passes body c = (b : List Instruction) × (c ≡ bodied passes b) × ScriptCode dialect body b
+-- a body in a loop of the code, whose `continue` may be for the loop around it, and whose result may be gathered
+abbrev pub bodied : Bool → Bool → List Instruction → List Instruction
+bodied passes gathers b = Body passes (length b + 1) ∷ (b ++ body_end gathers ∷ [])
+
+abbrev pub BodiedCode : Dialect → Bool → Bool → Text → List Instruction → Type 0
+BodiedCode dialect passes gathers body c = (b : List Instruction) × (c ≡ bodied passes gathers b) × ScriptCode dialect body b
 
 -- of a turn, where `break` in its body leads past what is run between turns
 abbrev pub TurnCode : Dialect → Option Text → Text → List Instruction → Type 0
-TurnCode dialect None body c = BodiedCode dialect false body c
-TurnCode dialect (Some next) body c = (b : List Instruction) × (n : List Instruction) × (c ≡ b ++ Skip (length n) ∷ n) × BodiedCode dialect false body b × BodiedCode dialect true next n
+TurnCode dialect None body c = BodiedCode dialect false false body c
+TurnCode dialect (Some next) body c = (b : List Instruction) × (n : List Instruction) × (c ≡ b ++ Skip (length n) ∷ n) × BodiedCode dialect false false body b × BodiedCode dialect true false next n
 
 -- what such a loop asks for before each turn
 abbrev pub next_test : Dialect → Option Text → Text → Text → Asks

@@ -1,4 +1,4 @@
-//! `foreach`, inlined.
+//! `foreach` and `lmap`, inlined.
 
 ghost use Rattle.std.specs.Prelude.{◌≡◌, ◌-◌, ◌<◌, ◌++◌, ◌∷◌, [], IfOk, IfSome, OnOk, length, map};
 ghost use Rattle.std.specs.Str.{chars};
@@ -6,8 +6,9 @@ ghost use Rattle.tcl_list.specs.Texts.{text_of};
 ghost use Rattle.tcl_words.specs.First.{most_levels};
 ghost use Rattle.tcl_words.specs.Parts.{shape_of};
 ghost use Rattle.tcl_meaning.specs.Nesting.{WordsNest};
-ghost use Rattle.tcl_code.specs.Instructions.{Deal};
-ghost use Rattle.tcl_compile.specs.Eaches.{AreListWords, AreNames, EachCode, IsEach, IsNameList, takes};
+ghost use Rattle.tcl_code.specs.Guards.{name_of};
+ghost use Rattle.tcl_code.specs.Instructions.{Answer, Deal};
+ghost use Rattle.tcl_compile.specs.Eaches.{AreListWords, AreNames, EachCode, IsEach, IsNameList, each_begin, each_command, each_end, takes};
 ghost use Rattle.tcl_compile.specs.Emitted.{CommandCode};
 ghost use Rattle.tcl_compile.specs.Fragments.{Grown, Plain};
 ghost use Rattle.tcl_compile.specs.Literals as literals;
@@ -25,14 +26,15 @@ use tcl_code::{CodeBuilder, Inlined, Instr};
 use tcl_list::split;
 use tcl_words::Word;
 
-/// A `foreach`: the names of all its lists, and the body.
+/// A loop over lists, which may gather results: the names of all its lists, and the body.
 #[derive(Drop)]
 pub(crate) struct EachForm<'a> {
+    pub(crate) gathers: bool,
     pub(crate) names: Vec<RcStr>,
     pub(crate) body: Literal<'a>,
 }
 
-// A `foreach` of more names is called.
+// A loop of more names is called.
 const MOST_NAMES: usize = 16;
 
 // The names of a list, where there are some and not too many.
@@ -61,8 +63,12 @@ fn named_by(alloc: Global, word: &Word<'_>) -> Result<Option<Vec<RcStr>>, AllocE
 }
 
 // The names of all lists and the body, where they are literal, of the words behind the command's name.
-fn each_words<'a>(alloc: Global, words: &[Word<'a>]) -> Result<Option<EachForm<'a>>, AllocError>
-    ensures { IfOk result (λ form. IfSome form (λ f. AreListWords (map text_of f.names.items) (literals.text_of f.body) (map shape_of words.now))) }
+fn each_words<'a>(
+    alloc: Global,
+    gathers: bool,
+    words: &[Word<'a>],
+) -> Result<Option<EachForm<'a>>, AllocError>
+    ensures { IfOk result (λ form. IfSome form (λ f. (f.gathers ≡ gathers) × AreListWords (map text_of f.names.items) (literals.text_of f.body) (map shape_of words.now))) }
 {
     let mut names = Vec::new(alloc);
     let mut rest = words;
@@ -80,12 +86,29 @@ fn each_words<'a>(alloc: Global, words: &[Word<'a>]) -> Result<Option<EachForm<'
         return Ok(None);
     }
     match literal_of(alloc, &rest[0])? {
-        Some(body) => Ok(Some(EachForm { names, body })),
+        Some(body) => Ok(Some(EachForm {
+            gathers,
+            names,
+            body,
+        })),
         None => Ok(None),
     }
 }
 
-// A `foreach` that is inlined.
+// Does the loop of a name gather results, if it is one?
+fn loop_named(name: &str) -> Option<bool>
+    ensures { IfSome result (λ gathers. chars name.now ≡ name_of (each_command gathers)) }
+{
+    if name == "foreach" {
+        Some(false)
+    } else if name == "lmap" {
+        Some(true)
+    } else {
+        None
+    }
+}
+
+// A `foreach` or `lmap` that is inlined.
 pub(crate) fn each_of<'a>(
     context: Context,
     words: &[Word<'a>],
@@ -95,11 +118,13 @@ pub(crate) fn each_of<'a>(
     if words.is_empty() || !context.inlines() {
         return Ok(None);
     }
-    match stretch(&words[0]) {
-        Some(head) if head == "foreach" => (),
-        _ => return Ok(None),
-    }
-    match each_words(context.alloc, &words[1..])? {
+    let Some(head) = stretch(&words[0]) else {
+        return Ok(None);
+    };
+    let Some(gathers) = loop_named(head) else {
+        return Ok(None);
+    };
+    match each_words(context.alloc, gathers, &words[1..])? {
         Some(each) if !each.names.is_empty() => Ok(Some(each)),
         _ => Ok(None),
     }
@@ -124,6 +149,40 @@ fn emit_deal(code: &mut CodeBuilder, count: usize) -> Result<(), AllocError>
     code.emit(Instr::Deal(count))
 }
 
+// The command of a loop over lists.
+fn command_of(gathers: bool) -> Inlined
+    ensures { result ≡ each_command gathers }
+{
+    if gathers {
+        Inlined::Lmap
+    } else {
+        Inlined::Foreach
+    }
+}
+
+// Emits that a list of results begins, if they are gathered.
+fn emit_begin(code: &mut CodeBuilder, gathers: bool) -> Result<(), AllocError>
+    ensures { OnOk result (code.new ≡ code.old ++ each_begin gathers) }
+{
+    if gathers {
+        code.emit(Instr::Gather)
+    } else {
+        Ok(())
+    }
+}
+
+// The list of the results, if they are gathered, or an empty result.
+fn emit_end(code: &mut CodeBuilder, gathers: bool) -> Result<(), AllocError>
+    ensures { OnOk result (code.new ≡ code.old ++ each_end gathers ∷ Answer ∷ []) }
+{
+    if gathers {
+        code.emit(Instr::Listed)?;
+        code.emit(Instr::Answer)
+    } else {
+        emit_nothing(code)
+    }
+}
+
 // The turns, where the texts of the command's words, as many as `count` says, are there.
 #[cycle(emitting)]
 fn emit_turns(
@@ -132,24 +191,25 @@ fn emit_turns(
     count: usize,
     each: &EachForm<'_>,
 ) -> Result<(), AllocError>
-    ensures { OnOk result (Grown (EachCode context.dialect count (map text_of each.now.names.items) (literals.text_of each.now.body)) code.old code.new) }
+    ensures { OnOk result (Grown (EachCode context.dialect each.now.gathers count (map text_of each.now.names.items) (literals.text_of each.now.body)) code.old code.new) }
 {
+    emit_begin(code, each.gathers)?;
     emit_deal(code, count)?;
     let to_more = code.len();
     code.emit(Instr::Skip(0))?;
     let begin = code.len();
     emit_names(code, each.names.as_slice())?;
-    emit_looped(code, context, false, each.body.as_str())?;
+    emit_looped(code, context, false, each.gathers, each.body.as_str())?;
     code.emit(Instr::Skip(2))?;
     lead_here(code, to_more)?;
     code.emit(Instr::SkipEmpty(1))?;
     let turn = code.len() - begin;
     emit_turn(code, turn)?;
     code.emit(Instr::DropList)?;
-    emit_nothing(code)
+    emit_end(code, each.gathers)
 }
 
-// A `foreach`: the words, a guard, the turns, and the general call beside them.
+// A loop over lists: the words, a guard, the turns, and the general call beside them.
 #[cycle(emitting)]
 pub(crate) fn emit_each(
     code: &mut CodeBuilder,
@@ -170,7 +230,7 @@ pub(crate) fn emit_each(
         emit_word(code, context, whole, word)?;
     }
     let guard = code.len();
-    code.emit(Instr::Guard(Inlined::Foreach, 0))?;
+    code.emit(Instr::Guard(command_of(each.gathers), 0))?;
     emit_turns(code, context, words.len(), each)?;
     let past = code.len();
     code.emit(Instr::Skip(0))?;

@@ -3,7 +3,7 @@
 ghost use Rattle.std.specs.Prelude.{◌≡◌, ◌-◌, ◌<◌, ◌≤◌, ◌++◌, ◌∷◌, [], OnOk, length, map, option_map};
 ghost use Rattle.std.specs.Str.{chars};
 ghost use Rattle.tcl_code.specs.Instructions.{Answer, Push, Turn};
-ghost use Rattle.tcl_compile.specs.Forms.{BodiedCode, BodyCode, ClausesAreShort, ClausesCode, ForCode, FormIsShort, LoopMade, OtherwiseIsShort, PageCode, TurnCode, clause_of, most_clauses};
+ghost use Rattle.tcl_compile.specs.Forms.{BodiedCode, BodyCode, body_end, ClausesAreShort, ClausesCode, ForCode, FormIsShort, LoopMade, OtherwiseIsShort, PageCode, TurnCode, clause_of, most_clauses};
 ghost use Rattle.tcl_compile.specs.Fragments.{Grown};
 
 use crate::context::Context;
@@ -106,20 +106,32 @@ pub(crate) fn emit_turn(code: &mut CodeBuilder, count: usize) -> Result<(), Allo
     code.emit(Instr::Turn(count))
 }
 
+// The end of a loop's body, whose result may be gathered.
+fn emit_body_end(code: &mut CodeBuilder, gathers: bool) -> Result<(), AllocError>
+    ensures { OnOk result (code.new ≡ code.old ++ body_end gathers ∷ []) }
+{
+    if gathers {
+        code.emit(Instr::Collect)
+    } else {
+        code.emit(Instr::Again)
+    }
+}
+
 // A body in a loop of the code.
 #[cycle(emitting)]
 pub(crate) fn emit_looped(
     code: &mut CodeBuilder,
     context: Context,
     passes: bool,
+    gathers: bool,
     text: &str,
 ) -> Result<(), AllocError>
-    ensures { OnOk result (Grown (BodiedCode context.dialect passes (chars text.now)) code.old code.new) }
+    ensures { OnOk result (Grown (BodiedCode context.dialect passes gathers (chars text.now)) code.old code.new) }
 {
     let begin = code.len();
     code.emit(Instr::Body(passes, 0))?;
     emit_script(code, context.within(), text)?;
-    code.emit(Instr::Again)?;
+    emit_body_end(code, gathers)?;
     lead_here(code, begin)
 }
 
@@ -137,13 +149,13 @@ fn emit_bodies(
     requires body { length (chars body.now) ≤ length (chars whole.now) - 1 }
     ensures { OnOk result (Grown (TurnCode context.dialect (option_map (λ t. chars t.now) next.entry) (chars body.now)) code.old code.new) }
 {
-    emit_looped(code, context, false, body)?;
+    emit_looped(code, context, false, false, body)?;
     match next {
         None => Ok(()),
         Some(next) => {
             let past = code.len();
             code.emit(Instr::Skip(0))?;
-            emit_looped(code, context, true, next)?;
+            emit_looped(code, context, true, false, next)?;
             lead_here(code, past)
         }
     }

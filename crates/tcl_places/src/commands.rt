@@ -251,7 +251,9 @@ fn inside<'a>(
                 literal(part, test, false),
             ]?
         }
-        (Some(Inlined::Foreach), [.., body]) => vec![in alloc; literal(part, body, true)]?,
+        (Some(Inlined::Foreach | Inlined::Lmap), [.., body]) => {
+            vec![in alloc; literal(part, body, true)]?
+        }
         (Some(Inlined::Switch), [.., list]) => arms(alloc, part, list)?,
         _ => Vec::new(alloc),
     };

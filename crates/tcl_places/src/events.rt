@@ -7,7 +7,7 @@ use tcl_code::{Code, Inlined, Instr, TextInstr};
 fn ends_script(instr: Option<Instr>) -> bool {
     matches!(
         instr,
-        None | Some(Instr::Leave | Instr::Become | Instr::Again)
+        None | Some(Instr::Leave | Instr::Become | Instr::Again | Instr::Collect)
     )
 }
 

@@ -9,6 +9,7 @@ use Rattle.tcl_expr.specs.declared.token.BinaryOp.{BinaryOp}
 use Rattle.tcl_expr.specs.declared.token.BinaryOp.TheVariants as binary
 use Rattle.tcl_chars.specs.Messages.{truth_value}
 use Rattle.tcl_list.specs.Elements.{elements_of}
+use Rattle.tcl_list.specs.Written.{written}
 use Rattle.tcl_pages.specs.Answers.{Answer}
 use Rattle.tcl_meaning.specs.Operators.{Operator, lazy, eager, operator, truth_answer, unary_answer, power_answer, function_answer, final_answer}
 use Rattle.tcl_pages.specs.Texts.{Text}
@@ -32,8 +33,8 @@ use Rattle.tcl_pages.specs.declared.pages.UpdatePage.TheVariants as update
 use Rattle.tcl_code.specs.Caught.{caught}
 use Rattle.tcl_code.specs.Guards.{stands}
 use Rattle.tcl_code.specs.Dealing.{dealt_of}
-use Rattle.tcl_code.specs.Instructions.{Instruction, Push, Read, ReadElement, Duplicate, Join, Spend, Enter, Leave, Call, Gather, Add, AddAll, CallGathered, Deal, TakeFirst, SkipEmpty, DropList, Raise, Guard, Under, Write, Bump, Become, Body, Again, Return, Break, Continue, Skip, SkipWhen, Turn, Unary, Binary, Power, Apply, Truth, Final, Answer as AnswerTop}
-use Rattle.tcl_code.specs.Machine.{Loop, Texts, Taken, taken, on_taken, on_read, on_answer, on_operator, on_step, on_page, spend, Spot, spot, stack_of, behind_loop, Move, To, Fails, Ends, Calls, Wrong, move}
+use Rattle.tcl_code.specs.Instructions.{Instruction, Push, Read, ReadElement, Duplicate, Join, Spend, Enter, Leave, Call, Gather, Add, AddAll, CallGathered, Deal, TakeFirst, SkipEmpty, DropList, Listed, Raise, Guard, Under, Write, Bump, Become, Body, Again, Collect, Return, Break, Continue, Skip, SkipWhen, Turn, Unary, Binary, Power, Apply, Truth, Final, Answer as AnswerTop}
+use Rattle.tcl_code.specs.Machine.{Loop, Texts, Taken, taken, on_taken, on_read, on_answer, on_operator, on_step, on_page, spend, Spot, spot, stack_of, behind_loop, collected, Move, To, Fails, Ends, Calls, Wrong, move}
 use Rattle.tcl_code.specs.Open.{IsShaped, LoopFits, LoopsFit}
 use Rattle.tcl_code.specs.Running.{running}
 use Rattle.tcl_code.specs.declared.shape.Shape.{Shape}
@@ -41,7 +42,7 @@ use Rattle.tcl_code.specs.Valid.{bare, bare_in, with_texts, Target, Ahead, Back,
 use Rattle.tcl_vm.specs.Standing.{Running, here}
 use Rattle.tcl_vm.specs.Fitting.{FitsHere, FitsThen}
 use Rattle.tcl_vm.specs.Turns.{left, weight, loops_left}
-use Rattle.tcl_vm.proofs.Landing.{OpenFits, caught_elim, coded_elim, loop_fits}
+use Rattle.tcl_vm.proofs.Landing.{OpenFits, caught_elim, coded_elim, collected_fits, loop_fits}
 use Rattle.tcl_vm.proofs.Quiet.{IsDone, IsOver, IsQuiet, GivesQuietly, quiet_does, set_page_quiet, incr_page_quiet}
 use Rattle.tcl_vm.proofs.Weights.{left_ahead, left_inside}
 
@@ -200,6 +201,27 @@ module _ (dialect : Dialect) (code : List Instruction) (shape : Shape) (at d p :
   result_fits i e w t ts ls r rs h c u free =
       ahead_fits i e 0 (with_texts 1 0 shape) w (at + 1) (omega arith) ts ls (c ∷ rs) d (record { texts = let q = h.texts in omega arith; lists = h.lists; results = h.results; brackets = h.brackets }) deep loops paid_for u free
 
+  -- where a body ends, with its result alone, a loop is open
+  body_fits : (i : Instruction) → (shape ≡ bare_in shape.loops) × (1 ≤ shape.loops) → (qs : List Loop) (ts : Texts) (ls : List Texts) (rs : List Completion) (m : Texts → List Texts → List Completion → List Loop → Move) → os ≡ qs → IsShaped ts ls rs d shape
+      → ((r : Completion) (o : Loop) (os' : List Loop) → os ≡ o ∷ os' → MoveFits (Some i) code here_left p s (caught (o ∷ os') (m [] [] (r ∷ []) (o ∷ os')))) → MoveFits (Some i) code here_left p s (caught qs (m ts ls rs qs))
+  body_fits i f qs ts ls rs m is h k = only qs ts ls rs is (ap (λ t. t.height) f.0) (ap (λ t. t.lists) f.0) (ap (λ t. t.depth) f.0) h
+    where
+      only : (qs : List Loop) (ts : Texts) (ls : List Texts) (rs : List Completion) → os ≡ qs → shape.height ≡ 0 → shape.lists ≡ 0 → shape.depth ≡ 0 → IsShaped ts ls rs d shape → MoveFits (Some i) code here_left p s (caught qs (m ts ls rs qs))
+      only qs (t ∷ ts) ls rs o a b c h = absurd (let q = h.texts in omega arith)
+      only qs [] (l ∷ ls) rs o a b c h = absurd (let q = h.lists in omega arith)
+      only qs [] [] [] o a b c h = absurd (let q = h.results in omega arith)
+      only qs [] [] (r ∷ r' ∷ rs) o a b c h = absurd (let q = h.results in omega arith)
+      only [] [] [] (r ∷ []) o a b c h = absurd (let q = subst (λ x. LoopsFit code x shape.loops outer) o loops in let g = f.1 in omega arith)
+      only (q ∷ qs) [] [] (r ∷ []) o a b c h = k r q qs o
+
+  -- where the innermost loop goes on that has collected a text
+  collects : (i : Instruction) (t : Text) (o : Loop) (rest : List Loop) → os ≡ o ∷ rest → MoveFits (Some i) code here_left p s (To (behind_loop 1 (record o { lists = collected t o.lists }) rest) s)
+  collects i t o rest e =
+      let l = loops_left (length code) os in
+      let fits = collected_fits code p l t o rest (subst (OpenFits code p l) e open_fits) in
+      let x = loop_fits code (record o { lists = collected t o.lists } ∷ rest) at p l valid fits 1 (record o { lists = collected t o.lists }) [] rest (omega arith) refl in
+      (p, x.0, inl (refl, x.1, refl))
+
   pub move_fits : (i : Instruction) (ts : Texts) (ls : List Texts) (rs : List Completion) → slice_get code at ≡ Some i → IsFine i shape → IsShaped ts ls rs d shape → GoesOn i (move dialect (Some i) at ts ls rs os d s)
   move_fits (Push t) ts ls rs e f h = texts_fit (Push t) e 0 1 (inl (refl, refl)) ts (t ∷ ts) ls rs h (let q = h.texts in omega arith)
   move_fits (Read name) ts ls rs e f h = read_fits (Read name) name (get s.store name) _ (λ t. texts_fit (Read name) e 0 1 (inl (refl, refl)) ts (t ∷ ts) ls rs h (let q = h.texts in omega arith))
@@ -242,6 +264,8 @@ module _ (dialect : Dialect) (code : List Instruction) (shape : Shape) (at d p :
   move_fits (SkipEmpty n) ts ((w ∷ ws) ∷ ls) rs e f h = next_fits (SkipEmpty n) e shape (inl (refl, refl)) ts ((w ∷ ws) ∷ ls) rs d h deep loops paid_for
   move_fits DropList ts [] rs e f h = absurd (let q = h.lists in omega arith)
   move_fits DropList ts (l ∷ ls) rs e f h = next_fits DropList e (record shape { lists = shape.lists - 1 }) (inl (refl, refl)) ts ls rs d (record { texts = h.texts; lists = let q = h.lists in omega arith; results = h.results; brackets = h.brackets }) deep loops paid_for
+  move_fits Listed ts [] rs e f h = absurd (let q = h.lists in omega arith)
+  move_fits Listed ts (l ∷ ls) rs e f h = next_fits Listed e (record shape { height = shape.height + 1; lists = shape.lists - 1 }) (inl (refl, refl)) (written l ∷ ts) ls rs d (record { texts = let q = h.texts in omega arith; lists = let q = h.lists in omega arith; results = h.results; brackets = h.brackets }) deep loops paid_for
   move_fits (Raise message) ts ls rs e f h = fails_fits (Raise message) (failure message) s refl
   move_fits (Guard g n) ts ls rs e f h = guard_fits (stands g s.store)
     where
@@ -281,15 +305,8 @@ module _ (dialect : Dialect) (code : List Instruction) (shape : Shape) (at d p :
         shaped = h;
         deep = deep;
       }
-  move_fits Again ts ls rs e f h = again_fits os ts ls rs refl (ap (λ t. t.height) f.0) (ap (λ t. t.lists) f.0) (ap (λ t. t.depth) f.0) h
-    where
-      again_fits : (qs : List Loop) (ts : Texts) (ls : List Texts) (rs : List Completion) → os ≡ qs → shape.height ≡ 0 → shape.lists ≡ 0 → shape.depth ≡ 0 → IsShaped ts ls rs d shape → MoveFits (Some Again) code here_left p s (caught qs (move dialect (Some Again) at ts ls rs qs d s))
-      again_fits qs (t ∷ ts) ls rs o a b c h = absurd (let q = h.texts in omega arith)
-      again_fits qs [] (l ∷ ls) rs o a b c h = absurd (let q = h.lists in omega arith)
-      again_fits qs [] [] [] o a b c h = absurd (let q = h.results in omega arith)
-      again_fits qs [] [] (r ∷ r' ∷ rs) o a b c h = absurd (let q = h.results in omega arith)
-      again_fits [] [] [] (r ∷ []) o a b c h = absurd (let q = subst (λ x. LoopsFit code x shape.loops outer) o loops in let g = f.1 in omega arith)
-      again_fits (q ∷ qs) [] [] (r ∷ []) o a b c h = loop_goes Again s refl 1 q [] qs (omega arith) o
+  move_fits Again ts ls rs e f h = body_fits Again f os ts ls rs (λ ts ls rs qs. move dialect (Some Again) at ts ls rs qs d s) refl h (λ r o qs is. loop_goes Again s refl 1 o [] qs (omega arith) is)
+  move_fits Collect ts ls rs e f h = body_fits Collect f os ts ls rs (λ ts ls rs qs. move dialect (Some Collect) at ts ls rs qs d s) refl h (λ r o qs is. collects Collect r.result o qs is)
   move_fits Return [] ls rs e f h = absurd (let q = h.texts in omega arith)
   move_fits Return (t ∷ ts) ls rs e f h = fails_fits Return (return_completion how.Ok 1 t []) s refl
   move_fits Break ts ls rs e f h = fails_fits Break (ended how.Break []) s refl

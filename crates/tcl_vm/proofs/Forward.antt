@@ -27,7 +27,7 @@ use Rattle.tcl_pages.specs.declared.pages.UpdatePage.TheVariants as update
 use Rattle.tcl_meaning.proofs.Onward.{onward_same, outputs_trans}
 use Rattle.tcl_meaning.proofs.Runs.{IsOnward, exec_goes, outcome_goes}
 use Rattle.tcl_code.specs.Dealing.{dealt_of}
-use Rattle.tcl_code.specs.Instructions.{Instruction, Push, Read, ReadElement, Duplicate, Join, Spend, Enter, Leave, Call, Gather, Add, AddAll, CallGathered, Deal, TakeFirst, SkipEmpty, DropList, Raise, Guard, Under, Write, Bump, Become, Body, Again, Return, Break, Continue, Skip, SkipWhen, Turn, Unary, Binary, Power, Apply, Truth, Final, Answer as AnswerTop}
+use Rattle.tcl_code.specs.Instructions.{Instruction, Push, Read, ReadElement, Duplicate, Join, Spend, Enter, Leave, Call, Gather, Add, AddAll, CallGathered, Deal, TakeFirst, SkipEmpty, DropList, Listed, Raise, Guard, Under, Write, Bump, Become, Body, Again, Collect, Return, Break, Continue, Skip, SkipWhen, Turn, Unary, Binary, Power, Apply, Truth, Final, Answer as AnswerTop}
 use Rattle.tcl_code.specs.Caught.{caught}
 use Rattle.tcl_code.specs.Machine.{Loop, Texts, Taken, taken, on_taken, on_read, on_answer, on_operator, on_code, on_step, on_page, spend, Spot, result_at, Move, To, Fails, Ends, Calls, Wrong, move, Ended, Unfinished, Stuck, thrown_by, landed_by, landed, follow, exec_code}
 use Rattle.tcl_code.specs.Running.{running}
@@ -154,6 +154,8 @@ module _ (dialect : Dialect) (s : State) (os : List Loop) where
   keeps (Some (SkipEmpty n)) at ts ((w ∷ ws) ∷ ls) rs d = refl
   keeps (Some DropList) at ts [] rs d = tt
   keeps (Some DropList) at ts (l ∷ ls) rs d = refl
+  keeps (Some Listed) at ts [] rs d = tt
+  keeps (Some Listed) at ts (l ∷ ls) rs d = refl
   keeps (Some (Raise message)) at ts ls rs d = refl
   keeps (Some (Guard p n)) at ts ls rs d = refl
   keeps (Some Duplicate) at [] ls rs d = tt
@@ -180,6 +182,15 @@ module _ (dialect : Dialect) (s : State) (os : List Loop) where
       keeps_again qs [] [] (r ∷ q ∷ rs) = tt
       keeps_again [] [] [] (r ∷ []) = tt
       keeps_again (o ∷ qs) [] [] (r ∷ []) = refl
+  keeps (Some Collect) at ts ls rs d = keeps_collect os ts ls rs
+    where
+      keeps_collect : (qs : List Loop) (ts : Texts) (ls : List Texts) (rs : List Completion) → Keeps s os (move dialect (Some Collect) at ts ls rs qs d s)
+      keeps_collect qs (t ∷ ts) ls rs = tt
+      keeps_collect qs [] (l ∷ ls) rs = tt
+      keeps_collect qs [] [] [] = tt
+      keeps_collect qs [] [] (r ∷ q ∷ rs) = tt
+      keeps_collect [] [] [] (r ∷ []) = tt
+      keeps_collect (o ∷ qs) [] [] (r ∷ []) = refl
   keeps (Some Return) at [] ls rs d = tt
   keeps (Some Return) at (t ∷ ts) ls rs d = refl
   keeps (Some Break) at ts ls rs d = refl

@@ -1,5 +1,6 @@
 -- Where a completion that isn't ok lands: at an open loop, or at the end of the code.
-use Rattle.std.proofs.Common.{◌≡◌, ℕ, zero, suc, ◌+◌, ◌-◌, ◌≤◌, ◌<◌, cond, Bool, true, false, List, [], ◌∷◌, ◌++◌, length, refl, ap, subst, arith}
+use Rattle.std.proofs.Common.{◌≡◌, ℕ, zero, suc, ◌+◌, ◌-◌, ◌≤◌, ◌<◌, cond, Bool, true, false, List, [], ◌∷◌, ◌++◌, length, refl, ap, ◌∙◌, subst, arith}
+use Rattle.tcl_pages.specs.Texts.{Text}
 use Rattle.tcl_meaning.specs.declared.code.Code.{Code}
 use Rattle.tcl_meaning.specs.declared.code.Code.TheVariants as how
 use Rattle.tcl_meaning.specs.Completions.{Completion, code_now}
@@ -7,8 +8,8 @@ use Rattle.tcl_meaning.specs.Effects.{Gives}
 use Rattle.tcl_meaning.specs.State.{State}
 use Rattle.tcl_code.specs.Caught.{caught, caught_by, lands}
 use Rattle.tcl_code.specs.Instructions.{Instruction}
-use Rattle.tcl_code.specs.Machine.{Loop, Spot, result_at, Move, To, Fails, Ends, Calls, Wrong, behind_loop, on_code}
-use Rattle.tcl_code.specs.Open.{LoopsFit}
+use Rattle.tcl_code.specs.Machine.{Loop, Texts, Spot, result_at, Move, To, Fails, Ends, Calls, Wrong, behind_loop, collected, on_code}
+use Rattle.tcl_code.specs.Open.{IsShaped, LoopsFit}
 use Rattle.tcl_code.specs.Running.{Running, running, answered}
 use Rattle.tcl_code.specs.Valid.{Valid, Comes}
 use Rattle.tcl_vm.specs.Fitting.{FitsHere}
@@ -96,6 +97,27 @@ innermost_fits code n o os at p l le valid f = (fits, let x = left_behind (lengt
 pub loop_fits : (code : List Instruction) (os : List Loop) (at p l : ℕ) → Valid code → OpenFits code p l os → (n : ℕ) (o : Loop) (inner rest : List Loop) → n ≤ 1 → os ≡ inner ++ o ∷ rest
     → FitsHere (running code (behind_loop n o rest)) p × (left (running code (behind_loop n o rest)) < weight (length code - at) + l)
 loop_fits code os at p l valid f n o inner rest le is = innermost_fits code n o rest at p l le valid (behind_fits code p l inner (o ∷ rest) (subst (OpenFits code p l) is f))
+
+collected_length : (t : Text) (ls : List Texts) → length (collected t ls) ≡ length ls
+collected_length t [] = refl
+collected_length t (l ∷ []) = refl
+collected_length t (l ∷ m ∷ ls) = refl
+
+-- so do they where the innermost has collected a text
+pub collected_fits : (code : List Instruction) (p l : ℕ) (t : Text) (o : Loop) (os : List Loop) → OpenFits code p l (o ∷ os) → OpenFits code p l (record o { lists = collected t o.lists } ∷ os)
+collected_fits code p l t o os f = record {
+  loops = f.loops;
+  outer = f.outer;
+  fits = (f.fits.0, record { breaks = f.fits.1.breaks; continues = f.fits.1.continues; shaped = shaped; deep = f.fits.1.deep }, f.fits.2, f.fits.3);
+  paid_for = f.paid_for;
+  less = f.less;
+}
+  where
+    was : IsShaped o.texts o.lists o.results o.depth f.fits.0
+    was = f.fits.1.shaped
+
+    shaped : IsShaped o.texts (collected t o.lists) o.results o.depth f.fits.0
+    shaped = record { texts = was.texts; lists = collected_length t o.lists ∙ was.lists; results = was.results; brackets = was.brackets }
 
 -- where a completion comes to, the code fits, with no more left
 abbrev LandFits : Running → ℕ → Move → Type 0

@@ -28,7 +28,7 @@ use Rattle.tcl_meaning.specs.Variables.{get}
 use Rattle.tcl_pages.specs.declared.pages.UpdatePage.TheVariants as update
 use Rattle.tcl_code.specs.Caught.{caught, caught_by}
 use Rattle.tcl_code.specs.Dealing.{dealt_of}
-use Rattle.tcl_code.specs.Instructions.{Instruction, Push, Read, ReadElement, Duplicate, Join, Spend, Enter, Leave, Call as CallWords, Gather, Add, AddAll, CallGathered, Deal, TakeFirst, SkipEmpty, DropList, Raise, Guard, Under, Write as WriteName, Bump, Become, Body, Again, Return, Break, Continue, Skip, SkipWhen, Turn, Unary, Binary, Power, Apply, Truth, Final, Answer as AnswerTop}
+use Rattle.tcl_code.specs.Instructions.{Instruction, Push, Read, ReadElement, Duplicate, Join, Spend, Enter, Leave, Call as CallWords, Gather, Add, AddAll, CallGathered, Deal, TakeFirst, SkipEmpty, DropList, Listed, Raise, Guard, Under, Write as WriteName, Bump, Become, Body, Again, Collect, Return, Break, Continue, Skip, SkipWhen, Turn, Unary, Binary, Power, Apply, Truth, Final, Answer as AnswerTop}
 use Rattle.tcl_code.specs.Machine.{Loop, Texts, Taken, taken, on_taken, on_read, on_answer, on_operator, on_code, on_step, on_page, spend, Spot, Move, To, Fails, Ends, Calls, Wrong, move}
 use Rattle.std.specs.Prelude.{slice_get}
 use Rattle.tcl_vm.specs.Engines.{Views, Answers, Position, IsFree, PaysHere, TurnsHere, MovesOn, CallsOn, LeadsOn, WalksIn, Walks, Spent}
@@ -153,6 +153,14 @@ module _ (b : ℕ) where
     so_again [] [] [] (r ∷ []) at d = refl
     so_again (o ∷ os) [] [] (r ∷ []) at d = refl
 
+    so_collect : (os : List Loop) (ts : Texts) (ls : List Texts) (rs : List Completion) (at d : ℕ) → MovesSo (move dialect (Some Collect) at ts ls rs os d s) (move dialect (Some Collect) at ts ls rs os d (more b s))
+    so_collect os (t ∷ ts) ls rs at d = refl
+    so_collect os [] (l ∷ ls) rs at d = refl
+    so_collect os [] [] [] at d = refl
+    so_collect os [] [] (r ∷ q ∷ rs) at d = refl
+    so_collect [] [] [] (r ∷ []) at d = refl
+    so_collect (o ∷ os) [] [] (r ∷ []) at d = refl
+
     so : (os : List Loop) (i : Option Instruction) (at : ℕ) (ts : Texts) (ls : List Texts) (rs : List Completion) (d : ℕ) → MovesSo (move dialect i at ts ls rs os d s) (move dialect i at ts ls rs os d (more b s))
     so os None at ts ls rs d = so_end os ts ls rs at d
     so os (Some (Push t)) at ts ls rs d = refl
@@ -187,6 +195,8 @@ module _ (b : ℕ) where
     so os (Some (SkipEmpty n)) at ts ((w ∷ ws) ∷ ls) rs d = refl
     so os (Some DropList) at ts [] rs d = refl
     so os (Some DropList) at ts (l ∷ ls) rs d = refl
+    so os (Some Listed) at ts [] rs d = refl
+    so os (Some Listed) at ts (l ∷ ls) rs d = refl
     so os (Some (Raise message)) at ts ls rs d = refl
     so os (Some (Guard p n)) at ts ls rs d = refl
     so os (Some Duplicate) at [] ls rs d = refl
@@ -205,6 +215,7 @@ module _ (b : ℕ) where
     so os (Some Become) at ts ls (r ∷ below ∷ rs) (suc d) = refl
     so os (Some (Body x n)) at ts ls rs d = both_cond MovesSo (nat_lt most_depth (suc d)) _ _ _ _ refl refl
     so os (Some Again) at ts ls rs d = so_again os ts ls rs at d
+    so os (Some Collect) at ts ls rs d = so_collect os ts ls rs at d
     so os (Some Return) at [] ls rs d = refl
     so os (Some Return) at (t ∷ ts) ls rs d = refl
     so os (Some Break) at ts ls rs d = refl

@@ -505,7 +505,7 @@ pages::emit_clauses-returns t c =
 pub pages::emit_looped-returns : goal.pages::emit_looped-returns
 pages::emit_looped-returns t c =
     on_ok_weaker c.lead_here.result
-    (λ h. grown_looped c.args.context.dialect _ _ _ _ _ c.args.passes (chars c.args.text.now) c.in_ok-emit.ensures.done (rw c.within.ensures at (made_code _ _ _ _ _ c.in_ok-emit_script.ensures)) c.in_ok-emit-2.ensures.done (λ front back i e p. h front back i e (c.len-begin.ensures ∙ p))) c.lead_here.ensures
+    (λ h. grown_looped c.args.context.dialect _ _ _ _ _ c.args.passes c.args.gathers (chars c.args.text.now) c.in_ok-emit.ensures.done (rw c.within.ensures at (made_code _ _ _ _ _ c.in_ok-emit_script.ensures)) c.in_ok-emit_body_end.ensures (λ front back i e p. h front back i e (c.len-begin.ensures ∙ p))) c.lead_here.ensures
 
 pub pages::emit_bodies-emit_looped-requires : goal.pages::emit_bodies-emit_looped-requires
 pages::emit_bodies-emit_looped-requires t c =
@@ -582,7 +582,7 @@ each::emit_each-emit_turns-requires t c =
     let body = text_of c.args.each.now.body in
     let i = c.words.invariant in
     let some = i.some in
-    let short = each_short (length whole - 1) (map texts.text_of c.args.each.now.names.items) body (map shape_of c.args.words.now) i.each i.short in
+    let short = each_short (length whole - 1) c.args.each.now.gathers (map texts.text_of c.args.each.now.names.items) body (map shape_of c.args.words.now) i.each i.short in
     let falls : reach (length body) + 902 < reach (length whole) + 404 = omega (arith, reach_more (length body) (length whole) (omega (arith, some, short))) in
     search rules
 
@@ -591,16 +591,16 @@ each::emit_each-returns t c =
     let ws = map shape_of c.args.words.now in
     let n = length-map c.args.words.now shape_of in
     on_ok_weaker c.lead_here-2.result
-    (λ h. grown_each c.args.context.dialect c.args.each.now ws c.words.word-index _ _ c.words.code _ _ _ _ _ _ c.words.invariant.each (omega (arith, n)) (sym n) c.words.invariant.leads c.in_ok-emit.ensures.done c.in_ok-emit_turns.ensures c.in_ok-emit-2.ensures.done
+    (λ h. grown_each c.args.context.dialect c.args.each.now ws c.words.word-index _ _ c.words.code _ _ _ _ _ _ c.words.invariant.each (omega (arith, n)) (sym n) c.words.invariant.leads (rw c.command_of.ensures at c.in_ok-emit.ensures.done) c.in_ok-emit_turns.ensures c.in_ok-emit-2.ensures.done
     (λ front back i e p. c.in_ok-lead_here.ensures front back i e (c.len-guard.ensures ∙ p)) c.in_ok-emit_call.ensures (λ front back i e p. h front back i e (c.len-past.ensures ∙ p))) c.lead_here-2.ensures
 
 pub each::emit_turns-returns : goal.each::emit_turns-returns
 each::emit_turns-returns t c =
     let each = c.args.each.now in
-    on_ok_weaker c.emit_nothing.result
-    (λ h. grown_each_turns c.args.context.dialect _ _ _ _ _ _ _ _ _ _ _ c.args.count _ (map texts.text_of each.names.items) (text_of each.body) c.in_ok-emit_deal.ensures c.in_ok-emit.ensures.done (rw c.as_slice.ensures.value at c.in_ok-emit_names.ensures)
+    on_ok_weaker c.emit_end.result
+    (λ h. grown_each_turns c.args.context.dialect _ _ _ _ _ _ _ _ _ _ _ _ each.gathers c.args.count _ (map texts.text_of each.names.items) (text_of each.body) c.in_ok-emit_begin.ensures c.in_ok-emit_deal.ensures c.in_ok-emit.ensures.done (rw c.as_slice.ensures.value at c.in_ok-emit_names.ensures)
     (rw c.as_str.ensures at c.in_ok-emit_looped.ensures) c.in_ok-emit-2.ensures.done (λ front back i e p. c.in_ok-lead_here.ensures front back i e (c.len-to_more.ensures ∙ p)) c.in_ok-emit-3.ensures.done c.in_ok-emit_turn.ensures
-    (ap (λ n. n - c.len-begin.result) c.len.ensures ∙ ap (λ n. length c.emit-3.new.self - n) c.len-begin.ensures) c.in_ok-emit-4.ensures.done h) c.emit_nothing.ensures
+    (ap (λ n. n - c.len-begin.result) c.len.ensures ∙ ap (λ n. length c.emit-3.new.self - n) c.len-begin.ensures) c.in_ok-emit-4.ensures.done h) c.emit_end.ensures
 
 pub script::emit_command-returns-then-any_expands : goal.script::emit_command-returns-then-any_expands
 script::emit_command-returns-then-any_expands t c =
@@ -617,7 +617,7 @@ pub script::emit_command-returns-in-Some-2 : goal.script::emit_command-returns-i
 script::emit_command-returns-in-Some-2 t c =
     let ws = map shape_of c.args.words.now in
     let is = of_some (λ f. IsEach f ws) c.in_ok-each.field-0 c.in-Some-2.each c.in-Some-2.is c.in_ok-each.ensures in
-    on_ok_weaker c.emit_each.result (λ g. made_without c.args.context.dialect c.args.context.outermost ws _ _ (λ o. no_each (map texts.text_of c.in-Some-2.each.names.items) (text_of c.in-Some-2.each.body) ws is) g) (rw c.in_ok-foresee_body.ensures at c.emit_each.ensures)
+    on_ok_weaker c.emit_each.result (λ g. made_without c.args.context.dialect c.args.context.outermost ws _ _ (λ o. no_each c.in-Some-2.each.gathers (map texts.text_of c.in-Some-2.each.names.items) (text_of c.in-Some-2.each.body) ws is) g) (rw c.in_ok-foresee_body.ensures at c.emit_each.ensures)
 
 pub script::emit_named-returns-in-Some : goal.script::emit_named-returns-in-Some
 script::emit_named-returns-in-Some t c =

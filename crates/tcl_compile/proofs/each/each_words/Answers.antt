@@ -1,4 +1,4 @@
-use Rattle.std.proofs.Common.{map, ap, ◌∙◌, subst, sym, arith}
+use Rattle.std.proofs.Common.{map, refl, ap, ◌∙◌, subst, sym, arith}
 use Rattle.std.proofs.lemmas.List.{map-append}
 use Rattle.tcl_list.specs.Texts.{text_of}
 use Rattle.tcl_words.specs.Parts.{shape_of}
@@ -23,4 +23,4 @@ lists-preserved c =
 pub returns-in-Some-2 : goal.returns-in-Some-2
 returns-in-Some-2 c =
     let literal = of_some (λ l. IsLiteral (shape_of c.index-rest-0-2.result) (literals.text_of l)) c.in_ok-body.field-0 c.in-Some-2.body c.in-Some-2.is c.in_ok-body.ensures.literal in
-    lists_done shape_of (map shape_of c.args.words.now) (map text_of c.lists.names.items) (literals.text_of c.in-Some-2.body) c.lists.rest.now c.index-rest-0-2.result (omega arith) (omega arith) c.index-rest-0-2.is c.lists.invariant literal
+    (refl, lists_done shape_of (map shape_of c.args.words.now) (map text_of c.lists.names.items) (literals.text_of c.in-Some-2.body) c.lists.rest.now c.index-rest-0-2.result (omega arith) (omega arith) c.index-rest-0-2.is c.lists.invariant literal)

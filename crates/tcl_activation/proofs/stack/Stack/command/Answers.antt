@@ -4,7 +4,7 @@ use Rattle.tcl_activation.specs.Moves.{Acts}
 use Rattle.tcl_activation.specs.declared.progress.Progress.TheVariants as progress
 use Rattle.tcl_activation.proofs.Topics.{acts_as, called_as, goes_as}
 use Rattle.tcl_activation.proofs.stack.Stack.command.Goals as goal
-use Rattle.tcl_activation.proofs.stack.Stack.command.Goals.{in-Leave+in_ok-leave-in-Leave, in-Gather+in_ok-gather-in-Gather, in-Add+in_ok-add-in-Add, in-TakeFirst+in_ok-take_first-in-TakeFirst, in-DropList, in-Duplicate+in_ok-duplicate-in-Duplicate, in-Answer, in-Become}
+use Rattle.tcl_activation.proofs.stack.Stack.command.Goals.{in-Leave+in_ok-leave-in-Leave, in-Gather+in_ok-gather-in-Gather, in-Add+in_ok-add-in-Add, in-TakeFirst+in_ok-take_first-in-TakeFirst, in-DropList, in-Listed+in_ok-listed-in-Listed, in-Duplicate+in_ok-duplicate-in-Duplicate, in-Answer, in-Become}
 
 pub returns-in-Call : goal.returns-in-Call
 returns-in-Call c ts = subst (λ i. Acts c.args.dialect i c.args.self.now c.call.new.self (Ok c.call.result)) (sym (called_as ts c.args.instr c.in-Call.count c.in-Call.is)) (c.call.ensures c.args.dialect)
@@ -25,6 +25,7 @@ returns c ts at s = elim c.match-instr.branch [
   | in-Add+in_ok-add-in-Add w ↦ goes_as c.args.dialect ts c.args.instr instr.Add c.args.self.now w.add.new.self c.match-instr.self w.in-Add.is w.self-is w.in_ok-add-in-Add.ensures at s
   | in-TakeFirst+in_ok-take_first-in-TakeFirst w ↦ goes_as c.args.dialect ts c.args.instr instr.TakeFirst c.args.self.now w.take_first.new.self c.match-instr.self w.in-TakeFirst.is w.self-is w.in_ok-take_first-in-TakeFirst.ensures at s
   | in-DropList w ↦ goes_as c.args.dialect ts c.args.instr instr.DropList c.args.self.now w.drop_list.new.self c.match-instr.self w.in-DropList.is w.self-is w.drop_list.ensures at s
+  | in-Listed+in_ok-listed-in-Listed w ↦ goes_as c.args.dialect ts c.args.instr instr.Listed c.args.self.now w.listed.new.self c.match-instr.self w.in-Listed.is w.self-is w.in_ok-listed-in-Listed.ensures at s
   | in-Duplicate+in_ok-duplicate-in-Duplicate w ↦ goes_as c.args.dialect ts c.args.instr instr.Duplicate c.args.self.now w.duplicate.new.self c.match-instr.self w.in-Duplicate.is w.self-is w.in_ok-duplicate-in-Duplicate.ensures at s
   | in-Answer w ↦ goes_as c.args.dialect ts c.args.instr instr.Answer c.args.self.now w.set_result.new.self c.match-instr.self w.in-Answer.is w.self-is w.set_result.ensures at s
   | in-Become w ↦ goes_as c.args.dialect ts c.args.instr instr.Become c.args.self.now w.end_script.new.self c.match-instr.self w.in-Become.is w.self-is w.end_script.ensures at s
