@@ -72,7 +72,19 @@ fn names_behind(words: &[Value]) -> usize
     words[1..].len()
 }
 
+// The elements from a place on, as a list.
+#[inline(never)]
+fn part_behind(alloc: Global, row: &Row, count: usize, size: usize) -> Result<Value, AllocError>
+    requires size { size ≡ length row.now }
+    requires count { count < size }
+    ensures { IfOk result (λ rest. rest ≡ rest_behind count row.now) }
+{
+    let rest = Gathering::with_capacity(alloc, size - count)?.with_part(row, count, size)?;
+    rest.into_value(alloc)
+}
+
 /// The elements that no name takes, as a list.
+#[inline(always)]
 pub(crate) fn rest_of(alloc: Global, row: &Row, count: usize) -> Result<Value, AllocError>
     ensures { IfOk result (λ rest. rest ≡ rest_behind count row.now) }
 {
@@ -80,8 +92,7 @@ pub(crate) fn rest_of(alloc: Global, row: &Row, count: usize) -> Result<Value, A
     if size <= count {
         return empty(alloc);
     }
-    let rest = Gathering::with_capacity(alloc, size - count)?.with_part(row, count, size)?;
-    rest.into_value(alloc)
+    part_behind(alloc, row, count, size)
 }
 
 // The same as `lassign`, where an error stops it.

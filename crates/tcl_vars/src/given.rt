@@ -26,13 +26,22 @@ fn value_in(alloc: Global, values: &[Value], place: usize) -> Result<Value, Allo
     empty(alloc)
 }
 
-// The element at a place, or the empty text.
+/// The element at a place, or the empty text.
+#[inline(always)]
 #[tactic(auto, using(tcl_values::proofs::ElementTexts::text_at, crate::proofs::GivenTexts::element_nowhere))]
-fn element_in(alloc: Global, elements: &[Element], place: usize) -> Result<Value, AllocError>
+pub(crate) fn element_in(
+    alloc: Global,
+    elements: &[Element],
+    place: usize,
+) -> Result<Value, AllocError>
     ensures { IfOk result (λ value. value ≡ get_or (texts elements.now) place []) }
 {
     if place < elements.len() {
-        return elements[place].value(alloc);
+        let element = &elements[place];
+        if let Some(number) = element.number() {
+            return Ok(Value::of_int(number));
+        }
+        return element.value(alloc);
     }
     empty(alloc)
 }
