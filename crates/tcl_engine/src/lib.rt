@@ -17,6 +17,7 @@ mod looking;
 mod owed;
 mod pages;
 mod ready;
+mod ready_pure;
 mod rooms;
 mod scopes;
 mod stride;

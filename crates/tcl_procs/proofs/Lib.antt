@@ -4,5 +4,6 @@ pub mod LambdaLemmas
 pub mod LevelLemmas
 pub mod LinkLemmas
 pub mod LookingLemmas
+pub mod QuickLinkLemmas
 pub mod ReadingLemmas
 pub mod UplevelLemmas

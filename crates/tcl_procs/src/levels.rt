@@ -32,8 +32,8 @@ fn read_number(text: &str) -> Option<usize>
     }
 }
 
-// The level that a word names, where a frame may have it.
-fn read_level(word: &str) -> Option<Level>
+/// The level that a word names, where a frame may have it.
+pub(crate) fn read_level(word: &str) -> Option<Level>
     ensures { ReadsLevel (chars word.now) result }
 {
     let (c, digits) = split_first(word)?;

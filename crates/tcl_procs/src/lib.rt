@@ -12,6 +12,7 @@ mod formals;
 mod levels;
 mod links;
 mod looking;
+mod quick_links;
 mod uplevel;
 mod usages;
 
@@ -20,4 +21,5 @@ pub use calls::{after_body, call_procedure};
 pub use definitions::{proc_page, rename_page};
 pub use links::{global_page, upvar_page};
 pub use looking::seen_commands;
+pub use quick_links::{quick_global, quick_upvar};
 pub use uplevel::uplevel_page;
